@@ -1,0 +1,4 @@
+pub use Rattle.std.specs.Io.KnownBytes
+pub mod Causes
+pub mod Told
+pub mod Ends

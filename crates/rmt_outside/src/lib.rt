@@ -1,0 +1,28 @@
+//! The outside of the program: where bytes come from and go to, and the gates that threads pass.
+#![tactic(auto)]
+
+mod bytes;
+mod failed;
+mod gate;
+mod page;
+mod reading;
+mod sink;
+mod sound_bytes;
+mod sound_page;
+mod source;
+mod std_sink;
+mod std_source;
+mod writing;
+
+pub use bytes::Bytes;
+pub use failed::Failed;
+pub use gate::{Gate, Open, Point};
+pub use page::Page;
+pub use reading::{ReadError, read_all};
+pub use sink::Sink;
+pub use sound_bytes::SoundBytes;
+pub use sound_page::SoundPage;
+pub use source::Source;
+pub use std_sink::StdSink;
+pub use std_source::StdSource;
+pub use writing::{WriteError, write_all_of};

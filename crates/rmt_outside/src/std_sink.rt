@@ -1,0 +1,85 @@
+ghost use Rattle.std.specs.Prelude.{◌≡◌};
+ghost use Rattle.std.specs.Io.{WritesAtMost};
+ghost use Rattle.std.specs.Io.KnownBytes.{WriteAppends};
+ghost use Rattle.rmt_outside.specs.Causes.{HasCause, CountsFault};
+ghost use Rattle.rmt_outside.specs.Told.{TakesSome};
+
+use crate::failed::Failed;
+use crate::sink::Sink;
+use std::io::Write;
+use std::marker::Model;
+
+/// A sink over a writer of std. Its faults are the writer's errors, an interrupted call included, and the calls
+/// that took nothing of a piece that isn't empty. It tells what the writer tells of its bytes, which over a file
+/// or a terminal is nothing.
+#[derive(Drop)]
+pub struct StdSink<W: Write + Drop> {
+    inner: W,
+    faults: u64,
+}
+
+impl<W: Write + Drop> Model for StdSink<W> {
+    ghost use Rattle.rmt_outside.specs.Ends.{Outlet};
+
+    ghost Value = { Outlet };
+
+    ghost view = { λ s. record { written = W.contents s.inner; faults = s.faults } };
+}
+
+impl<W: Write + Drop> StdSink<W> {
+    /// Makes a sink of a writer, without faults so far.
+    pub fn new(inner: W) -> Self
+        ensures { result ≡ record { written = W.contents inner; faults = 0 } }
+    {
+        StdSink { inner, faults: 0 }
+    }
+}
+
+impl<W: Write + Drop> Sink for StdSink<W> {
+    ghost written = { λ s. s.written };
+
+    ghost faults = { λ s. s.faults };
+
+    fn write(&mut self, bytes: &[u8]) -> Result<usize, Failed>
+        ensures bound { WritesAtMost result bytes.now }
+        ensures some { TakesSome result bytes.now }
+        ensures bytes { WriteAppends self.old.written self.new.written result bytes.now }
+        ensures cause { HasCause self.old.faults self.new.faults result }
+        ensures count { CountsFault self.old.faults self.new.faults result }
+    {
+        match self.inner.write(bytes) {
+            Ok(count) if count > 0 || bytes.is_empty() => Ok(count),
+            _ => {
+                self.faults = self.faults.saturating_add(1);
+                Err(Failed)
+            }
+        }
+    }
+}
+
+#[cfg(test)]
+mod tests {
+    use super::*;
+    use crate::writing::{WriteError, write_all_of};
+    use std::test::Fail;
+
+    #[test]
+    fn a_vector_is_written(rt: HostRuntime) -> Result<(), Fail> {
+        let mut kept = Vec::new(rt.alloc());
+        let mut sink = StdSink::new(&mut kept);
+        write_all_of(&mut sink, b"rows")?;
+        assert_eq!(rt; kept.as_slice(), b"rows".as_slice());
+        Ok(())
+    }
+
+    #[test]
+    fn a_writer_without_room_is_a_fault(rt: HostRuntime) {
+        let mut room = [0; 3];
+        let mut sink = StdSink::new(room.as_mut_slice());
+        assert_eq!(rt;
+            write_all_of(&mut sink, b"rows"),
+            Err(WriteError::WriteFault)
+        );
+        assert_eq!(rt; room.as_slice(), b"row".as_slice());
+    }
+}

@@ -1,0 +1,10 @@
+pub use Rattle.rmt_outside.specs.Causes
+pub use Rattle.rmt_outside.specs.Told
+pub use Rattle.rmt_sql.specs.Forms
+pub use Rattle.rmt_sql.specs.Script
+pub mod World
+pub mod Plays
+pub mod Printed
+pub mod Runs
+pub mod Inside
+pub mod Endings

@@ -1,0 +1,45 @@
+-- A whole run: the words, the script, and what is written.
+use Rattle.std.specs.Prelude.{◌≡◌, ◌⊎◌, ℕ, List, [], ◌∷◌, count_by, codes, Bool, false, MatchOption}
+use Rattle.std.specs.declared.option.Option.{Option}
+use Rattle.std.specs.Str.{bytes_eq}
+use Rattle.std.specs.Io.KnownBytes.{Appends}
+use Rattle.rmt_outside.specs.Told.{AppendsFront}
+use Rattle.rmt_sql.specs.declared.parsed.Parsed.TheVariants as parsed
+use Rattle.rmt_sql.specs.Script.{ReadsAt}
+use Rattle.rmt_play.specs.declared.line.Line.{Line}
+use Rattle.rmt_play.specs.World.{World}
+use Rattle.rmt_play.specs.Plays.{Played}
+use Rattle.rmt_play.specs.Printed.{output, is_refused}
+
+-- the words are exactly `play`
+abbrev pub has_form : List (List ℕ) → Bool
+has_form (word ∷ []) = bytes_eq word (codes "play")
+has_form _ = false
+
+-- The script is what the source gives, where that is told.
+pub record GivesScript (left : Option (List ℕ)) (P : List ℕ → Type 0) : Type 0 where
+  pub script : List ℕ
+  pub given : MatchOption left (Unit {0}) (λ bytes. script ≡ bytes)
+  pub holds : P script
+
+-- The whole script was played, its replies were written, and so many of its statements were refused.
+pub record PlayedWhole (script : List ℕ) (before after : Option (List ℕ)) (refused : ℕ) : Type 0 where
+  pub lines : List Line
+  pub at : ℕ
+  pub world : World
+  pub played : Played script lines at world
+  pub ended : ReadsAt script at parsed.End
+  pub written : Appends before after (output lines)
+  pub counted : refused ≡ count_by is_refused lines
+
+-- A front of what some first statements of the script reply was written.
+pub record CutShort (script : List ℕ) (before after : Option (List ℕ)) : Type 0 where
+  pub lines : List Line
+  pub at : ℕ
+  pub world : World
+  pub played : Played script lines at world
+  pub written : AppendsFront before after (output lines)
+
+-- the codes that there are
+abbrev pub IsCode : ℕ → Type 0
+IsCode code = (code ≡ 0) ⊎ (code ≡ 2) ⊎ (code ≡ 3) ⊎ (code ≡ 4) ⊎ (code ≡ 5) ⊎ (code ≡ 6) ⊎ (code ≡ 7)

@@ -1,0 +1,6 @@
+/// What was played, as it stands at the end.
+#[derive(Clone, Copy, Debug, PartialEq, Eq)]
+pub enum End {
+    /// Nothing is handed back.
+    Nothing,
+}
