@@ -1,0 +1,4 @@
+pub mod Rows
+pub mod Order
+pub mod Filters
+pub mod Commands

@@ -1,0 +1,2 @@
+/// The number of a replica, counted from 1.
+pub type ReplicaId = u8;
