@@ -1,3 +1,4 @@
 pub mod Sorting
 pub mod Totals
 pub mod Fitting
+pub mod Making

@@ -10,6 +10,8 @@ use Rattle.rmt_values.specs.declared.cmp.Cmp.{Cmp}
 use Rattle.rmt_values.specs.declared.cmp.Cmp.TheVariants as cmps
 use Rattle.rmt_values.specs.declared.checked.Checked.{Checked}
 use Rattle.rmt_values.specs.declared.checked.Checked.TheVariants.{Test, Both', Either', Not'}
+use Rattle.rmt_values.specs.declared.filter.Filter.{Filter}
+use Rattle.rmt_values.specs.declared.filter.Filter.TheVariants as written
 use Rattle.rmt_values.specs.Rows.{Shape, kind_at, kind_of, is_value, value_cmp}
 
 abbrev pub test_holds : Cmp → Ordering → Bool
@@ -42,3 +44,21 @@ FilterFits shape (Test column cmp value) = IsOfColumn shape column value
 FilterFits shape (Both' p f q g) = FilterFits shape f × FilterFits shape g
 FilterFits shape (Either' p f q g) = FilterFits shape f × FilterFits shape g
 FilterFits shape (Not' p f) = FilterFits shape f
+
+-- ---- filters that lie in different memory
+
+-- the same filter over the same columns, wherever its parts lie
+abbrev pub Alike : Checked → Checked → Type 0
+Alike (Test at cmp value) (Test at' cmp' value') = (at ≡ at') × (cmp ≡ cmp') × (value ≡ value')
+Alike (Both' p f q g) (Both' p' f' q' g') = Alike f f' × Alike g g'
+Alike (Either' p f q g) (Either' p' f' q' g') = Alike f f' × Alike g g'
+Alike (Not' p f) (Not' p' f') = Alike f f'
+Alike f g = ⊥
+
+-- the same filter of a statement, wherever its parts lie
+abbrev pub AlikeWritten : Filter → Filter → Type 0
+AlikeWritten (written.Test column cmp literal) (written.Test column' cmp' literal') = (column ≡ column') × (cmp ≡ cmp') × (literal ≡ literal')
+AlikeWritten (written.Both' p f q g) (written.Both' p' f' q' g') = AlikeWritten f f' × AlikeWritten g g'
+AlikeWritten (written.Either' p f q g) (written.Either' p' f' q' g') = AlikeWritten f f' × AlikeWritten g g'
+AlikeWritten (written.Not' p f) (written.Not' p' f') = AlikeWritten f f'
+AlikeWritten f g = ⊥

@@ -1,4 +1,5 @@
 pub mod Rows
+pub mod Schemas
 pub mod Order
 pub mod Filters
 pub mod Commands

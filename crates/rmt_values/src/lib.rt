@@ -1,30 +1,63 @@
-//! Values, rows and schemas, and the checked forms of filters and commands.
+//! Values, rows and schemas; filters, commands and queries, as written and as checked.
 #![tactic(auto)]
 
+mod assignments;
 mod blob;
+mod cell;
 mod checked;
+mod checked_item;
+mod checked_items;
 mod checked_mutation;
+mod checked_query;
 mod checked_right;
 mod cmp;
 mod column;
+mod filter;
+mod item;
+mod items;
 mod kind;
+mod limit;
+mod literal;
+mod mutation;
 mod name;
+mod names;
+mod places;
+mod query;
+mod refusals;
 mod replica_id;
+mod right;
 mod row;
 mod schema;
+mod schema_error;
 mod sets;
 mod value;
 
+pub use assignments::Assignments;
 pub use blob::Blob;
+pub use cell::Cell;
 pub use checked::Checked;
+pub use checked_item::CheckedItem;
+pub use checked_items::CheckedItems;
 pub use checked_mutation::CheckedMutation;
+pub use checked_query::CheckedQuery;
 pub use checked_right::CheckedRight;
 pub use cmp::Cmp;
 pub use column::Column;
+pub use filter::Filter;
+pub use item::Item;
+pub use items::Items;
 pub use kind::Kind;
+pub use limit::Limit;
+pub use literal::Literal;
+pub use mutation::Mutation;
 pub use name::Name;
+pub use names::Names;
+pub use places::Places;
+pub use query::Query;
 pub use replica_id::ReplicaId;
+pub use right::Right;
 pub use row::Row;
 pub use schema::Schema;
+pub use schema_error::SchemaError;
 pub use sets::Sets;
 pub use value::Value;

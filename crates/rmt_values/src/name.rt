@@ -1,7 +1,10 @@
-ghost use Rattle.std.specs.Prelude.{◌≡◌, IfOk};
+ghost use Rattle.std.specs.Prelude.{◌≡◌, ◌↔◌, IsTrue, IfOk};
+ghost use Rattle.std.specs.Cmp.Lexicographic.{slice_cmp};
+ghost use Rattle.std.specs.Ordering.{nat_cmp};
 ghost use Rattle.std.specs.Str.{bytes_eq};
 
 use std::alloc::{AllocError, Global};
+use std::cmp::Ordering;
 use std::marker::Model;
 
 /// The name of a table, a column or a replica. Contracts see it as its bytes.
@@ -47,6 +50,21 @@ impl Name {
         ensures { result ≡ bytes_eq self.now bytes.now }
     {
         self.bytes.as_slice() == bytes
+    }
+
+    /// Whether two names are the same.
+    pub fn equals(&self, other: &Name) -> bool
+        ensures test { result ≡ bytes_eq self.now other.now }
+        ensures fact { IsTrue result ↔ (self.now ≡ other.now) }
+    {
+        self.bytes.as_slice() == other.bytes.as_slice()
+    }
+
+    /// The order by bytes, from left to right.
+    pub fn compare(&self, other: &Name) -> Ordering
+        ensures { result ≡ slice_cmp nat_cmp self.now other.now }
+    {
+        self.bytes.as_slice().cmp(other.bytes.as_slice())
     }
 }
 

@@ -1,0 +1,12 @@
+//! Blocks of rows, as an INSERT offers them, with their bytes and their ids.
+#![tactic(auto)]
+
+mod block;
+mod block_id;
+mod laws;
+mod spelling;
+
+pub use block::Block;
+pub use block_id::{BlockId, id};
+pub use laws::{one_spelling, only_a_collision_is_unclear};
+pub use spelling::bytes;

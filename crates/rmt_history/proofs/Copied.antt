@@ -1,0 +1,91 @@
+-- Tokens in their order, and the log that they are of.
+use Rattle.std.proofs.Common.{◌≡◌, ℕ, zero, suc, Bool, true, false, cond, List, [], ◌∷◌, ◌++◌, length, map, reverse, refl, sym, ap, subst, arith, ◌∙◌, nat_eq}
+use Rattle.std.proofs.lemmas.Bool.Decides.{nat_tests}
+use Rattle.std.proofs.Math.Dec.{eqb-suc-zero, eqb-zero-suc, eqb-suc-suc}
+use Rattle.std.proofs.lemmas.List.{reverse-append, reverse-reverse, length-map, length-reverse}
+use Rattle.std.specs.Prelude.{slice_get}
+use Rattle.std.specs.BTreeMap.{BTreeMap, get}
+use Rattle.std.specs.declared.option.Option.{Option}
+use Rattle.std.specs.declared.option.Option.TheVariants.{Some}
+use Rattle.rmt_values.specs.Rows.{Shape}
+use Rattle.rmt_names.specs.Names.{Name, name_cmp}
+use Rattle.rmt_row.specs.Token.{Token}
+use Rattle.rmt_entries.specs.Entries.{result_name}
+use Rattle.rmt_entries.specs.declared.entry.Entry.{Entry}
+use Rattle.rmt_model.specs.Live.{live, live_after}
+use Rattle.rmt_model.specs.Lawful.{Lawful, entry_at}
+use Rattle.rmt_history.specs.Copies.{entries, cells_of, IsMadeBy, maker_after, IsCopy}
+use Rattle.rmt_history.proofs.Makers.{made-more}
+
+pub map-snoc : {A B : Type 0} (f : A → B) (xs : List A) (x : A) → map f (xs ++ x ∷ []) ≡ map f xs ++ f x ∷ []
+map-snoc f [] x = refl
+map-snoc f (y ∷ xs) x = ap (λ zs. f y ∷ zs) (map-snoc f xs x)
+
+-- one more token is one more entry
+pub entries-snoc : (tokens : List (Token Entry)) (next : Token Entry) → entries (tokens ++ next ∷ []) ≡ next.value ∷ entries tokens
+entries-snoc tokens next = ap reverse (map-snoc (λ t. t.value) tokens next) ∙ reverse-append (map (λ t. t.value) tokens) (next.value ∷ [])
+
+pub length-entries : (tokens : List (Token Entry)) → length (entries tokens) ≡ length tokens
+length-entries tokens = length-reverse (map (λ t. t.value) tokens) ∙ length-map tokens (λ t. t.value)
+
+-- the element at a place of a list with one more at its end
+get-snoc : {A : Type 0} (xs : List A) (x : A) (i : ℕ) → slice_get (xs ++ x ∷ []) i ≡ cond (nat_eq i (length xs)) (Some x) (slice_get xs i)
+get-snoc [] x zero = refl
+get-snoc [] x (suc i) = rw eqb-suc-zero refl
+get-snoc (y ∷ xs) x zero = rw eqb-zero-suc refl
+get-snoc {A} (y ∷ xs) x (suc i) = get-snoc xs x i ∙ ap (λ (b : Bool). cond {A = Option A} b (Some x) (slice_get xs i)) (sym (eqb-suc-suc i (length xs)))
+
+-- places count from the other end
+entry_at-reverse : (log : List Entry) (i : ℕ) → entry_at log i ≡ slice_get (reverse log) i
+entry_at-reverse [] i = refl
+entry_at-reverse (e ∷ log) i =
+    ap (λ (o : Option Entry). cond (nat_eq i (length log)) (Some e) o) (entry_at-reverse log i)
+    ∙ (ap (λ n. cond (nat_eq i n) (Some e) (slice_get (reverse log) i)) (sym (length-reverse log))
+    ∙ (sym (get-snoc (reverse log) e i) ∙ ap (λ (xs : List Entry). slice_get xs i) (sym (reverse-append (e ∷ []) log))))
+
+get-map : {A B : Type 0} (f : A → B) (xs : List A) (i : ℕ) (x : A) → slice_get xs i ≡ Some x → slice_get (map f xs) i ≡ Some (f x)
+get-map f [] i x e = cc
+get-map f (y ∷ xs) zero x e = let q : y ≡ x = cc in ap (λ z. Some (f z)) q
+get-map f (y ∷ xs) (suc i) x e = get-map f xs i x e
+
+-- the entry at a place is that of the token there
+pub token_at : (tokens : List (Token Entry)) (i : ℕ) (t : Token Entry) → slice_get tokens i ≡ Some t → entry_at (entries tokens) i ≡ Some t.value
+token_at tokens i t e =
+    entry_at-reverse (entries tokens) i
+    ∙ (ap (λ (xs : List Entry). slice_get xs i) (reverse-reverse (map (λ t. t.value) tokens)) ∙ get-map (λ t. t.value) tokens i t e)
+
+pub cell_at : (tokens : List (Token Entry)) (i : ℕ) (t : Token Entry) → slice_get tokens i ≡ Some t → slice_get (cells_of tokens) i ≡ Some t.cell
+cell_at tokens i t e = get-map (λ t. t.cell) tokens i t e
+
+-- one more token is one more cell
+pub cells-snoc : (tokens : List (Token Entry)) (next : Token Entry) → cells_of (tokens ++ next ∷ []) ≡ cells_of tokens ++ next.cell ∷ []
+cells-snoc tokens next = map-snoc (λ t. t.cell) tokens next
+
+-- a copy with its next token is a copy
+pub IsCopy-more : (schema : Shape) (tokens more : List (Token Entry)) (names after : List Name) (next : Token Entry) (index newer : BTreeMap Name ℕ)
+    → IsCopy schema tokens names index → next.place ≡ length (entries tokens) → Lawful schema (next.value ∷ entries tokens)
+    → more ≡ tokens ++ next ∷ [] → after ≡ live_after next.value names
+    → ((a : Name) → get name_cmp newer a ≡ maker_after (result_name next.value) (length tokens) (get name_cmp index a) a)
+    → IsCopy schema more after newer
+IsCopy-more schema tokens more names after next index newer c p l m a n =
+    record {
+      lawful = subst (Lawful schema) longer l;
+      numbered = λ i t e. numbered i t (subst (λ (xs : List (Token Entry)). slice_get xs i ≡ Some t) m e);
+      living = a ∙ (ap (live_after next.value) c.living ∙ ap live longer);
+      indexed = λ b. subst (λ (log : List Entry). IsMadeBy log b (get name_cmp newer b)) longer
+          (subst (IsMadeBy (next.value ∷ entries tokens) b) (sym (n b))
+          (made-more next.value (entries tokens) b (result_name next.value) (length tokens) (get name_cmp index b) refl (sym (length-entries tokens)) (c.indexed b)));
+    }
+  where
+    longer : next.value ∷ entries tokens ≡ entries more
+    longer = sym (ap entries m ∙ entries-snoc tokens next)
+
+    numbered : (i : ℕ) (t : Token Entry) → slice_get (tokens ++ next ∷ []) i ≡ Some t → t.place ≡ i
+    numbered i t e = go (nat_eq i (length tokens)) refl (sym (get-snoc tokens next i) ∙ e)
+      where
+        go : (b : Bool) → nat_eq i (length tokens) ≡ b → cond b (Some next) (slice_get tokens i) ≡ Some t → t.place ≡ i
+        go true q k =
+            let s : next ≡ t = cc in
+            let r : i ≡ length tokens = grind (arith, nat_tests) in
+            ap (λ (x : Token Entry). x.place) (sym s) ∙ (p ∙ (length-entries tokens ∙ sym r))
+        go false q k = c.numbered i t k

@@ -1,0 +1,62 @@
+-- What a copy of the front of a log keeps.
+use Rattle.std.specs.Prelude.{◌≡◌, ℕ, ◌≤◌, cond, List, ◌∷◌, map, reverse, slice_get, MatchOption}
+use Rattle.std.specs.declared.option.Option.{Option}
+use Rattle.std.specs.declared.option.Option.TheVariants.{Some, None}
+use Rattle.std.specs.Ordering.{is_eq}
+use Rattle.std.specs.BTreeMap.{BTreeMap, get}
+use Rattle.rmt_names.specs.Names.{Name, name_cmp}
+use Rattle.rmt_values.specs.Rows.{Shape}
+use Rattle.rmt_row.specs.Token.{Token}
+use Rattle.rmt_entries.specs.Entries.{result_name}
+use Rattle.rmt_entries.specs.declared.entry.Entry.{Entry}
+use Rattle.rmt_model.specs.Words.{Has, Each, Pairwise}
+use Rattle.rmt_model.specs.Live.{Before, live, made}
+use Rattle.rmt_model.specs.Lawful.{Lawful, entry_at}
+
+-- a table's log: its schema, its entries, the newest first, and the cells that hold them, in the order of their places
+pub record History : Type 0 where
+  pub schema : Shape
+  pub log : List Entry
+  pub cells : List ℕ
+
+-- the entries of tokens that stand in the order of their places
+abbrev pub entries : List (Token Entry) → List Entry
+entries tokens = reverse (map (λ t. t.value) tokens)
+
+-- the cells of tokens
+abbrev pub cells_of : List (Token Entry) → List ℕ
+cells_of tokens = map (λ t. t.cell) tokens
+
+-- the entry at the place makes the name
+pub record MakesAt (log : List Entry) (i : ℕ) (a : Name) : Type 0 where
+  pub entry : Entry
+  pub stands : entry_at log i ≡ Some entry
+  pub makes : result_name entry ≡ Some a
+
+-- the place of the entry that makes the name; none where no entry does
+abbrev pub IsMadeBy : List Entry → Name → Option ℕ → Type 0
+IsMadeBy log a place = MatchOption place (Has (made log) a → ⊥) (λ i. MakesAt log i a)
+
+-- the place that is noted for a name, once the entry at a place has made what it makes
+abbrev pub maker_after : Option Name → ℕ → Option ℕ → Name → Option ℕ
+maker_after None place before a = before
+maker_after (Some new) place before a = cond (is_eq (name_cmp new a)) (Some place) before
+
+-- names in order that share no number
+pub record AreApart (names : List Name) : Type 0 where
+  pub apart : Pairwise Before names
+  pub sized : Each (λ a. a.min ≤ a.max) names
+
+-- the names are the live ones of a lawful log, which goes on with the entry
+pub record GoesOn (entry : Entry) (names : List Name) : Type 0 where
+  pub schema : Shape
+  pub log : List Entry
+  pub lawful : Lawful schema (entry ∷ log)
+  pub living : names ≡ live log
+
+-- tokens of a lawful log, with its live names and the places at which its names were made
+pub record IsCopy (schema : Shape) (tokens : List (Token Entry)) (names : List Name) (index : BTreeMap Name ℕ) : Type 0 where
+  pub lawful : Lawful schema (entries tokens)
+  pub numbered : (i : ℕ) (t : Token Entry) → slice_get tokens i ≡ Some t → t.place ≡ i
+  pub living : names ≡ live (entries tokens)
+  pub indexed : (a : Name) → IsMadeBy (entries tokens) a (get name_cmp index a)

@@ -1,0 +1,11 @@
+//! A copy of the front of a table's log: its entries, what is live after them, and what made it. Its type keeps that the log
+//! is lawful. And the laws of lawful logs.
+#![tactic(auto)]
+
+mod copy;
+pub mod laws;
+mod live;
+#[cfg(test)]
+mod tests;
+
+pub use copy::LogCopy;

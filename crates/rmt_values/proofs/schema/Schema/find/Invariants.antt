@@ -1,6 +1,0 @@
-use Rattle.std.proofs.Common.{◌≡◌, drop}
-use Rattle.rmt_values.specs.Rows.{place_from}
-use Rattle.rmt_values.proofs.schema.Schema.find.Given as goal
-
-abbrev pub invariant-columns : goal.invariant-columns
-invariant-columns l = place_from 0 l.self.columns l.name ≡ place_from l.i (drop l.i l.self.columns) l.name
