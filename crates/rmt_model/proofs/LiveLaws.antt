@@ -52,7 +52,7 @@ placed-old new xs x h = go (covers new x) refl
     go true e = inl (covers-true new x e)
     go false e = inr (Has-old new (filter (λ a. not (covers new a)) xs) x (Has-kept (λ a. not (covers new a)) xs x h (ap not e)))
 
-covered-placed : (new : Name) (xs : List Name) (a : Name) → CoveredBy xs a → CoveredBy (placed new xs) a
+pub covered-placed : (new : Name) (xs : List Name) (a : Name) → CoveredBy xs a → CoveredBy (placed new xs) a
 covered-placed new xs a c =
     elim (placed-old new xs c.name c.is_in) [
       | inl h ↦ record { name = new; is_in = placed-new new xs; covers = Covers-trans new c.name a h c.covers }
@@ -96,7 +96,7 @@ covers-holds a b c = go (covers a b) refl
     go true e = refl
     go false e = absurd (covers-false a b e c)
 
-not-kept : (b : Bool) → b ≡ true → not b ≡ true → ⊥
+pub not-kept : (b : Bool) → b ≡ true → not b ≡ true → ⊥
 not-kept true e f = cc
 not-kept false e f = cc
 
@@ -116,7 +116,7 @@ pub record Supplants (e : Entry) (log : List Entry) (new : Name) : Type 0 where
   pub strict : (b : Name) → Has (live log) b → Covers b new → ⊥
 
 -- names that share no number lie one before the other
-apart-or-overlap : (a b : Name) → a.min ≤ a.max → b.min ≤ b.max → (Before a b ⊎ Before b a) ⊎ Overlap a b
+pub apart-or-overlap : (a b : Name) → a.min ≤ a.max → b.min ≤ b.max → (Before a b ⊎ Before b a) ⊎ Overlap a b
 apart-or-overlap a b s t = go (grind arith)
   where
     go : (Before a b ⊎ Before b a) ⊎ ((rank a.partition ≡ rank b.partition) × (a.min ≤ b.max) × (b.min ≤ a.max)) → (Before a b ⊎ Before b a) ⊎ Overlap a b
@@ -126,7 +126,7 @@ apart-or-overlap a b s t = go (grind arith)
 pub not-both : (a b : Name) → Before a b → Overlap a b → ⊥
 not-both a b h o = let r : rank a.partition ≡ rank b.partition = ap rank o.partition in let l = o.high in let m = o.low in grind arith
 
-Overlap-sym : (a b : Name) → Overlap a b → Overlap b a
+pub Overlap-sym : (a b : Name) → Overlap a b → Overlap b a
 Overlap-sym a b o = record { partition = sym o.partition; low = o.high; high = o.low }
 
 -- a step that places a new name keeps all this

@@ -1,0 +1,125 @@
+ghost use Rattle.std.specs.Prelude.{◌≡◌, ℕ, ◌<◌, ◌≤◌, [], true, length, slice_set, MatchOption, OnOk, OnErr};
+ghost use Rattle.rmt_queue.specs.Marks.{done_at, grown, AllDone, IsLowest, IsFront};
+
+use std::alloc::{AllocError, Global};
+use std::marker::Model;
+
+/// A done mark for each place of a log. Contracts see the list of the marks.
+#[derive(Debug, Drop)]
+pub struct Queue {
+    marks: Vec<bool>,
+    front: usize,
+}
+
+impl Model for Queue {
+    ghost use Rattle.std.specs.Prelude.{List, Bool};
+    ghost use Rattle.rmt_queue.specs.Marks.{IsFront};
+
+    ghost Value = { List Bool };
+
+    ghost view = { λ q. q.marks.items };
+
+    ghost invariant = { λ q. IsFront q.marks.items q.front };
+}
+
+impl Queue {
+    /// A queue without places.
+    pub fn new(alloc: Global) -> Queue
+        ensures { result ≡ [] }
+    {
+        Queue {
+            marks: Vec::new(alloc),
+            front: 0,
+        }
+    }
+
+    /// How many places it has.
+    pub fn len(&self) -> usize
+        ensures { result ≡ length self.now }
+    {
+        self.marks.len()
+    }
+
+    /// Makes room for the marks of so many places. The new ones aren't done; a shorter length changes nothing. At an
+    /// error no memory was left, and the marks are as they were.
+    pub fn grow(&mut self, len: usize) -> Result<(), AllocError>
+        ensures ok { OnOk result (self.new ≡ grown self.old len) }
+        ensures err { OnErr result (self.new ≡ self.old) }
+    {
+        if len > self.marks.len() {
+            self.marks.resize(len, false)?;
+        }
+        Ok(())
+    }
+
+    /// Marks a place as done. Over all calls it takes time in proportion to the places.
+    pub fn mark(&mut self, i: usize)
+        requires { i < length self.old }
+        ensures { self.new ≡ slice_set self.old i true }
+    {
+        self.marks[i] = true;
+        self.front = front_from(&self.marks, self.front);
+    }
+
+    /// Whether a place is done.
+    pub fn done(&self, i: usize) -> bool
+        requires { i < length self.now }
+        ensures { result ≡ done_at self.now i }
+    {
+        self.marks[i]
+    }
+
+    /// The lowest place that isn't done; none where all are.
+    pub fn lowest(&self) -> Option<usize>
+        ensures { MatchOption result (AllDone self.now) (IsLowest self.now) }
+    {
+        if self.front < self.marks.len() {
+            Some(self.front)
+        } else {
+            None
+        }
+    }
+}
+
+/// The lowest place that isn't done, or the length where all are, given that those below `from` are done.
+fn front_from(marks: &[bool], from: usize) -> usize
+    requires bound { from ≤ length marks.now }
+    requires below { (k : ℕ) → k < from → done_at marks.now k ≡ true }
+    ensures { IsFront marks.now result }
+{
+    'places: for i in from..marks.len() {
+        if !marks[i] {
+            return i;
+        }
+    }
+    marks.len()
+}
+
+#[cfg(test)]
+mod tests {
+    use super::*;
+    use std::test::Fail;
+
+    #[test]
+    fn places_are_marked_in_any_order(rt: HostRuntime) -> Result<(), Fail> {
+        let mut queue = Queue::new(rt.alloc());
+        assert_eq!(rt; (queue.len(), queue.lowest()), (0, None));
+        queue.grow(4)?;
+        assert_eq!(rt; (queue.len(), queue.lowest()), (4, Some(0)));
+        queue.mark(2);
+        assert_eq!(rt; (queue.done(2), queue.done(1)), (true, false));
+        assert_eq!(rt; queue.lowest(), Some(0));
+        queue.mark(0);
+        assert_eq!(rt; queue.lowest(), Some(1));
+        queue.mark(1);
+        assert_eq!(rt; queue.lowest(), Some(3));
+        queue.mark(3);
+        assert_eq!(rt; queue.lowest(), None);
+        queue.grow(2)?;
+        assert_eq!(rt; (queue.len(), queue.lowest()), (4, None));
+        queue.grow(6)?;
+        queue.mark(4);
+        assert_eq!(rt; queue.lowest(), Some(5));
+        Ok(())
+    }
+}
