@@ -8,13 +8,13 @@ use Rattle.std.specs.BTreeMap.{BTreeMap, get}
 use Rattle.std.specs.declared.option.Option.{Option}
 use Rattle.std.specs.declared.option.Option.TheVariants.{Some}
 use Rattle.rmt_values.specs.Rows.{Shape}
-use Rattle.rmt_names.specs.Names.{Name, name_cmp}
+use Rattle.rmt_names.specs.Names.{Name}
 use Rattle.rmt_row.specs.Token.{Token}
 use Rattle.rmt_entries.specs.Entries.{result_name}
 use Rattle.rmt_entries.specs.declared.entry.Entry.{Entry}
 use Rattle.rmt_model.specs.Live.{live, live_after}
 use Rattle.rmt_model.specs.Lawful.{Lawful, entry_at}
-use Rattle.rmt_history.specs.Copies.{entries, cells_of, IsMadeBy, maker_after, IsCopy}
+use Rattle.rmt_history.specs.Copies.{entries, cells_of, IsMadeBy, maker_after, IsCopy, name_cmp}
 use Rattle.rmt_history.proofs.Makers.{made-more}
 
 pub map-snoc : {A B : Type 0} (f : A → B) (xs : List A) (x : A) → map f (xs ++ x ∷ []) ≡ map f xs ++ f x ∷ []

@@ -9,13 +9,13 @@ use Rattle.std.specs.declared.cmp.Ordering.{Ordering}
 use Rattle.std.specs.declared.cmp.Ordering.TheVariants.{Less, Equal, Greater}
 use Rattle.std.specs.Ordering.{nat_cmp, is_eq}
 use Rattle.std.specs.Option.{option_cmp}
-use Rattle.rmt_names.specs.Names.{Name, name_cmp}
+use Rattle.rmt_names.specs.Names.{Name}
 use Rattle.rmt_entries.specs.Entries.{result_name}
 use Rattle.rmt_entries.specs.declared.entry.Entry.{Entry}
 use Rattle.rmt_model.specs.Words.{Has}
 use Rattle.rmt_model.specs.Live.{made, made_with}
 use Rattle.rmt_model.specs.Lawful.{entry_at}
-use Rattle.rmt_history.specs.Copies.{MakesAt, IsMadeBy, maker_after}
+use Rattle.rmt_history.specs.Copies.{MakesAt, IsMadeBy, maker_after, name_cmp}
 
 exact-option : CmpEqualImpliesEq (option_cmp nat_cmp)
 exact-option None None e = refl

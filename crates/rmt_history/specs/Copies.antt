@@ -2,9 +2,11 @@
 use Rattle.std.specs.Prelude.{◌≡◌, ℕ, ◌≤◌, cond, List, ◌∷◌, map, reverse, slice_get, MatchOption}
 use Rattle.std.specs.declared.option.Option.{Option}
 use Rattle.std.specs.declared.option.Option.TheVariants.{Some, None}
-use Rattle.std.specs.Ordering.{is_eq}
+use Rattle.std.specs.declared.cmp.Ordering.{Ordering}
+use Rattle.std.specs.Ordering.{is_eq, nat_cmp, ordering_then}
+use Rattle.std.specs.Option.{option_cmp}
 use Rattle.std.specs.BTreeMap.{BTreeMap, get}
-use Rattle.rmt_names.specs.Names.{Name, name_cmp}
+use Rattle.rmt_names.specs.Names.{Name}
 use Rattle.rmt_values.specs.Rows.{Shape}
 use Rattle.rmt_row.specs.Token.{Token}
 use Rattle.rmt_entries.specs.Entries.{result_name}
@@ -36,6 +38,10 @@ pub record MakesAt (log : List Entry) (i : ℕ) (a : Name) : Type 0 where
 -- the place of the entry that makes the name; none where no entry does
 abbrev pub IsMadeBy : List Entry → Name → Option ℕ → Type 0
 IsMadeBy log a place = MatchOption place (Has (made log) a → ⊥) (λ i. MakesAt log i a)
+
+-- names by partition, and then by their numbers as they stand
+abbrev pub name_cmp : Name → Name → Ordering
+name_cmp a b = ordering_then (option_cmp nat_cmp a.partition b.partition) (ordering_then (nat_cmp a.min b.min) (ordering_then (nat_cmp a.max b.max) (ordering_then (nat_cmp a.level b.level) (nat_cmp a.mutation b.mutation))))
 
 -- the place that is noted for a name, once the entry at a place has made what it makes
 abbrev pub maker_after : Option Name → ℕ → Option ℕ → Name → Option ℕ

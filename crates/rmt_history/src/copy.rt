@@ -4,10 +4,11 @@ ghost use Rattle.std.specs.Arc.{arc_value};
 ghost use Rattle.rmt_model.specs.Live.{live as live_of};
 ghost use Rattle.rmt_model.specs.Lawful.{Lawful, entry_at};
 ghost use Rattle.std.specs.BTreeMap.{get};
-ghost use Rattle.rmt_names.specs.Names.{Name, name_cmp};
-ghost use Rattle.rmt_history.specs.Copies.{IsMadeBy, maker_after};
+ghost use Rattle.rmt_names.specs.Names.{Name};
+ghost use Rattle.rmt_history.specs.Copies.{IsMadeBy, maker_after, name_cmp};
 
 use crate::live::follow;
+use crate::name_key::NameKey;
 use rmt_entries::{Entry, result_of};
 use rmt_names::PartName;
 use rmt_row::Seen;
@@ -24,7 +25,7 @@ pub struct LogCopy {
     schema: Arc<Schema, Global>,
     seen: Vec<Seen<Entry>>,
     live: Vec<PartName>,
-    makers: BTreeMap<PartName, usize>,
+    makers: BTreeMap<NameKey, usize>,
 }
 
 impl Model for LogCopy {
@@ -44,7 +45,7 @@ impl Model for LogCopy {
 
 // Notes the place of the entry that makes the name, if it makes one.
 fn note_maker(
-    makers: &mut BTreeMap<PartName, usize>,
+    makers: &mut BTreeMap<NameKey, usize>,
     made: Option<PartName>,
     place: usize,
 ) -> Result<(), AllocError>
@@ -52,7 +53,7 @@ fn note_maker(
     ensures err { OnErr result (makers.new.entries ≡ makers.old.entries) }
 {
     if let Some(name) = made {
-        makers.insert(name, place)?;
+        makers.insert(NameKey::of(&name), place)?;
     }
     Ok(())
 }
@@ -120,6 +121,6 @@ impl LogCopy {
     pub fn made_by(&self, name: &PartName) -> Option<usize>
         ensures { IsMadeBy self.now.log name.now result }
     {
-        self.makers.get(name).copied()
+        self.makers.get(&NameKey::of(name)).copied()
     }
 }

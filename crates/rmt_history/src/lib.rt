@@ -5,6 +5,7 @@
 mod copy;
 pub mod laws;
 mod live;
+mod name_key;
 #[cfg(test)]
 mod tests;
 

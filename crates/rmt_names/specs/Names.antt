@@ -2,9 +2,6 @@
 -- ClickHouse documentation, MergeTree, "Data storage", and Data Replication: partition, block range, level of merges, mutation.
 -- A partition's number stands for its id; an unpartitioned table has the one partition `all`.
 use Rattle.std.specs.Prelude.{◌≡◌, ℕ, ◌+◌, ◌<◌, ◌≤◌, ◌^◌, ◌&&◌, Bool, cond, max, nat_eq, nat_le, List, [], ◌∷◌, IfSome}
-use Rattle.std.specs.declared.cmp.Ordering.{Ordering}
-use Rattle.std.specs.Ordering.{nat_cmp, ordering_then}
-use Rattle.std.specs.Option.{option_cmp}
 use Rattle.std.specs.declared.option.Option.{Option}
 use Rattle.std.specs.declared.option.Option.TheVariants.{Some, None}
 
@@ -28,10 +25,6 @@ pub record IsName (a : Name) : Type 0 where
 abbrev pub rank : Option ℕ → ℕ
 rank None = 0
 rank (Some p) = p + 1
-
--- names by partition, and then by their numbers as they stand
-abbrev pub name_cmp : Name → Name → Ordering
-name_cmp a b = ordering_then (option_cmp nat_cmp a.partition b.partition) (ordering_then (nat_cmp a.min b.min) (ordering_then (nat_cmp a.max b.max) (ordering_then (nat_cmp a.level b.level) (nat_cmp a.mutation b.mutation))))
 
 -- a has at least the blocks, the merges and the mutations of b, in b's partition
 pub record Covers (a b : Name) : Type 0 where

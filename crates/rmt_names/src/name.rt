@@ -12,7 +12,7 @@ pub type PartitionId = Option<u64>;
 
 /// The name of a part: its partition, the lowest and the highest number of its blocks, its level and its mutation,
 /// 0 for none. Contracts see it as the record of these.
-#[derive(Clone, Copy, Debug, PartialEq, Eq, PartialOrd, Ord)]
+#[derive(Clone, Copy, Debug, PartialEq, Eq)]
 pub struct PartName {
     partition: Option<u64>,
     min: u32,

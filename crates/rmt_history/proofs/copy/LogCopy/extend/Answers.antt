@@ -4,10 +4,10 @@ use Rattle.std.specs.Arc.{arc_value}
 use Rattle.rmt_row.specs.Token.{Token}
 use Rattle.std.specs.BTreeMap.{get}
 use Rattle.std.specs.declared.option.Option.{Option}
-use Rattle.rmt_names.specs.Names.{Name, name_cmp}
+use Rattle.rmt_names.specs.Names.{Name}
 use Rattle.rmt_entries.specs.Entries.{result_name}
 use Rattle.rmt_entries.specs.declared.entry.Entry.{Entry}
-use Rattle.rmt_history.specs.Copies.{History, maker_after}
+use Rattle.rmt_history.specs.Copies.{History, maker_after, name_cmp}
 use Rattle.rmt_model.specs.Live.{live_after}
 use Rattle.rmt_model.specs.Lawful.{Lawful}
 use Rattle.rmt_history.proofs.Copied.{IsCopy-more}
