@@ -1,0 +1,22 @@
+//! Filters, commands and queries checked against a schema; filters and commands put to rows.
+#![tactic(auto)]
+
+mod changes;
+mod check_error;
+mod checks;
+mod keeps;
+mod laws;
+mod literals;
+mod mutation_error;
+mod mutations;
+mod queries;
+mod sets;
+
+pub use changes::apply;
+pub use check_error::CheckError;
+pub use checks::check;
+pub use keeps::holds;
+pub use laws::{alike_filters_keep_the_same_rows, checked_forms_are_alike};
+pub use mutation_error::MutationError;
+pub use mutations::check_mutation;
+pub use queries::check_query;

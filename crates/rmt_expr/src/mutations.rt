@@ -1,0 +1,318 @@
+//! Checks commands against a schema.
+ghost use Rattle.std.specs.Prelude.{◌≡◌, ◌⊎◌, IfOk, IfErr};
+ghost use Rattle.std.specs.Option.{option_map, option_or};
+ghost use Rattle.std.specs.declared.option.Option.TheVariants.{Some, None};
+ghost use Rattle.rmt_values.specs.Schemas.{has_name as has, first_double};
+ghost use Rattle.rmt_values.specs.Commands.{CommandFits, SetsFit};
+ghost use Rattle.rmt_values.specs.Filters.{FilterFits};
+ghost use Rattle.rmt_expr.specs.Checks.{IsChecked, unknown_in as first_unknown};
+ghost use Rattle.rmt_expr.specs.Mutations.{
+  IsCheckedMutation,
+  AreSets,
+  mutation_refusal,
+  update_refusal,
+  delete_refusal,
+  unknown_right as unknown_on_right,
+  unknown_in_sets,
+  among,
+  is_among,
+  key_in_sets,
+  lefts,
+};
+ghost use Rattle.rmt_values.specs.Rows.{place_from};
+ghost use Rattle.rmt_expr.specs.declared.mutation_error.MutationError.TheVariants as refusal;
+
+use crate::check_error::CheckError;
+use crate::checks::{check, unknown, unknown_in};
+use crate::mutation_error::MutationError;
+use crate::sets::placed_sets;
+use rmt_values::{
+    Assignments, Checked, CheckedMutation, Filter, Mutation, Name, Right, Schema, Sets,
+};
+use std::alloc::Global;
+
+/// Checks a command against a schema: the same command with places in place of names and values in place of literals.
+/// The name kept of a refusal is the first in the statement that meets its condition; of a set, it is its left side.
+pub fn check_mutation(
+    alloc: Global,
+    m: &Mutation,
+    schema: &Schema,
+) -> Result<CheckedMutation, MutationError>
+    ensures ok { IfOk result (λ c. IsCheckedMutation schema.now m.now c) }
+    ensures fits { IfOk result (λ c. CommandFits schema.now c) }
+    ensures known { IfOk result (λ _. mutation_refusal schema.now m.now ≡ None) }
+    ensures refused { IfErr result (λ e. (e ≡ refusal.Memory) ⊎ (mutation_refusal schema.now m.now ≡ Some e)) }
+{
+    match m {
+        Mutation::Update { sets, filter } => {
+            let (sets, filter) = check_update(alloc, sets, filter, schema)?;
+            Ok(CheckedMutation::Update { sets, filter })
+        }
+        Mutation::Delete { filter } => {
+            let filter = check_delete(alloc, filter, schema)?;
+            Ok(CheckedMutation::Delete { filter })
+        }
+    }
+}
+
+/// The checked form of a DELETE's filter.
+#[tactic(auto, unfolding(crate::specs::Mutations::delete_refusal, crate::specs::Checks::filter_refusal))]
+fn check_delete(alloc: Global, filter: &Filter, schema: &Schema) -> Result<Checked, MutationError>
+    ensures ok { IfOk result (λ c. IsChecked schema.now filter.now c) }
+    ensures fits { IfOk result (λ c. FilterFits schema.now c) }
+    ensures known { IfOk result (λ _. delete_refusal schema.now filter.now ≡ None) }
+    ensures refused { IfErr result (λ e. (e ≡ refusal.Memory) ⊎ (delete_refusal schema.now filter.now ≡ Some e)) }
+{
+    match check(alloc, filter, schema) {
+        Ok(filter) => Ok(filter),
+        Err(CheckError::UnknownColumn(name)) => Err(MutationError::UnknownColumn(name)),
+        Err(CheckError::WrongType(name)) => Err(MutationError::WrongType(name)),
+        Err(CheckError::Memory) => Err(MutationError::Memory),
+    }
+}
+
+/// The checked forms of an UPDATE's sets and of its filter.
+#[tactic(auto, unfolding(crate::specs::Mutations::update_refusal, crate::specs::Checks::filter_refusal))]
+fn check_update(
+    alloc: Global,
+    sets: &Assignments,
+    filter: &Filter,
+    schema: &Schema,
+) -> Result<(Sets, Checked), MutationError>
+    ensures ok { IfOk result (λ c. AreSets schema.now sets.now c.0 × IsChecked schema.now filter.now c.1) }
+    ensures fits { IfOk result (λ c. SetsFit schema.now c.0 × FilterFits schema.now c.1) }
+    ensures known { IfOk result (λ _. update_refusal schema.now sets.now filter.now ≡ None) }
+    ensures refused { IfErr result (λ e. (e ≡ refusal.Memory)
+        ⊎ (update_refusal schema.now sets.now filter.now ≡ Some e)) }
+{
+    let pairs = sets.as_slice();
+    if let Some(name) = unknown_in_update(pairs, filter, schema) {
+        return Err(MutationError::UnknownColumn(name.copy()?));
+    }
+    if let Some(name) = double_in(pairs) {
+        return Err(MutationError::DoubleColumn(name.copy()?));
+    }
+    let placed = placed_sets(alloc, pairs, schema)?;
+    let filter = check(alloc, filter, schema)?;
+    match key_in(pairs, schema) {
+        Some(name) => Err(MutationError::KeyColumn(name.copy()?)),
+        None => Ok((Sets::new(placed), filter)),
+    }
+}
+
+/// The first name of an UPDATE that no column has.
+fn unknown_in_update<'a>(
+    sets: &'a [(Name, Right)],
+    filter: &'a Filter,
+    schema: &Schema,
+) -> Option<&'a Name>
+    ensures { option_map (λ n. n.now) result
+        ≡ option_or (unknown_in_sets schema.now sets.now) (first_unknown schema.now filter.now) }
+{
+    match unknown_set(sets, schema) {
+        Some(name) => Some(name),
+        None => unknown_in(filter, schema),
+    }
+}
+
+/// The first name of the sets that no column has.
+fn unknown_set<'a>(sets: &'a [(Name, Right)], schema: &Schema) -> Option<&'a Name>
+    ensures { option_map (λ n. n.now) result ≡ unknown_in_sets schema.now sets.now }
+{
+    'sets: for i in 0..sets.len() {
+        if let Some(name) = unknown(&sets[i].0, schema) {
+            return Some(name);
+        }
+        if let Some(name) = unknown_right(&sets[i].1, schema) {
+            return Some(name);
+        }
+    }
+    None
+}
+
+/// The name on a right side, where no column has it.
+fn unknown_right<'a>(right: &'a Right, schema: &Schema) -> Option<&'a Name>
+    ensures { option_map (λ n. n.now) result ≡ unknown_on_right schema.now right.now }
+{
+    match right {
+        Right::Literal(_) => None,
+        Right::Column(name) => unknown(name, schema),
+        Right::Plus { column, .. } | Right::Minus { column, .. } => unknown(column, schema),
+    }
+}
+
+/// The first left side that a later one repeats.
+fn double_in(sets: &[(Name, Right)]) -> Option<&Name>
+    ensures { option_map (λ n. n.now) result ≡ first_double (lefts sets.now) }
+{
+    let mut rest = sets;
+    'sets: while let [first, others @ ..] = rest {
+        if sets_name(others, &first.0) {
+            return Some(&first.0);
+        }
+        rest = others;
+    }
+    None
+}
+
+/// Whether a set has this name on its left side.
+fn sets_name(sets: &[(Name, Right)], name: &Name) -> bool
+    ensures { result ≡ has (lefts sets.now) name.now }
+{
+    'sets: for i in 0..sets.len() {
+        if sets[i].0.equals(name) {
+            return true;
+        }
+    }
+    false
+}
+
+/// The first left side that is a column of the sorting key.
+fn key_in<'a>(sets: &'a [(Name, Right)], schema: &Schema) -> Option<&'a Name>
+    ensures { option_map (λ n. n.now) result ≡ key_in_sets schema.now sets.now }
+{
+    'sets: for i in 0..sets.len() {
+        if is_key(&sets[i].0, schema) {
+            return Some(&sets[i].0);
+        }
+    }
+    None
+}
+
+/// Whether the column of this name is one of the sorting key.
+fn is_key(name: &Name, schema: &Schema) -> bool
+    ensures { result ≡ is_among schema.now.key (place_from 0 schema.now.columns name.now) }
+{
+    match schema.find(name) {
+        Some(at) => has_place(schema.key(), at),
+        None => false,
+    }
+}
+
+/// Whether the place is one of these.
+fn has_place(places: &[u16], at: u16) -> bool
+    ensures { result ≡ among places.now at }
+{
+    'places: for place in places {
+        if *place == at {
+            return true;
+        }
+    }
+    false
+}
+
+#[cfg(test)]
+mod tests {
+    use super::*;
+    use rmt_values::{Cmp, Column, Kind, Literal};
+    use std::alloc::AllocError;
+    use std::test::Fail;
+
+    fn name(alloc: Global, letter: u8) -> Result<Name, AllocError> {
+        Name::from_slice(alloc, &[letter])
+    }
+
+    fn one() -> Literal {
+        Literal::Number {
+            minus: false,
+            size: 1,
+        }
+    }
+
+    /// The columns `k` and `u` of UInt64, `i` of Int64, `s` of Strings; the key is `k`.
+    fn schema(alloc: Global) -> Result<Schema, AllocError> {
+        let mut columns = Vec::new(alloc);
+        for letter in b"kuis" {
+            let kind = match *letter {
+                b'i' => Kind::Int64,
+                b's' => Kind::Text,
+                _ => Kind::UInt64,
+            };
+            let name = name(alloc, *letter)?;
+            columns.push(Column { name, kind })?;
+        }
+        let key = vec![in alloc; name(alloc, b'k')?]?;
+        Schema::new(alloc, columns, key, 8192, 100).map_err(|_| AllocError)
+    }
+
+    /// The filter `column = 1`.
+    fn is_one(alloc: Global, column: u8) -> Result<Filter, AllocError> {
+        Ok(Filter::Test {
+            column: name(alloc, column)?,
+            cmp: Cmp::Eq,
+            literal: one(),
+        })
+    }
+
+    /// What the check tells of an UPDATE: each pair sets its first column to its second plus 1.
+    fn told(alloc: Global, pairs: &[(u8, u8)], column: u8) -> Result<(char, u8), AllocError> {
+        let mut sets = Vec::new(alloc);
+        for (left, right) in pairs {
+            let column = name(alloc, *right)?;
+            let right = Right::Plus { column, by: one() };
+            sets.push((name(alloc, *left)?, right))?;
+        }
+        let update = Mutation::Update {
+            sets: Assignments::new(sets),
+            filter: is_one(alloc, column)?,
+        };
+        let (word, name) = match check_mutation(alloc, &update, &schema(alloc)?) {
+            Ok(_) => return Ok(('o', 0)),
+            Err(MutationError::UnknownColumn(name)) => ('u', name),
+            Err(MutationError::DoubleColumn(name)) => ('d', name),
+            Err(MutationError::WrongType(name)) => ('w', name),
+            Err(MutationError::KeyColumn(name)) => ('k', name),
+            Err(MutationError::Memory) => return Err(AllocError),
+        };
+        match name.as_bytes() {
+            [letter] => Ok((word, *letter)),
+            _ => Ok((word, 0)),
+        }
+    }
+
+    #[test]
+    fn the_first_refusal_is_told(rt: HostRuntime) -> Result<(), Fail> {
+        let alloc = rt.alloc();
+        assert_eq!(rt; told(alloc, &[(b'u', b'u'), (b'i', b'i')], b'k')?, ('o', 0));
+        assert_eq!(rt; told(alloc, &[(b'u', b'k')], b'u')?, ('o', 0));
+        assert_eq!(rt;
+            told(alloc, &[(b'k', b'u'), (b's', b's')], b'k')?,
+            ('w', b's')
+        );
+        assert_eq!(rt; told(alloc, &[(b'k', b'u')], b's')?, ('w', b's'));
+        assert_eq!(rt;
+            told(alloc, &[(b'k', b'u'), (b'u', b'i')], b's')?,
+            ('w', b'u')
+        );
+        assert_eq!(rt;
+            told(alloc, &[(b'u', b'u'), (b'k', b'k')], b'k')?,
+            ('k', b'k')
+        );
+        assert_eq!(rt;
+            told(alloc, &[(b'u', b's'), (b'i', b'i'), (b'i', b'i')], b's')?,
+            ('d', b'i')
+        );
+        assert_eq!(rt;
+            told(alloc, &[(b'u', b'x'), (b'y', b'u'), (b'u', b'i')], b'z')?,
+            ('u', b'x')
+        );
+        assert_eq!(rt;
+            told(alloc, &[(b'u', b'u'), (b'u', b'i')], b'z')?,
+            ('u', b'z')
+        );
+        Ok(())
+    }
+
+    #[test]
+    fn a_delete_is_checked(rt: HostRuntime) -> Result<(), Fail> {
+        let alloc = rt.alloc();
+        let delete = Mutation::Delete {
+            filter: is_one(alloc, b'i')?,
+        };
+        match check_mutation(alloc, &delete, &schema(alloc)?) {
+            Ok(CheckedMutation::Delete { .. }) => {}
+            _ => assert!(rt; false),
+        }
+        Ok(())
+    }
+}

@@ -1,0 +1,376 @@
+//! Checks queries against a schema.
+ghost use Rattle.std.specs.Prelude.{◌≡◌, ◌⊎◌, IfOk, IfErr};
+ghost use Rattle.std.specs.Option.{option_map};
+ghost use Rattle.std.specs.declared.option.Option.TheVariants.{Some, None};
+ghost use Rattle.rmt_values.specs.Schemas.{has_name as has, names_of};
+ghost use Rattle.rmt_expr.specs.Checks.{unknown_name};
+ghost use Rattle.rmt_expr.specs.Queries.{
+  IsAt,
+  IsItem,
+  AreItems,
+  IsAsked,
+  ArePlaces,
+  IsFiltered,
+  IsCheckedQuery,
+  all_from,
+  unknown_item,
+  unknown_in_items,
+  unknown_in_names,
+  unknown_in_where,
+  misfit_in_where,
+  is_aggregate as aggregates,
+  has_aggregate as any_aggregates,
+  is_grouping,
+  misfit_item as misfit_of,
+  misfit_in_items,
+  ungrouped as first_ungrouped,
+  misfit_asked as misfit_of_asked,
+  adds_up as adds,
+  query_refusal,
+};
+ghost use Rattle.rmt_expr.specs.Checks.{kind_named};
+ghost use Rattle.rmt_expr.specs.declared.check_error.CheckError.TheVariants as refusal;
+
+use crate::check_error::CheckError;
+use crate::checks::{kind_of, placed, unknown_in};
+use rmt_values::{
+    Checked, CheckedItem, CheckedItems, CheckedQuery, Column, Filter, Item, Kind, Name, Places,
+    Query, Schema,
+};
+use std::alloc::{AllocError, Global};
+
+/// Checks a query against a schema: the same query with places in place of names and values in place of literals. The
+/// name kept of a refusal is the first in the statement that meets its condition; without items, all columns are asked
+/// for.
+#[tactic(auto, unfolding(crate::specs::Queries::query_refusal))]
+pub fn check_query(alloc: Global, q: &Query, schema: &Schema) -> Result<CheckedQuery, CheckError>
+    ensures ok { IfOk result (λ c. IsCheckedQuery schema.now q.now c) }
+    ensures known { IfOk result (λ _. query_refusal schema.now q.now ≡ None) }
+    ensures refused { IfErr result (λ e. (e ≡ refusal.Memory) ⊎ (query_refusal schema.now q.now ≡ Some e)) }
+{
+    let items = asked(alloc, q.items.as_slice(), schema)?;
+    if let Some(name) = unknown_where(&q.filter, schema) {
+        return Err(CheckError::UnknownColumn(name.copy()?));
+    }
+    let group = places(alloc, q.group.as_slice(), schema)?;
+    if let Some(name) = misfit_asked(q.items.as_slice(), q.group.as_slice(), schema) {
+        return Err(CheckError::WrongType(name.copy()?));
+    }
+    let filter = placed_where(alloc, &q.filter, schema)?;
+    Ok(CheckedQuery {
+        items: CheckedItems::new(items),
+        filter,
+        group: Places::new(group),
+    })
+}
+
+/// The first name of the filter that no column has, where there is a filter.
+fn unknown_where<'a>(filter: &'a Option<Filter>, schema: &Schema) -> Option<&'a Name>
+    ensures { option_map (λ n. n.now) result ≡ unknown_in_where schema.now filter.now }
+{
+    match filter {
+        Some(filter) => unknown_in(filter, schema),
+        None => None,
+    }
+}
+
+/// The checked form of a filter that names no unknown column, where there is one.
+fn placed_where(
+    alloc: Global,
+    filter: &Option<Filter>,
+    schema: &Schema,
+) -> Result<Option<Checked>, CheckError>
+    ensures ok { IfOk result (λ c. IsFiltered schema.now filter.now c) }
+    ensures known { IfOk result (λ _. misfit_in_where schema.now filter.now ≡ None) }
+    ensures refused { IfErr result (λ e. (e ≡ refusal.Memory)
+        ⊎ (option_map (λ n. refusal.WrongType n) (misfit_in_where schema.now filter.now) ≡ Some e)) }
+{
+    match filter {
+        Some(filter) => {
+            let filter = placed(alloc, filter, schema)?;
+            Ok(Some(filter))
+        }
+        None => Ok(None),
+    }
+}
+
+/// The checked forms of what is asked for.
+fn asked(alloc: Global, items: &[Item], schema: &Schema) -> Result<Vec<CheckedItem>, CheckError>
+    ensures ok { IfOk result (λ v. IsAsked schema.now items.now v.items) }
+    ensures known { IfOk result (λ _. unknown_in_items schema.now items.now ≡ None) }
+    ensures refused { IfErr result (λ e. (e ≡ refusal.Memory)
+        ⊎ (option_map (λ n. refusal.UnknownColumn n) (unknown_in_items schema.now items.now) ≡ Some e)) }
+{
+    match items {
+        [] => {
+            let all = all_columns(alloc, schema)?;
+            Ok(all)
+        }
+        [..] => placed_items(alloc, items, schema),
+    }
+}
+
+/// All columns, in their order.
+fn all_columns(alloc: Global, schema: &Schema) -> Result<Vec<CheckedItem>, AllocError>
+    ensures { IfOk result (λ v. v.items ≡ all_from 0 schema.now.columns) }
+{
+    let columns = schema.columns();
+    let mut all = Vec::with_capacity(alloc, columns.len())?;
+    'columns: for i in 0..columns.len() {
+        all.push(CheckedItem::Column(i as u16))?;
+    }
+    Ok(all)
+}
+
+/// The checked forms of items, in their order.
+fn placed_items(
+    alloc: Global,
+    items: &[Item],
+    schema: &Schema,
+) -> Result<Vec<CheckedItem>, CheckError>
+    ensures ok { IfOk result (λ v. AreItems schema.now items.now v.items) }
+    ensures known { IfOk result (λ _. unknown_in_items schema.now items.now ≡ None) }
+    ensures refused { IfErr result (λ e. (e ≡ refusal.Memory)
+        ⊎ (option_map (λ n. refusal.UnknownColumn n) (unknown_in_items schema.now items.now) ≡ Some e)) }
+{
+    let mut placed = Vec::with_capacity(alloc, items.len())?;
+    let mut rest = items;
+    'items: while let [first, others @ ..] = rest {
+        let item = placed_item(first, schema)?;
+        placed.push(item)?;
+        rest = others;
+    }
+    Ok(placed)
+}
+
+/// The checked form of an item.
+fn placed_item(item: &Item, schema: &Schema) -> Result<CheckedItem, CheckError>
+    ensures ok { IfOk result (λ c. IsItem schema.now item.now c) }
+    ensures known { IfOk result (λ _. unknown_item schema.now item.now ≡ None) }
+    ensures refused { IfErr result (λ e. (e ≡ refusal.Memory)
+        ⊎ (option_map (λ n. refusal.UnknownColumn n) (unknown_item schema.now item.now) ≡ Some e)) }
+{
+    match item {
+        Item::Column(name) => Ok(CheckedItem::Column(place(name, schema)?)),
+        Item::Count => Ok(CheckedItem::Count),
+        Item::Sum(name) => Ok(CheckedItem::Sum(place(name, schema)?)),
+        Item::Min(name) => Ok(CheckedItem::Min(place(name, schema)?)),
+        Item::Max(name) => Ok(CheckedItem::Max(place(name, schema)?)),
+    }
+}
+
+/// The places of the columns of these names, in their order.
+fn places(alloc: Global, names: &[Name], schema: &Schema) -> Result<Vec<u16>, CheckError>
+    ensures ok { IfOk result (λ v. ArePlaces schema.now names.now v.items) }
+    ensures known { IfOk result (λ _. unknown_in_names schema.now names.now ≡ None) }
+    ensures refused { IfErr result (λ e. (e ≡ refusal.Memory)
+        ⊎ (option_map (λ n. refusal.UnknownColumn n) (unknown_in_names schema.now names.now) ≡ Some e)) }
+{
+    let mut placed = Vec::with_capacity(alloc, names.len())?;
+    let mut rest = names;
+    'names: while let [first, others @ ..] = rest {
+        let at = place(first, schema)?;
+        placed.push(at)?;
+        rest = others;
+    }
+    Ok(placed)
+}
+
+/// The place of the column of this name.
+fn place(name: &Name, schema: &Schema) -> Result<u16, CheckError>
+    ensures ok { IfOk result (λ at. IsAt schema.now name.now at) }
+    ensures known { IfOk result (λ _. unknown_name schema.now name.now ≡ None) }
+    ensures refused { IfErr result (λ e. (e ≡ refusal.Memory)
+        ⊎ (option_map (λ n. refusal.UnknownColumn n) (unknown_name schema.now name.now) ≡ Some e)) }
+{
+    let Some(at) = schema.find(name) else {
+        return Err(CheckError::UnknownColumn(name.copy()?));
+    };
+    match schema.kind(at) {
+        Some(_) => Ok(at),
+        None => Err(CheckError::UnknownColumn(name.copy()?)),
+    }
+}
+
+/// The first of what is asked for that can't be.
+fn misfit_asked<'a>(items: &'a [Item], group: &[Name], schema: &'a Schema) -> Option<&'a Name>
+    ensures { option_map (λ n. n.now) result ≡ misfit_of_asked schema.now items.now group.now }
+{
+    match items {
+        [] if group.is_empty() => None,
+        [] => ungrouped(schema.columns(), group),
+        [..] => misfit_item_in(
+            items,
+            has_aggregate(items) || !group.is_empty(),
+            group,
+            schema,
+        ),
+    }
+}
+
+/// The first column that isn't one of the groups'.
+fn ungrouped<'a>(columns: &'a [Column], group: &[Name]) -> Option<&'a Name>
+    ensures { option_map (λ n. n.now) result ≡ first_ungrouped group.now (names_of columns.now) }
+{
+    'columns: for i in 0..columns.len() {
+        if !has_name(group, &columns[i].name) {
+            return Some(&columns[i].name);
+        }
+    }
+    None
+}
+
+/// Whether an item puts rows together.
+fn has_aggregate(items: &[Item]) -> bool
+    ensures { result ≡ any_aggregates items.now }
+{
+    'items: for item in items {
+        if is_aggregate(item) {
+            return true;
+        }
+    }
+    false
+}
+
+/// Whether the item puts rows together.
+fn is_aggregate(item: &Item) -> bool
+    ensures { result ≡ aggregates item.now }
+{
+    match item {
+        Item::Column(_) => false,
+        Item::Count | Item::Sum(_) | Item::Min(_) | Item::Max(_) => true,
+    }
+}
+
+/// The first item that can't be.
+fn misfit_item_in<'a>(
+    items: &'a [Item],
+    grouping: bool,
+    group: &[Name],
+    schema: &Schema,
+) -> Option<&'a Name>
+    ensures { option_map (λ n. n.now) result ≡ misfit_in_items schema.now grouping group.now items.now }
+{
+    'items: for i in 0..items.len() {
+        if let Some(name) = misfit_item(&items[i], grouping, group, schema) {
+            return Some(name);
+        }
+    }
+    None
+}
+
+/// The name of the item, where it can't be.
+fn misfit_item<'a>(
+    item: &'a Item,
+    grouping: bool,
+    group: &[Name],
+    schema: &Schema,
+) -> Option<&'a Name>
+    ensures { option_map (λ n. n.now) result ≡ misfit_of schema.now grouping group.now item.now }
+{
+    match item {
+        Item::Column(name) => {
+            if grouping && !has_name(group, name) {
+                Some(name)
+            } else {
+                None
+            }
+        }
+        Item::Sum(name) => {
+            if adds_up(kind_of(name, schema)) {
+                None
+            } else {
+                Some(name)
+            }
+        }
+        Item::Count | Item::Min(_) | Item::Max(_) => None,
+    }
+}
+
+/// Whether it is a type of numbers.
+fn adds_up(kind: Option<Kind>) -> bool
+    ensures { result ≡ adds kind }
+{
+    match kind {
+        Some(Kind::UInt64) | Some(Kind::Int64) => true,
+        Some(Kind::Text) | None => false,
+    }
+}
+
+/// Whether the name is one of these.
+fn has_name(names: &[Name], name: &Name) -> bool
+    ensures { result ≡ has names.now name.now }
+{
+    'names: for one in names {
+        if one.equals(name) {
+            return true;
+        }
+    }
+    false
+}
+
+#[cfg(test)]
+mod tests {
+    use super::*;
+    use rmt_values::{Items, Names};
+    use std::test::Fail;
+
+    fn name(alloc: Global, letter: u8) -> Result<Name, AllocError> {
+        Name::from_slice(alloc, &[letter])
+    }
+
+    /// The columns `u` of UInt64 and `s` of Strings.
+    fn schema(alloc: Global) -> Result<Schema, AllocError> {
+        let mut columns = Vec::new(alloc);
+        for (letter, kind) in [(b'u', Kind::UInt64), (b's', Kind::Text)] {
+            let name = name(alloc, letter)?;
+            columns.push(Column { name, kind })?;
+        }
+        Schema::new(alloc, columns, Vec::new(alloc), 8192, 100).map_err(|_| AllocError)
+    }
+
+    /// What the check tells of a query by these groups: how many items are asked for, or the refusal's first letter
+    /// and name.
+    fn told(
+        alloc: Global,
+        items: Vec<Item>,
+        group: &[u8],
+    ) -> Result<(usize, char, u8), AllocError> {
+        let mut names = Vec::new(alloc);
+        for letter in group {
+            names.push(name(alloc, *letter)?)?;
+        }
+        let query = Query {
+            items: Items::new(items),
+            filter: None,
+            group: Names::new(names),
+        };
+        let (word, name) = match check_query(alloc, &query, &schema(alloc)?) {
+            Ok(checked) => return Ok((checked.items.as_slice().len(), 'o', 0)),
+            Err(CheckError::UnknownColumn(name)) => ('u', name),
+            Err(CheckError::WrongType(name)) => ('w', name),
+            Err(CheckError::Memory) => return Err(AllocError),
+        };
+        match name.as_bytes() {
+            [letter] => Ok((0, word, *letter)),
+            _ => Ok((0, word, 0)),
+        }
+    }
+
+    #[test]
+    fn queries_are_checked(rt: HostRuntime) -> Result<(), Fail> {
+        let alloc = rt.alloc();
+        let (u, s) = (b'u', b's');
+        assert_eq!(rt; told(alloc, Vec::new(alloc), b"")?, (2, 'o', 0));
+        assert_eq!(rt; told(alloc, Vec::new(alloc), b"u")?, (0, 'w', s));
+        let items = vec![in alloc; Item::Column(name(alloc, u)?), Item::Count]?;
+        assert_eq!(rt; told(alloc, items, b"u")?, (2, 'o', 0));
+        let items = vec![in alloc; Item::Count, Item::Column(name(alloc, u)?)]?;
+        assert_eq!(rt; told(alloc, items, b"")?, (0, 'w', u));
+        let items = vec![in alloc; Item::Max(name(alloc, s)?), Item::Sum(name(alloc, s)?)]?;
+        assert_eq!(rt; told(alloc, items, b"x")?, (0, 'u', b'x'));
+        let items = vec![in alloc; Item::Max(name(alloc, s)?), Item::Sum(name(alloc, s)?)]?;
+        assert_eq!(rt; told(alloc, items, b"u")?, (0, 'w', s));
+        Ok(())
+    }
+}
