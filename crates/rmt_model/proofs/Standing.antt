@@ -182,7 +182,7 @@ fair-installed schema log i marked names e wanted new l q r s new-made over d n 
         against o = elim (Pairwise-cases Supersedes (made log) x new (later-covers schema log l) (was-made x h.0) new-made) [
           | inl p ↦ n x h.0 (subst (Covers x) p (Covers-refl x))
           | inr c ↦ elim c [
-              | inl u ↦ n x h.0 (u.covers o)
-              | inr u ↦ not-kept (covers new x) (covers-holds new x (u.covers (Overlap-sym x new o))) h.1
-            ]
+            | inl u ↦ n x h.0 (u.covers o)
+            | inr u ↦ not-kept (covers new x) (covers-holds new x (u.covers (Overlap-sym x new o))) h.1
+          ]
         ]
