@@ -14,7 +14,9 @@ use Rattle.rmt_entries.specs.Entries.{result_name}
 use Rattle.rmt_entries.specs.declared.entry.Entry.{Entry}
 use Rattle.rmt_model.specs.Live.{live, live_after}
 use Rattle.rmt_model.specs.Lawful.{Lawful, entry_at}
-use Rattle.rmt_history.specs.Copies.{entries, cells_of, IsMadeBy, maker_after, IsCopy, name_cmp}
+use Rattle.rmt_history.specs.Copies.{entries, cells_of, IsMadeBy, maker_after, drop_after, last_drop, partition_cmp, IsCopy, name_cmp}
+use Rattle.rmt_history.proofs.LastDrops.{drop-more}
+use Rattle.rmt_history.specs.declared.last_drop.LastDrop.{LastDrop}
 use Rattle.rmt_history.proofs.Makers.{made-more}
 
 pub map-snoc : {A B : Type 0} (f : A → B) (xs : List A) (x : A) → map f (xs ++ x ∷ []) ≡ map f xs ++ f x ∷ []
@@ -62,12 +64,13 @@ pub cells-snoc : (tokens : List (Token Entry)) (next : Token Entry) → cells_of
 cells-snoc tokens next = map-snoc (λ t. t.cell) tokens next
 
 -- a copy with its next token is a copy
-pub IsCopy-more : (schema : Shape) (tokens more : List (Token Entry)) (names after : List Name) (next : Token Entry) (index newer : BTreeMap Name ℕ)
-    → IsCopy schema tokens names index → next.place ≡ length (entries tokens) → Lawful schema (next.value ∷ entries tokens)
+pub IsCopy-more : (schema : Shape) (tokens more : List (Token Entry)) (names after : List Name) (next : Token Entry) (index newer : BTreeMap Name ℕ) (drops later : BTreeMap (Option ℕ) LastDrop)
+    → IsCopy schema tokens names index drops → next.place ≡ length (entries tokens) → Lawful schema (next.value ∷ entries tokens)
     → more ≡ tokens ++ next ∷ [] → after ≡ live_after next.value names
     → ((a : Name) → get name_cmp newer a ≡ maker_after (result_name next.value) (length tokens) (get name_cmp index a) a)
-    → IsCopy schema more after newer
-IsCopy-more schema tokens more names after next index newer c p l m a n =
+    → ((q : Option ℕ) → get partition_cmp later q ≡ drop_after next.value (length tokens) (get partition_cmp drops q) q)
+    → IsCopy schema more after newer later
+IsCopy-more schema tokens more names after next index newer drops later c p l m a n d =
     record {
       lawful = subst (Lawful schema) longer l;
       numbered = λ i t e. numbered i t (subst (λ (xs : List (Token Entry)). slice_get xs i ≡ Some t) m e);
@@ -75,6 +78,7 @@ IsCopy-more schema tokens more names after next index newer c p l m a n =
       indexed = λ b. subst (λ (log : List Entry). IsMadeBy log b (get name_cmp newer b)) longer
           (subst (IsMadeBy (next.value ∷ entries tokens) b) (sym (n b))
           (made-more next.value (entries tokens) b (result_name next.value) (length tokens) (get name_cmp index b) refl (sym (length-entries tokens)) (c.indexed b)));
+      dropped = λ q. d q ∙ (drop-more next.value (entries tokens) q (length tokens) (get partition_cmp drops q) (sym (length-entries tokens)) (c.dropped q) ∙ ap (λ (log : List Entry). last_drop log q) longer);
     }
   where
     longer : next.value ∷ entries tokens ≡ entries more

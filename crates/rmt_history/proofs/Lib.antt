@@ -1,6 +1,5 @@
-pub mod Ranges
-pub mod Placing
-pub mod Following
+pub mod NextLive
 pub mod Makers
+pub mod LastDrops
 pub mod Copied
 pub mod Played

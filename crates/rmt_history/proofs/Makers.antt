@@ -1,5 +1,5 @@
 -- Names told apart by their order, and the entries that make them.
-use Rattle.std.proofs.Common.{◌≡◌, ℕ, ◌<◌, Bool, true, false, cond, List, [], ◌∷◌, length, inl, inr, refl, sym, ap, subst, arith, ◌∙◌, nat_eq}
+use Rattle.std.proofs.Common.{◌≡◌, ℕ, Bool, true, false, cond, List, ◌∷◌, length, inl, inr, refl, sym, ap, subst, arith, ◌∙◌, nat_eq}
 use Rattle.std.proofs.lemmas.Bool.Decides.{nat_tests}
 use Rattle.std.proofs.lemmas.Map.Lookups.{CmpEqualImpliesEq, exact_pairs, exact_unsigned}
 use Rattle.std.proofs.lemmas.Cmp.{tied_itself, nat_cmp_total}
@@ -15,9 +15,10 @@ use Rattle.rmt_entries.specs.declared.entry.Entry.{Entry}
 use Rattle.rmt_model.specs.Words.{Has}
 use Rattle.rmt_model.specs.Live.{made, made_with}
 use Rattle.rmt_model.specs.Lawful.{entry_at}
+use Rattle.rmt_model.proofs.Drops.{entry-below}
 use Rattle.rmt_history.specs.Copies.{MakesAt, IsMadeBy, maker_after, name_cmp}
 
-exact-option : CmpEqualImpliesEq (option_cmp nat_cmp)
+pub exact-option : CmpEqualImpliesEq (option_cmp nat_cmp)
 exact-option None None e = refl
 exact-option None (Some q) e = absurd (cc)
 exact-option (Some p) None e = absurd (cc)
@@ -30,7 +31,7 @@ exact-names a b h =
     (exact_pairs (option_cmp nat_cmp) _ exact-option (exact_pairs nat_cmp _ exact_unsigned (exact_pairs nat_cmp _ exact_unsigned (exact_pairs nat_cmp nat_cmp exact_unsigned exact_unsigned)))
     (a.partition, (a.min, (a.max, (a.level, a.mutation)))) (b.partition, (b.min, (b.max, (b.level, b.mutation)))) h)
 
-alike : (r : Ordering) → is_eq r ≡ true → r ≡ Equal
+pub alike : (r : Ordering) → is_eq r ≡ true → r ≡ Equal
 alike Less e = absurd (cc)
 alike Equal e = refl
 alike Greater e = absurd (cc)
@@ -38,21 +39,12 @@ alike Greater e = absurd (cc)
 itself : (n : ℕ) → nat_cmp n n ≡ Equal
 itself n = tied_itself nat_cmp_total n
 
-option-itself : (p : Option ℕ) → option_cmp nat_cmp p p ≡ Equal
+pub option-itself : (p : Option ℕ) → option_cmp nat_cmp p p ≡ Equal
 option-itself None = refl
 option-itself (Some p) = itself p
 
 name-itself : (a : Name) → is_eq (name_cmp a a) ≡ true
 name-itself a = rw (option-itself a.partition, itself a.min, itself a.max, itself a.level, itself a.mutation) refl
-
--- an entry's place is below the length
-entry-below : (log : List Entry) (i : ℕ) (e : Entry) → entry_at log i ≡ Some e → i < length log
-entry-below [] i e h = absurd (cc)
-entry-below (x ∷ log) i e h = go (nat_eq i (length log)) refl h (entry-below log i e)
-  where
-    go : (b : Bool) → nat_eq i (length log) ≡ b → cond b (Some x) (entry_at log i) ≡ Some e → (entry_at log i ≡ Some e → i < length log) → i < length (x ∷ log)
-    go true q k f = let r : i ≡ length log = grind (arith, nat_tests) in omega (arith, r)
-    go false q k f = let r = f k in omega (arith, r)
 
 -- what an older entry made it has made
 older : (e : Entry) (log : List Entry) (i : ℕ) (a : Name) → MakesAt log i a → MakesAt (e ∷ log) i a

@@ -1,19 +1,21 @@
 -- What a copy of the front of a log keeps.
-use Rattle.std.specs.Prelude.{◌≡◌, ℕ, ◌≤◌, cond, List, ◌∷◌, map, reverse, slice_get, MatchOption}
+use Rattle.std.specs.Prelude.{◌≡◌, ℕ, ◌≤◌, ◌<◌, ◌&&◌, Bool, false, cond, nat_eq, nat_lt, nat_le, length, List, [], ◌∷◌, map, reverse, slice_get, MatchOption}
 use Rattle.std.specs.declared.option.Option.{Option}
 use Rattle.std.specs.declared.option.Option.TheVariants.{Some, None}
 use Rattle.std.specs.declared.cmp.Ordering.{Ordering}
 use Rattle.std.specs.Ordering.{is_eq, nat_cmp, ordering_then}
 use Rattle.std.specs.Option.{option_cmp}
 use Rattle.std.specs.BTreeMap.{BTreeMap, get}
-use Rattle.rmt_names.specs.Names.{Name}
+use Rattle.rmt_names.specs.Names.{Name, rank}
 use Rattle.rmt_values.specs.Rows.{Shape}
 use Rattle.rmt_row.specs.Token.{Token}
 use Rattle.rmt_entries.specs.Entries.{result_name}
 use Rattle.rmt_entries.specs.declared.entry.Entry.{Entry}
-use Rattle.rmt_model.specs.Words.{Has, Each, Pairwise}
-use Rattle.rmt_model.specs.Live.{Before, live, made}
+use Rattle.rmt_entries.specs.declared.entry.Entry.TheVariants.{Get, Merge, Mutate, Mutation, DropRange}
+use Rattle.rmt_model.specs.Words.{Has}
+use Rattle.rmt_model.specs.Live.{live, made}
 use Rattle.rmt_model.specs.Lawful.{Lawful, entry_at}
+use Rattle.rmt_history.specs.declared.last_drop.LastDrop.{LastDrop}
 
 -- a table's log: its schema, its entries, the newest first, and the cells that hold them, in the order of their places
 pub record History : Type 0 where
@@ -48,11 +50,6 @@ abbrev pub maker_after : Option Name → ℕ → Option ℕ → Name → Option 
 maker_after None place before a = before
 maker_after (Some new) place before a = cond (is_eq (name_cmp new a)) (Some place) before
 
--- names in order that share no number
-pub record AreApart (names : List Name) : Type 0 where
-  pub apart : Pairwise Before names
-  pub sized : Each (λ a. a.min ≤ a.max) names
-
 -- the names are the live ones of a lawful log, which goes on with the entry
 pub record GoesOn (entry : Entry) (names : List Name) : Type 0 where
   pub schema : Shape
@@ -60,9 +57,41 @@ pub record GoesOn (entry : Entry) (names : List Name) : Type 0 where
   pub lawful : Lawful schema (entry ∷ log)
   pub living : names ≡ live log
 
--- tokens of a lawful log, with its live names and the places at which its names were made
-pub record IsCopy (schema : Shape) (tokens : List (Token Entry)) (names : List Name) (index : BTreeMap Name ℕ) : Type 0 where
+-- the last drop of a partition
+abbrev pub last_drop : List Entry → Option ℕ → Option LastDrop
+last_drop [] p = None
+last_drop (Get q n digest source need ∷ log) p = last_drop log p
+last_drop (Merge new sources count ∷ log) p = last_drop log p
+last_drop (Mutate old new upto count mcount ∷ log) p = last_drop log p
+last_drop (Mutation id numbers command ∷ log) p = last_drop log p
+last_drop (DropRange q n ∷ log) p = cond (nat_eq (rank q) (rank p)) (Some (record { place = length log; number = n })) (last_drop log p)
+
+-- partitions as they stand in an index
+abbrev pub partition_cmp : Option ℕ → Option ℕ → Ordering
+partition_cmp p q = option_cmp nat_cmp p q
+
+-- the drop that is noted for a partition, once the entry at a place is there
+abbrev pub drop_after : Entry → ℕ → Option LastDrop → Option ℕ → Option LastDrop
+drop_after (Get q n digest source need) place before p = before
+drop_after (Merge new sources count) place before p = before
+drop_after (Mutate old new upto count mcount) place before p = before
+drop_after (Mutation id numbers command) place before p = before
+drop_after (DropRange q n) place before p = cond (is_eq (partition_cmp q p)) (Some (record { place = place; number = n })) before
+
+-- the drop stands behind the place and takes the name away
+abbrev pub TakesAfter : Option LastDrop → ℕ → Name → Type 0
+TakesAfter None i a = ⊥
+TakesAfter (Some d) i a = (i < d.place) × (a.max ≤ d.number)
+
+-- the same, as a test
+abbrev pub takes_after : Option LastDrop → ℕ → Name → Bool
+takes_after None i a = false
+takes_after (Some d) i a = nat_lt i d.place && nat_le a.max d.number
+
+-- tokens of a lawful log, with its live names, the places at which its names were made, and the last drop of each partition
+pub record IsCopy (schema : Shape) (tokens : List (Token Entry)) (names : List Name) (index : BTreeMap Name ℕ) (drops : BTreeMap (Option ℕ) LastDrop) : Type 0 where
   pub lawful : Lawful schema (entries tokens)
   pub numbered : (i : ℕ) (t : Token Entry) → slice_get tokens i ≡ Some t → t.place ≡ i
   pub living : names ≡ live (entries tokens)
   pub indexed : (a : Name) → IsMadeBy (entries tokens) a (get name_cmp index a)
+  pub dropped : (p : Option ℕ) → get partition_cmp drops p ≡ last_drop (entries tokens) p

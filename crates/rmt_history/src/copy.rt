@@ -1,16 +1,16 @@
-ghost use Rattle.std.specs.Prelude.{◌≡◌, ◌∷◌, [], ◌++◌, length, slice_get, IfSome, OnOk, OnErr, MatchOption, ◌≤◌};
+ghost use Rattle.std.specs.Prelude.{◌≡◌, ◌∷◌, [], ◌++◌, length, slice_get, IfSome, OnOk, OnErr, MatchOption, IsTrue, ◌≤◌, ◌<◌, ◌^◌, ◌↔◌};
 ghost use Rattle.std.specs.declared.option.Option.TheVariants.{Some};
 ghost use Rattle.std.specs.Arc.{arc_value};
-ghost use Rattle.rmt_model.specs.Live.{live as live_of};
+ghost use Rattle.rmt_model.specs.Live.{live as live_of, DroppedAfter};
 ghost use Rattle.rmt_model.specs.Lawful.{Lawful, entry_at};
-ghost use Rattle.std.specs.BTreeMap.{get};
-ghost use Rattle.rmt_names.specs.Names.{Name};
-ghost use Rattle.rmt_history.specs.Copies.{IsMadeBy, maker_after, name_cmp};
+ghost use Rattle.rmt_history.specs.Copies.{IsMadeBy};
 
-use crate::live::follow;
+use crate::following::{follow, note};
+use crate::last_drop::{LastDrop, takes_after};
 use crate::name_key::NameKey;
-use rmt_entries::{Entry, result_of};
-use rmt_names::PartName;
+use rmt_entries::Entry;
+use rmt_names::{PartName, PartitionId};
+use rmt_nameset::NameSet;
 use rmt_row::Seen;
 use rmt_values::Schema;
 use std::alloc::{AllocError, Global};
@@ -24,8 +24,9 @@ use std::sync::Arc;
 pub struct LogCopy {
     schema: Arc<Schema, Global>,
     seen: Vec<Seen<Entry>>,
-    live: Vec<PartName>,
+    live: NameSet,
     makers: BTreeMap<NameKey, usize>,
+    drops: BTreeMap<PartitionId, LastDrop>,
 }
 
 impl Model for LogCopy {
@@ -40,22 +41,7 @@ impl Model for LogCopy {
 
     ghost view = { λ c. record { schema = arc_value c.schema; log = entries c.seen.items; cells = cells_of c.seen.items } };
 
-    ghost invariant = { λ c. IsCopy (arc_value c.schema) c.seen.items c.live.items c.makers };
-}
-
-// Notes the place of the entry that makes the name, if it makes one.
-fn note_maker(
-    makers: &mut BTreeMap<NameKey, usize>,
-    made: Option<PartName>,
-    place: usize,
-) -> Result<(), AllocError>
-    ensures ok { OnOk result ((a : Name) → get name_cmp makers.new a ≡ maker_after made place (get name_cmp makers.old a) a) }
-    ensures err { OnErr result (makers.new.entries ≡ makers.old.entries) }
-{
-    if let Some(name) = made {
-        makers.insert(NameKey::of(&name), place)?;
-    }
-    Ok(())
+    ghost invariant = { λ c. IsCopy (arc_value c.schema) c.seen.items c.live.names c.makers c.drops };
 }
 
 impl LogCopy {
@@ -66,14 +52,16 @@ impl LogCopy {
         LogCopy {
             schema,
             seen: Vec::new(alloc),
-            live: Vec::new(alloc),
+            live: NameSet::new(alloc),
             makers: BTreeMap::new(alloc),
+            drops: BTreeMap::new(alloc),
         }
     }
 
     /// How many entries it has.
     pub fn len(&self) -> usize
-        ensures { result ≡ length self.now.log }
+        ensures len { result ≡ length self.now.log }
+        ensures small { result < 2 ^ 63 }
     {
         self.seen.len()
     }
@@ -103,10 +91,11 @@ impl LogCopy {
         ensures err { OnErr result (self.new ≡ self.old) }
     {
         self.seen.reserve(1)?;
-        self.live.reserve(1)?;
-        note_maker(&mut self.makers, result_of(next.value()), self.seen.len())?;
-        follow(&mut self.live, next.value())?;
-        self.seen.push(next)?;
+        self.live.reserve()?;
+        let place = self.seen.len();
+        note(&mut self.makers, &mut self.drops, next.value(), place)?;
+        follow(&mut self.live, next.value());
+        self.seen.push(next).unwrap();
         Ok(())
     }
 
@@ -114,7 +103,7 @@ impl LogCopy {
     pub fn live(&self) -> &[PartName]
         ensures { result.now ≡ live_of self.now.log }
     {
-        &self.live
+        self.live.as_slice()
     }
 
     /// The place of the entry that makes the name; none where no entry does.
@@ -122,5 +111,13 @@ impl LogCopy {
         ensures { IsMadeBy self.now.log name.now result }
     {
         self.makers.get(&NameKey::of(name)).copied()
+    }
+
+    /// Whether a drop that stands behind the place takes the name away.
+    pub fn dropped_after(&self, i: usize, name: &PartName) -> bool
+        ensures { IsTrue result ↔ DroppedAfter self.now.log i name.now }
+    {
+        let last = self.drops.get(&name.partition()).copied();
+        takes_after(last, i, name)
     }
 }

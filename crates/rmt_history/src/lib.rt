@@ -3,8 +3,9 @@
 #![tactic(auto)]
 
 mod copy;
+mod following;
+mod last_drop;
 pub mod laws;
-mod live;
 mod name_key;
 #[cfg(test)]
 mod tests;

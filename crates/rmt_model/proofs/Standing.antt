@@ -4,26 +4,19 @@ use Rattle.std.proofs.lemmas.Bool.Decides.{nat_tests}
 use Rattle.std.specs.declared.option.Option.{Option}
 use Rattle.std.specs.declared.option.Option.TheVariants.{Some, None}
 use Rattle.rmt_values.specs.Rows.{Shape}
-use Rattle.rmt_names.specs.Names.{Name, Covers, covers, Overlap}
+use Rattle.rmt_names.specs.Names.{Name, rank, Covers, covers, Overlap}
 use Rattle.rmt_entries.specs.Entries.{result_name}
 use Rattle.rmt_entries.specs.declared.entry.Entry.{Entry}
-use Rattle.rmt_entries.specs.declared.entry.Entry.TheVariants.{Get, Merge, Mutate, Mutation, DropRange}
-use Rattle.rmt_model.specs.Words.{Has, Each, Pairwise}
-use Rattle.rmt_model.specs.Live.{Before, placed, made, made_with, TakesAway, Dropped}
+use Rattle.rmt_entries.specs.declared.entry.Entry.TheVariants.{DropRange}
+use Rattle.rmt_model.specs.Words.{Has}
+use Rattle.rmt_model.specs.Live.{Before, placed, in_drop, made, TakesAway, Dropped}
 use Rattle.rmt_model.specs.Lawful.{Lawful, entry_at}
 use Rattle.rmt_model.specs.Laws.{Supersedes}
 use Rattle.rmt_model.specs.Fair.{CoveredBy, MadeAtMark, DroppedAtMark, AreFair}
-use Rattle.rmt_model.proofs.Lists.{Each-at, Each-all, Has-filter, Pairwise-filter, Pairwise-inserted}
+use Rattle.rmt_model.proofs.Lists.{Each-at, Each-all, Has-filter, Has-kept, Pairwise-filter, Pairwise-inserted, rank-injective}
 use Rattle.rmt_model.proofs.LiveLaws.{Covers-refl, Has-placed, placed-new, covered-placed, covers-holds, apart-or-overlap, Overlap-sym, not-kept, Pairwise-cases, later-covers}
 use Rattle.rmt_model.proofs.VersionLaws.{made-sized}
-
--- what was made stays made
-pub made-more : (e : Entry) (log : List Entry) (a : Name) → Has (made log) a → Has (made (e ∷ log)) a
-made-more (Get p n digest source need) log a h = inr h
-made-more (Merge new sources count) log a h = inr h
-made-more (Mutate old new upto count mcount) log a h = inr h
-made-more (Mutation id numbers command) log a h = h
-made-more (DropRange p n) log a h = h
+use Rattle.rmt_model.proofs.Drops.{some-same, made-more, makes-no-drop, entry-has, drop-takes, marked-made}
 
 -- no names are fair for no marks
 pub fair-none : (log : List Entry) (marked : ℕ → Bool) → ((i : ℕ) → marked i ≡ false) → AreFair log marked []
@@ -78,9 +71,6 @@ other-mark i j marked f q = go (nat_eq j i) f q
 earlier-mark : (i j n : ℕ) (marked : ℕ → Bool) → i ≡ n → j < n → with_mark i marked j ≡ true → marked j ≡ true
 earlier-mark i j n marked e l q = other-mark i j marked (grind (arith, nat_tests)) q
 
-pub some-same : {A : Type 0} (a b : A) → ◌≡◌ {A = Option A} (Some a) (Some b) → a ≡ b
-some-same a b e = cc
-
 -- what is made at one more mark was made at the marks, or is made there
 made-marked : (log : List Entry) (i : ℕ) (marked : ℕ → Bool) (a : Name) (e : Entry) → entry_at log i ≡ Some e → MadeAtMark log (with_mark i marked) a → (result_name e ≡ Some a) ⊎ MadeAtMark log marked a
 made-marked [] i marked a e q h = absurd h
@@ -98,40 +88,65 @@ made-marked (x ∷ log) i marked a e q h = go (nat_eq i (length log)) refl q h (
         inr (inl (other-mark i (length log) marked n h.0, h.1))
     go false t q (inr h) f = elim (f q h) [ inl k ↦ inl k | inr k ↦ inr (inr k) ]
 
--- an entry that makes a name takes none away
-makes-no-drop : (e : Entry) (new x : Name) → result_name e ≡ Some new → TakesAway e x → ⊥
-makes-no-drop (Get p n digest source need) new x q t = t
-makes-no-drop (Merge new' sources count) new x q t = t
-makes-no-drop (Mutate old new' upto count mcount) new x q t = t
-makes-no-drop (Mutation id numbers command) new x q t = t
-makes-no-drop (DropRange p n) new x q t = absurd (cc)
-
-dropped-marked : (log : List Entry) (i : ℕ) (marked : ℕ → Bool) (x : Name) (e : Entry) (new : Name) → entry_at log i ≡ Some e → result_name e ≡ Some new → DroppedAtMark log (with_mark i marked) x → DroppedAtMark log marked x
-dropped-marked [] i marked x e new q r h = absurd h
-dropped-marked (y ∷ log) i marked x e new q r h = go (nat_eq i (length log)) refl q h (dropped-marked log i marked x e new)
+-- what is dropped at one more mark was dropped at the marks, or is taken away there
+pub dropped-marked : (log : List Entry) (i : ℕ) (marked : ℕ → Bool) (x : Name) (e : Entry) → entry_at log i ≡ Some e → DroppedAtMark log (with_mark i marked) x → DroppedAtMark log marked x ⊎ TakesAway e x
+dropped-marked [] i marked x e q h = absurd h
+dropped-marked (y ∷ log) i marked x e q h = go (nat_eq i (length log)) refl q h (dropped-marked log i marked x e)
   where
     go : (b : Bool) → nat_eq i (length log) ≡ b → cond b (Some y) (entry_at log i) ≡ Some e → DroppedAtMark (y ∷ log) (with_mark i marked) x
-        → (entry_at log i ≡ Some e → result_name e ≡ Some new → DroppedAtMark log (with_mark i marked) x → DroppedAtMark log marked x)
-        → DroppedAtMark (y ∷ log) marked x
+        → (entry_at log i ≡ Some e → DroppedAtMark log (with_mark i marked) x → DroppedAtMark log marked x ⊎ TakesAway e x)
+        → DroppedAtMark (y ∷ log) marked x ⊎ TakesAway e x
     go true t q (inl h) f =
         let n : i ≡ length log = grind (arith, nat_tests) in
-        inl (dropped-same log (with_mark i marked) marked x (λ j l m. earlier-mark i j (length log) marked n l m) h)
-    go true t q (inr h) f = absurd (makes-no-drop e new x r (subst (λ (z : Entry). TakesAway z x) (some-same y e q) h.2))
-    go false t q (inl h) f = inl (f q r h)
+        inl (inl (dropped-same log (with_mark i marked) marked x (λ j l m. earlier-mark i j (length log) marked n l m) h))
+    go true t q (inr h) f = inr (subst (λ (z : Entry). TakesAway z x) (some-same y e q) h.2)
+    go false t q (inl h) f = elim (f q h) [ inl k ↦ inl (inl k) | inr k ↦ inr k ]
     go false t q (inr h) f =
         let n : nat_eq (length log) i ≡ false = grind (arith, nat_tests) in
-        inr (other-mark i (length log) marked n h.0, h.1, h.2)
+        inl (inr (other-mark i (length log) marked n h.0, h.1, h.2))
 
--- what the entry at a place makes was made
-pub entry-made : (log : List Entry) (i : ℕ) (e : Entry) (a : Name) → entry_at log i ≡ Some e → result_name e ≡ Some a → Has (made log) a
-entry-made [] i e a q r = absurd (cc)
-entry-made (x ∷ log) i e a q r = go (nat_eq i (length log)) q (entry-made log i e a)
+-- an entry that takes nothing away drops nothing
+pub dropped-before : (log : List Entry) (i : ℕ) (marked : ℕ → Bool) (x : Name) (e : Entry) → entry_at log i ≡ Some e → (TakesAway e x → ⊥) → DroppedAtMark log (with_mark i marked) x → DroppedAtMark log marked x
+dropped-before log i marked x e q t h = elim (dropped-marked log i marked x e q h) [ inl k ↦ k | inr k ↦ absurd (t k) ]
+
+-- to mark an entry that makes nothing and takes nothing away leaves names fair
+pub fair-looked : (log : List Entry) (i : ℕ) (marked : ℕ → Bool) (names : List Name) (e : Entry) → entry_at log i ≡ Some e → result_name e ≡ None → ((x : Name) → TakesAway e x → ⊥) → AreFair log marked names → AreFair log (with_mark i marked) names
+fair-looked log i marked names e q r t s =
+    record {
+      apart = s.apart;
+      made_here = s.made_here;
+      kept = Each-all (λ a. DroppedAtMark log (with_mark i marked) a → ⊥) names (λ a h d. Each-at (λ a. DroppedAtMark log marked a → ⊥) names a s.kept h (dropped-before log i marked a e q (t a) d));
+      answered = λ a h. elim (made-marked log i marked a e q h) [ inl m ↦ absurd (cc) | inr m ↦ s.answered a m ];
+    }
+
+-- to mark a drop, and to take away the names in its range, leaves names fair
+pub fair-dropped : (schema : Shape) (log : List Entry) (i : ℕ) (marked : ℕ → Bool) (names : List Name) (p : Option ℕ) (n : ℕ) → Lawful schema log → entry_at log i ≡ Some (DropRange p n) → AreFair log marked names → AreFair log (with_mark i marked) (filter (λ a. not (in_drop p n a)) names)
+fair-dropped schema log i marked names p n l q s =
+    record {
+      apart = Pairwise-filter Before stays names s.apart;
+      made_here = Each-all (λ a. Has (made log) a) (filter stays names) (λ a h. Each-at (λ a. Has (made log) a) names a s.made_here (Has-filter stays names a h).0);
+      kept = Each-all (λ a. DroppedAtMark log (with_mark i marked) a → ⊥) (filter stays names) (λ a h d. kept a (Has-filter stays names a h) (dropped-marked log i marked a (DropRange p n) q d));
+      answered = λ a h. elim (made-marked log i marked a (DropRange p n) q h) [ inl m ↦ absurd (cc) | inr m ↦ answered a m (s.answered a m) ];
+    }
   where
-    go : (b : Bool) → cond b (Some x) (entry_at log i) ≡ Some e → (entry_at log i ≡ Some e → result_name e ≡ Some a → Has (made log) a) → Has (made (x ∷ log)) a
-    go true q f =
-        let s : result_name x ≡ Some a = ap result_name (some-same x e q) ∙ r in
-        subst (λ (m : Option Name). Has (made_with m (made log)) a) (sym s) (inl refl)
-    go false q f = made-more x log a (f q r)
+    stays : Name → Bool
+    stays a = not (in_drop p n a)
+
+    kept : (a : Name) → Has names a × (stays a ≡ true) → DroppedAtMark log marked a ⊎ ((p ≡ a.partition) × (a.max ≤ n)) → ⊥
+    kept a h (inl d) = Each-at (λ a. DroppedAtMark log marked a → ⊥) names a s.kept h.0 d
+    kept a h (inr t) = let e : rank p ≡ rank a.partition = ap rank t.0 in let m = t.1 in let k = h.1 in absurd (grind (arith, nat_tests))
+
+    answered : (a : Name) → MadeAtMark log marked a → CoveredBy names a ⊎ Dropped log a → CoveredBy (filter stays names) a ⊎ Dropped log a
+    answered a m (inr d) = inr d
+    answered a m (inl c) = go (in_drop p n c.name) refl
+      where
+        go : (b : Bool) → in_drop p n c.name ≡ b → CoveredBy (filter stays names) a ⊎ Dropped log a
+        go false e = inl (record { name = c.name; is_in = Has-kept stays names c.name c.is_in (ap not e); covers = c.covers })
+        go true e =
+            let k = c.covers.max in
+            let r : rank p ≡ rank c.name.partition = grind (arith, nat_tests) in
+            let u : c.name.max ≤ n = grind (arith, nat_tests) in
+            inr (drop-takes schema log p n a l (entry-has log i (DropRange p n) q) (marked-made log marked a m) (rank-injective p c.name.partition r ∙ c.covers.partition) (omega (arith, k, u)))
 
 -- to mark the maker of a name that is covered or dropped leaves names fair
 pub fair-marked : (log : List Entry) (i : ℕ) (marked : ℕ → Bool) (names : List Name) (e : Entry) (new : Name) → entry_at log i ≡ Some e → result_name e ≡ Some new → AreFair log marked names → CoveredBy names new ⊎ Dropped log new → AreFair log (with_mark i marked) names
@@ -139,7 +154,7 @@ fair-marked log i marked names e new q r s k =
     record {
       apart = s.apart;
       made_here = s.made_here;
-      kept = Each-all (λ a. DroppedAtMark log (with_mark i marked) a → ⊥) names (λ a h d. Each-at (λ a. DroppedAtMark log marked a → ⊥) names a s.kept h (dropped-marked log i marked a e new q r d));
+      kept = Each-all (λ a. DroppedAtMark log (with_mark i marked) a → ⊥) names (λ a h d. Each-at (λ a. DroppedAtMark log marked a → ⊥) names a s.kept h (dropped-before log i marked a e q (makes-no-drop e new a r) d));
       answered = λ a h. elim (made-marked log i marked a e q h) [
         | inl m ↦ subst (λ (x : Name). CoveredBy names x ⊎ Dropped log x) (some-same new a (sym r ∙ m)) k
         | inr m ↦ s.answered a m
@@ -155,7 +170,7 @@ fair-installed schema log i marked names e wanted new l q r s new-made over d n 
           (λ x h. sized x (Has-filter keeps names x h).0)
           (λ x h. apart x (Has-filter keeps names x h));
       made_here = Each-all (λ a. Has (made log) a) (placed new names) (λ a h. elim (Has-placed new names a h) [ inl p ↦ subst (Has (made log)) p new-made | inr k ↦ was-made a k ]);
-      kept = Each-all (λ a. DroppedAtMark log (with_mark i marked) a → ⊥) (placed new names) (λ a h t. kept a (Has-placed new names a h) (dropped-marked log i marked a e wanted q r t));
+      kept = Each-all (λ a. DroppedAtMark log (with_mark i marked) a → ⊥) (placed new names) (λ a h t. kept a (Has-placed new names a h) (dropped-before log i marked a e q (makes-no-drop e wanted a r) t));
       answered = λ a h. elim (made-marked log i marked a e q h) [
         | inl m ↦ inl (record { name = new; is_in = placed-new new names; covers = subst (Covers new) (some-same wanted a (sym r ∙ m)) over })
         | inr m ↦ elim (s.answered a m) [ inl c ↦ inl (covered-placed new names a c) | inr t ↦ inr t ]
@@ -186,3 +201,13 @@ fair-installed schema log i marked names e wanted new l q r s new-made over d n 
             | inr u ↦ not-kept (covers new x) (covers-holds new x (u.covers (Overlap-sym x new o))) h.1
           ]
         ]
+
+-- names that are fair for some marks are fair for fewer
+pub fair-fewer : (log : List Entry) (m m' : ℕ → Bool) (names : List Name) → ((j : ℕ) → j < length log → m j ≡ true → m' j ≡ true) → AreFair log m' names → AreFair log m names
+fair-fewer log m m' names f s =
+    record {
+      apart = s.apart;
+      made_here = s.made_here;
+      kept = Each-all (λ a. DroppedAtMark log m a → ⊥) names (λ a h d. Each-at (λ a. DroppedAtMark log m' a → ⊥) names a s.kept h (dropped-same log m m' a f d));
+      answered = λ a h. s.answered a (made-same log m m' a f h);
+    }

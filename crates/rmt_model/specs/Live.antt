@@ -1,6 +1,6 @@
 -- What is live after a list of entries. A log is a list of entries, the newest first,
 -- so the place of an entry is the number of those behind it.
-use Rattle.std.specs.Prelude.{◌≡◌, ℕ, ◌<◌, ◌≤◌, ◌⊎◌, ◌&&◌, ◌||◌, Bool, cond, not, nat_eq, nat_lt, nat_le, List, [], ◌∷◌, filter}
+use Rattle.std.specs.Prelude.{◌≡◌, ℕ, ◌<◌, ◌≤◌, ◌⊎◌, ◌&&◌, ◌||◌, Bool, cond, not, nat_eq, nat_lt, nat_le, List, [], ◌∷◌, filter, length}
 use Rattle.std.specs.declared.option.Option.{Option}
 use Rattle.std.specs.declared.option.Option.TheVariants.{Some, None}
 use Rattle.rmt_names.specs.Names.{Name, rank, covers, block_name}
@@ -65,3 +65,8 @@ TakesAway (DropRange p n) a = (p ≡ a.partition) × (a.max ≤ n)
 abbrev pub Dropped : List Entry → Name → Type 0
 Dropped [] a = ⊥
 Dropped (e ∷ log) a = Dropped log a ⊎ (Has (made log) a × TakesAway e a)
+
+-- a drop that stands behind the place takes the name away
+abbrev pub DroppedAfter : List Entry → ℕ → Name → Type 0
+DroppedAfter [] i a = ⊥
+DroppedAfter (e ∷ log) i a = DroppedAfter log i a ⊎ ((i < length log) × TakesAway e a)

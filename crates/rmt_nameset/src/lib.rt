@@ -1,0 +1,10 @@
+//! Names of parts in order, of which no two share a number: a new one takes the place of those that it covers.
+#![tactic(auto)]
+
+mod name_set;
+mod range;
+mod replacing;
+mod searching;
+
+pub use name_set::NameSet;
+pub use range::Range;

@@ -1,0 +1,74 @@
+-- Steps of a replica, and what stands after each.
+use Rattle.std.proofs.Common.{◌≡◌, ℕ, zero, suc, ◌+◌, ◌-◌, ◌≤◌, Bool, false, List, [], ◌∷◌, ◌++◌, length, take, refl, sym, ap, subst, arith, ◌∙◌}
+use Rattle.std.specs.Prelude.{replicate}
+use Rattle.rmt_entries.specs.declared.entry.Entry.{Entry}
+use Rattle.rmt_model.specs.Lawful.{Lawful}
+use Rattle.rmt_model.proofs.Lists.{Each-at, Each-all}
+use Rattle.rmt_model.proofs.Drops.{entry-older}
+use Rattle.rmt_model.proofs.Standing.{fair-more, fair-fewer}
+use Rattle.rmt_history.specs.Copies.{History}
+use Rattle.rmt_queue.specs.Marks.{done_at, grown}
+use Rattle.rmt_replica.specs.Parts.{BlockPart, IsBlockPart, part_names}
+use Rattle.rmt_replica.specs.Staged.{Staged}
+use Rattle.rmt_replica.specs.Replicas.{ReplicaView, IsOfCopy, IsStandingReplica, HasMarks, IsReplica, replica_of}
+use Rattle.rmt_replica.proofs.MarkLemmas.{past-false, false-behind, take-grown, done-snoc}
+
+-- the marks of a copy with one more entry
+pub marks-more : (log : List Entry) (e : Entry) (marks more : List Bool) (n : ℕ) → length log ≤ length marks → ((i : ℕ) → length log ≤ i → done_at marks i ≡ false) → n ≡ length log + 1 → more ≡ grown marks n → take (length (e ∷ log)) more ≡ take (length log) marks ++ false ∷ []
+marks-more log e marks more n l f p q =
+    let s : n ≡ suc (length log) = omega (arith, p) in
+    ap (take (suc (length log))) (q ∙ ap (λ k. grown marks k) s) ∙ take-grown (length log) marks l f
+
+pub has-marks-more : (old new : History) (e : Entry) (marks more : List Bool) (n : ℕ) → HasMarks old marks → new.log ≡ e ∷ old.log → n ≡ length old.log + 1 → more ≡ grown marks n → HasMarks new more
+has-marks-more old new e marks more n h l p q = record {
+  enough = let a = ap (λ (x : List Entry). length x) l in let b = ap (λ (x : List Bool). length x) q in let c = length-grown marks n in omega (arith, a, b, c, p);
+  none_past = λ i m.
+      let a = ap (λ (x : List Entry). length x) l in
+      ap (λ (x : List Bool). done_at x i) q ∙ false-behind marks (n - length marks) i (h.none_past i (omega (arith, m, a)));
+}
+  where
+    length-replicate-is : (k : ℕ) → length (replicate k false) ≡ k
+    length-replicate-is zero = refl
+    length-replicate-is (suc k) = ap suc (length-replicate-is k)
+
+    length-append-is : (xs ys : List Bool) → length (xs ++ ys) ≡ length xs + length ys
+    length-append-is [] ys = omega arith
+    length-append-is (x ∷ xs) ys = let r = length-append-is xs ys in omega (arith, r)
+
+    length-grown : (xs : List Bool) (k : ℕ) → k ≤ length (grown xs k)
+    length-grown xs k = let a = length-append-is xs (replicate (k - length xs) false) in let b = length-replicate-is (k - length xs) in omega (arith, a, b)
+
+-- one more entry of the log leaves a replica standing
+pub standing-more : (r : ReplicaView) (e : Entry) (cell : ℕ) → IsStandingReplica r → Lawful r.schema (e ∷ r.log) → IsStandingReplica (record r { log = e ∷ r.log; cells = r.cells ++ cell ∷ []; done = r.done ++ false ∷ [] })
+standing-more r e cell s l = record {
+  lawful = l;
+  marks = length-snoc r.done ∙ ap suc s.marks;
+  fair = fair-fewer (e ∷ r.log) (done_at (r.done ++ false ∷ [])) (done_at r.done) (part_names r.parts) (λ j k m. done-snoc r.done j m)
+      (fair-more e r.log (done_at r.done) (part_names r.parts) (past-false r.done (length r.log) (let m = s.marks in omega (arith, m))) s.fair);
+  made = Each-all (λ p. IsOfCopy (e ∷ r.log) p × IsBlockPart p) r.parts (λ p h.
+      let k = Each-at (λ p. IsOfCopy r.log p × IsBlockPart p) r.parts p s.made h in
+      (entry-older e r.log p.made.place p.made.value k.0, k.1));
+}
+  where
+    length-snoc : (xs : List Bool) → length (xs ++ false ∷ []) ≡ suc (length xs)
+    length-snoc [] = refl
+    length-snoc (x ∷ xs) = ap suc (length-snoc xs)
+
+-- the replica with one more entry
+abbrev pub with_entry : ReplicaView → Entry → ℕ → ReplicaView
+with_entry r e cell = record r { log = e ∷ r.log; cells = r.cells ++ cell ∷ []; done = r.done ++ false ∷ [] }
+
+pub view-more : (number : ℕ) (up : Bool) (old new : History) (e : Entry) (cell : ℕ) (marks more : List Bool) (n : ℕ) (parts : List BlockPart) (staged : Staged) → HasMarks old marks
+    → new ≡ record old { log = e ∷ old.log; cells = old.cells ++ cell ∷ [] } → n ≡ length old.log + 1 → more ≡ grown marks n
+    → replica_of number up new more parts staged ≡ with_entry (replica_of number up old marks parts staged) e cell
+view-more number up old new e cell marks more n parts staged h l p q =
+    ap (λ (c : History). replica_of number up c more parts staged) l
+    ∙ ap (λ (ms : List Bool). record { number = number; up = up; schema = old.schema; log = e ∷ old.log; cells = old.cells ++ cell ∷ []; done = ms; parts = parts; staged = staged }) (marks-more old.log e marks more n h.enough h.none_past p q)
+
+pub replica-more : (number : ℕ) (up : Bool) (old new : History) (e : Entry) (cell : ℕ) (marks more : List Bool) (n : ℕ) (parts : List BlockPart) (staged : Staged) → IsReplica old marks (replica_of number up old marks parts staged)
+    → new ≡ record old { log = e ∷ old.log; cells = old.cells ++ cell ∷ [] } → n ≡ length old.log + 1 → more ≡ grown marks n → Lawful old.schema (e ∷ old.log)
+    → IsReplica new more (replica_of number up new more parts staged)
+replica-more number up old new e cell marks more n parts staged r l p q w = record {
+  marked = has-marks-more old new e marks more n r.marked (ap (λ (c : History). c.log) l) p q;
+  standing = subst IsStandingReplica (sym (view-more number up old new e cell marks more n parts staged r.marked l p q)) (standing-more (replica_of number up old marks parts staged) e cell r.standing w);
+}

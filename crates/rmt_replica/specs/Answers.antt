@@ -1,0 +1,182 @@
+-- What a replica answers when an entry is to be done, why, and what changes.
+-- ClickHouse documentation, Data Replication: a part that exists already or was dropped is not made again; a missing part is
+-- fetched from another replica.
+use Rattle.std.specs.Prelude.{◌≡◌, ◌⊎◌, ℕ, ◌<◌, true, false, List, not, filter, length, slice_set, MatchOption, IfSome}
+use Rattle.std.specs.declared.option.Option.{Option}
+use Rattle.std.specs.declared.option.Option.TheVariants.{Some, None}
+use Rattle.std.specs.declared.result.Result.{Result}
+use Rattle.std.specs.declared.result.Result.TheVariants.{Ok, Err}
+use Rattle.rmt_names.specs.Names.{Name, Covers, block_name}
+use Rattle.rmt_entries.specs.declared.entry.Entry.{Entry}
+use Rattle.rmt_entries.specs.declared.entry.Entry.TheVariants.{Get, Merge, Mutate, Mutation, DropRange}
+use Rattle.rmt_model.specs.Words.{Has, Each}
+use Rattle.rmt_model.specs.Live.{Dropped, in_drop}
+use Rattle.rmt_model.specs.Lawful.{entry_at, is_mutation}
+use Rattle.rmt_model.specs.Fair.{CoveredBy}
+use Rattle.rmt_history.specs.Copies.{MakesAt}
+use Rattle.rmt_queue.specs.Marks.{done_at}
+use Rattle.rmt_replica.specs.declared.supply.Supply.{Supply}
+use Rattle.rmt_replica.specs.Supplies.{supplied}
+use Rattle.rmt_replica.specs.declared.applied.Applied.{Applied}
+use Rattle.rmt_replica.specs.declared.applied.Applied.TheVariants as applied
+use Rattle.rmt_replica.specs.declared.apply_error.ApplyError.{ApplyError}
+use Rattle.rmt_replica.specs.declared.apply_error.ApplyError.TheVariants as errors
+use Rattle.rmt_replica.specs.declared.state.State.{State}
+use Rattle.rmt_replica.specs.declared.state.State.TheVariants as states
+use Rattle.rmt_replica.specs.declared.why.Why.{Why}
+use Rattle.rmt_replica.specs.declared.why.Why.TheVariants as whys
+use Rattle.rmt_replica.specs.Parts.{BlockPart, IsBlockPart, IsFirstInactive, part_names, Installs, TakesParts}
+use Rattle.rmt_replica.specs.Staged.{Staged, staged_at, without}
+use Rattle.rmt_replica.specs.Replicas.{ReplicaView, IsOfCopy}
+
+-- ---- how an entry stands
+
+-- an active part covers the entry's result
+pub record IsCoveredEntry (r : ReplicaView) (i : ℕ) : Type 0 where
+  pub name : Name
+  pub makes : MakesAt r.log i name
+  pub covered : CoveredBy (part_names r.parts) name
+
+-- a later drop takes the entry's result away
+pub record IsDroppedEntry (r : ReplicaView) (i : ℕ) : Type 0 where
+  pub name : Name
+  pub makes : MakesAt r.log i name
+  pub dropped : Dropped r.log name
+
+-- the entry is a Mutation
+pub record IsMutationEntry (r : ReplicaView) (i : ℕ) : Type 0 where
+  pub entry : Entry
+  pub stands : entry_at r.log i ≡ Some entry
+  pub is : is_mutation entry ≡ true
+
+-- nothing is left to do: the entry is done, a Mutation, or covered
+abbrev pub IsAlready : ReplicaView → ℕ → Type 0
+IsAlready r i = (done_at r.done i ≡ true) ⊎ (IsMutationEntry r i ⊎ IsCoveredEntry r i)
+
+-- the entry is neither that nor dropped
+pub record Waits (r : ReplicaView) (i : ℕ) : Type 0 where
+  pub open_entry : IsAlready r i → ⊥
+  pub not_dropped : IsDroppedEntry r i → ⊥
+
+-- ---- supplies
+
+-- the part was made by the entry that the copy has at its place, if it has that place
+abbrev pub IsOfTable : ReplicaView → BlockPart → Type 0
+IsOfTable r part = part.made.place < length r.log → IsOfCopy r.log part
+
+-- the part that is supplied covers the name and was made within the copy
+pub record Serves (r : ReplicaView) (a : Name) (supply : Supply) : Type 0 where
+  pub part : BlockPart
+  pub given : supplied supply ≡ Some part
+  pub covers : Covers part.name a
+  pub within : part.made.place < length r.log
+
+-- the entry is a drop, or makes a name that is supplied
+abbrev pub CanBeDone : ReplicaView → ℕ → Supply → Type 0
+CanBeDone r i supply = ((p : Option ℕ) × (n : ℕ) × (entry_at r.log i ≡ Some (DropRange p n))) ⊎ ((a : Name) × MakesAt r.log i a × Serves r a supply)
+
+-- ---- apply
+
+-- each answer and its cause; want of memory is free where the replica is up
+abbrev pub IsAnswer : ReplicaView → ℕ → Supply → Result Applied ApplyError → Type 0
+IsAnswer r i supply (Err errors.Down) = r.up ≡ false
+IsAnswer r i supply (Err errors.Memory) = r.up ≡ true
+IsAnswer r i supply (Ok applied.Already) = (r.up ≡ true) × IsAlready r i
+IsAnswer r i supply (Ok applied.Dropped) = (r.up ≡ true) × (IsAlready r i → ⊥) × IsDroppedEntry r i
+IsAnswer r i supply (Ok applied.Installed) = (r.up ≡ true) × Waits r i × CanBeDone r i supply
+IsAnswer r i supply (Err (errors.NeedsPart a)) = (r.up ≡ true) × Waits r i × MakesAt r.log i a × (Serves r a supply → ⊥)
+
+-- what is staged once the entry is done: without the block of its Get
+abbrev pub released : Option Entry → Staged → Staged
+released None staged = staged
+released (Some (Get p n digest source need)) staged = without staged (record { partition = p; number = n })
+released (Some (Merge new sources count)) staged = staged
+released (Some (Mutate old new upto count mcount)) staged = staged
+released (Some (Mutation id numbers command)) staged = staged
+released (Some (DropRange p n)) staged = staged
+
+-- the entry is marked as done
+abbrev pub settled : ReplicaView → ℕ → ReplicaView
+settled r i = record r { done = slice_set r.done i true; staged = released (entry_at r.log i) r.staged }
+
+-- the active parts once the entry is done: without those of its drop, or with the part that was supplied
+abbrev pub InstallsSupplied : ReplicaView → Supply → List BlockPart → Type 0
+InstallsSupplied r supply parts = MatchOption (supplied supply) ⊥ (λ part. Installs r.parts part parts)
+
+abbrev pub PartsAfter : Option Entry → ReplicaView → Supply → List BlockPart → Type 0
+PartsAfter None r supply parts = ⊥
+PartsAfter (Some (DropRange p n)) r supply parts = TakesParts r.parts p n parts
+PartsAfter (Some (Get p n digest source need)) r supply parts = InstallsSupplied r supply parts
+PartsAfter (Some (Merge new sources count)) r supply parts = InstallsSupplied r supply parts
+PartsAfter (Some (Mutate old new upto count mcount)) r supply parts = InstallsSupplied r supply parts
+PartsAfter (Some (Mutation id numbers command)) r supply parts = ⊥
+
+-- the entry was done by what was supplied: nothing changes but its mark, what was staged for it, and the parts
+pub record IsDoneBy (old : ReplicaView) (i : ℕ) (supply : Supply) (new : ReplicaView) : Type 0 where
+  pub others : new ≡ record (settled old i) { parts = new.parts }
+  pub parts : PartsAfter (entry_at old.log i) old supply new.parts
+
+abbrev pub IsChange : ReplicaView → ℕ → Supply → Result Applied ApplyError → ReplicaView → Type 0
+IsChange old i supply (Err e) new = new ≡ old
+IsChange old i supply (Ok applied.Already) new = new ≡ settled old i
+IsChange old i supply (Ok applied.Dropped) new = new ≡ settled old i
+IsChange old i supply (Ok applied.Installed) new = IsDoneBy old i supply new
+
+-- ---- why
+
+-- what the entry needs is here
+abbrev pub IsReady : ReplicaView → Entry → Type 0
+IsReady r (Get p n digest source need) = (staged_at r.staged (record { partition = p; number = n }) ≡ None) → ⊥
+IsReady r (Merge new sources count) = Each (Has (part_names r.parts)) sources
+IsReady r (Mutate old new upto count mcount) = Has (part_names r.parts) old
+IsReady r (Mutation id numbers command) = Unit {0}
+IsReady r (DropRange p n) = Unit {0}
+
+-- the first part that it needs and that isn't here
+abbrev pub Lacks : ReplicaView → Entry → Name → Type 0
+Lacks r (Get p n digest source need) a = (staged_at r.staged (record { partition = p; number = n }) ≡ None) × (a ≡ block_name p n)
+Lacks r (Merge new sources count) a = IsFirstInactive (part_names r.parts) sources a
+Lacks r (Mutate old new upto count mcount) a = (a ≡ old) × (Has (part_names r.parts) old → ⊥)
+Lacks r (Mutation id numbers command) a = ⊥
+Lacks r (DropRange p n) a = ⊥
+
+-- what an entry waits for, and why
+abbrev pub IsWhy : ReplicaView → ℕ → Why → Type 0
+IsWhy r i whys.Covered = IsAlready r i
+IsWhy r i whys.Dropped = (IsAlready r i → ⊥) × IsDroppedEntry r i
+IsWhy r i whys.Ready = Waits r i × IfSome (entry_at r.log i) (IsReady r)
+IsWhy r i (whys.NeedsPart a) = Waits r i × IfSome (entry_at r.log i) (λ e. Lacks r e a)
+
+-- how an entry stands
+abbrev pub IsState : ReplicaView → ℕ → State → Type 0
+IsState r i states.Already = IsAlready r i
+IsState r i states.Dropped = (IsAlready r i → ⊥) × IsDroppedEntry r i
+IsState r i (states.Drops p n) = Waits r i × (entry_at r.log i ≡ Some (DropRange p n))
+IsState r i (states.Waits a) = Waits r i × MakesAt r.log i a
+
+-- an entry that makes no part is a Mutation, or a drop
+abbrev pub IsStateWithout : Entry → State → Type 0
+IsStateWithout (Mutation id numbers command) state = state ≡ states.Already
+IsStateWithout (DropRange p n) state = state ≡ states.Drops p n
+IsStateWithout (Get p n digest source need) state = ⊥
+IsStateWithout (Merge new sources count) state = ⊥
+IsStateWithout (Mutate old new upto count mcount) state = ⊥
+
+-- the entry is a drop, and no active part is in its range
+pub record IsEmptied (r : ReplicaView) (i : ℕ) : Type 0 where
+  pub partition : Option ℕ
+  pub number : ℕ
+  pub entry : entry_at r.log i ≡ Some (DropRange partition number)
+  pub empty : filter (λ a. not (in_drop partition number a)) (part_names r.parts) ≡ part_names r.parts
+
+-- the entry may be marked as done
+abbrev pub CanSettle : ReplicaView → ℕ → Type 0
+CanSettle r i = IsAlready r i ⊎ (IsDroppedEntry r i ⊎ IsEmptied r i)
+
+-- a part that was made within the copy and covers what the entry makes, where no active part does and no drop takes it away
+pub record CanInstall (r : ReplicaView) (i : ℕ) (a : Name) (part : BlockPart) : Type 0 where
+  pub waits : Waits r i
+  pub makes : MakesAt r.log i a
+  pub covers : Covers part.name a
+  pub of_copy : IsOfCopy r.log part
+  pub is_part : IsBlockPart part

@@ -1,0 +1,13 @@
+pub use Rattle.rmt_names.specs.Names
+pub use Rattle.rmt_entries.specs.Entries
+pub use Rattle.rmt_block.specs.Blocks
+pub use Rattle.rmt_row.specs.Token
+pub use Rattle.rmt_model.specs.Words
+pub use Rattle.rmt_model.specs.Live
+pub use Rattle.rmt_model.specs.Lawful
+pub use Rattle.rmt_model.specs.Fair
+pub mod Parts
+pub mod Staged
+pub mod Replicas
+pub mod Supplies
+pub mod Answers

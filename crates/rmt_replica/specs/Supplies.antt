@@ -1,0 +1,14 @@
+-- The part that a replica is given to do an entry with.
+-- ClickHouse documentation, Data Replication: a replica builds a part itself or fetches it from another replica.
+use Rattle.std.specs.declared.option.Option.{Option}
+use Rattle.std.specs.declared.option.Option.TheVariants.{Some, None}
+use Rattle.std.specs.Arc.{arc_value}
+use Rattle.rmt_replica.specs.declared.supply.Supply.{Supply}
+use Rattle.rmt_replica.specs.declared.supply.Supply.TheVariants.{Nothing, Built, Fetched}
+use Rattle.rmt_replica.specs.Parts.{BlockPart}
+
+-- the part that is supplied
+abbrev pub supplied : Supply → Option BlockPart
+supplied Nothing = None
+supplied (Built part) = Some (arc_value part)
+supplied (Fetched part) = Some (arc_value part)

@@ -1,0 +1,28 @@
+//! One replica of a table: its copy of the log, its active parts, its staged blocks, and which entries it has done.
+#![tactic(auto)]
+
+mod applied;
+mod apply_error;
+mod block_number;
+pub mod laws;
+mod part;
+mod part_set;
+mod replica;
+mod replica_error;
+mod snapshot;
+mod staging;
+mod state;
+mod supply;
+#[cfg(test)]
+mod tests;
+mod why;
+
+pub use applied::Applied;
+pub use apply_error::ApplyError;
+pub use block_number::BlockNumber;
+pub use part::Part;
+pub use replica::Replica;
+pub use replica_error::ReplicaError;
+pub use snapshot::Snapshot;
+pub use supply::Supply;
+pub use why::Why;
