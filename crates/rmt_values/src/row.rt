@@ -45,4 +45,11 @@ impl Row {
     {
         &self.values
     }
+
+    /// Gives its values up, in the order of the columns.
+    pub fn into_values(self) -> Vec<Value>
+        ensures { result.items ≡ self }
+    {
+        self.values
+    }
 }

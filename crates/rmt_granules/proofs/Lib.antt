@@ -1,0 +1,3 @@
+pub mod Transposed
+pub mod Marks
+pub mod Made

@@ -1,0 +1,4 @@
+pub mod Columns
+pub mod Granules
+pub mod Making
+pub mod Stored

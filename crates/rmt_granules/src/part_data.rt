@@ -1,0 +1,246 @@
+ghost use Rattle.std.specs.Prelude.{◌≡◌, ◌<◌, ◌≤◌, ◌+◌, ◌*◌, true, length, slice_get, IfOk};
+ghost use Rattle.std.specs.List.{All};
+ghost use Rattle.std.specs.List.Sorted.{IsSorted};
+ghost use Rattle.rmt_values.specs.Rows.{fits, key_cmp};
+ghost use Rattle.rmt_granules.specs.Columns.{rows_of, kinds_of, AreLong};
+ghost use Rattle.rmt_granules.specs.Granules.{IsPart, Rising, granule_of};
+ghost use Rattle.rmt_granules.specs.Making.{data_of};
+
+use crate::column_values::ColumnValues;
+use crate::columns::{columns_in, row_at};
+use crate::marking::marks_in;
+use rmt_values::{Row, Schema};
+use std::alloc::{AllocError, Global};
+use std::marker::Model;
+
+/// The rows of a part, sorted by key, in granules of so many rows, with a mark for each granule: the key of its first
+/// row. Contracts see it as a `PartView`.
+#[derive(Debug, Drop)]
+pub struct PartData {
+    columns: Vec<ColumnValues>,
+    count: usize,
+    marks: Vec<Row>,
+    key: Vec<u16>,
+    granularity: u32,
+}
+
+impl Model for PartData {
+    ghost use Rattle.std.specs.Prelude.{length};
+    ghost use Rattle.rmt_granules.specs.Columns.{rows_of, kinds_of, AreLong};
+    ghost use Rattle.rmt_granules.specs.Granules.{PartView, IsPart};
+
+    ghost Value = { PartView };
+
+    ghost view = { λ p. record { rows = rows_of p.count p.columns.items; marks = p.marks.items; key = p.key.items; granularity = p.granularity; kinds = kinds_of p.columns.items } };
+
+    ghost invariant = { λ p. AreLong p.count p.columns.items × IsPart (record { rows = rows_of p.count p.columns.items; marks = p.marks.items; key = p.key.items; granularity = p.granularity; kinds = kinds_of p.columns.items }) };
+}
+
+/// Makes a part of the rows of a schema, which are sorted by its key.
+pub fn from_rows(alloc: Global, rows: Vec<Row>, schema: &Schema) -> Result<PartData, AllocError>
+    requires fit { All (λ row. fits schema.now.columns row ≡ true) rows.items }
+    requires sorted { IsSorted (key_cmp schema.now.key) rows.items }
+    ensures { IfOk result (λ part. part ≡ data_of schema.now rows.items) }
+{
+    let granularity = schema.granularity();
+    let key = Vec::from_slice(alloc, schema.key())?;
+    let marks = marks_in(alloc, &rows, &key, granularity)?;
+    let count = rows.len();
+    let columns = columns_in(alloc, rows, schema.columns())?;
+    Ok(PartData {
+        columns,
+        count,
+        marks,
+        key,
+        granularity,
+    })
+}
+
+impl PartData {
+    /// The columns, in the schema's order.
+    pub fn columns(&self) -> &[ColumnValues]
+        ensures rows { rows_of (length self.now.rows) result.now ≡ self.now.rows }
+        ensures kinds { kinds_of result.now ≡ self.now.kinds }
+        ensures long { AreLong (length self.now.rows) result.now }
+    {
+        &self.columns
+    }
+
+    /// How many rows there are.
+    pub fn rows(&self) -> usize
+        ensures { result ≡ length self.now.rows }
+    {
+        self.count
+    }
+
+    /// How many granules there are: the last one may have fewer rows than the others.
+    pub fn granules(&self) -> usize
+        ensures marks { result ≡ length self.now.marks }
+        ensures enough { length self.now.rows ≤ result * self.now.granularity }
+        ensures no_more { result * self.now.granularity < length self.now.rows + self.now.granularity }
+    {
+        self.marks.len()
+    }
+
+    /// The marks: the key of each granule's first row.
+    pub fn marks(&self) -> &[Row]
+        ensures value { result.now ≡ self.now.marks }
+        ensures part { IsPart self.now }
+        ensures rising { Rising result.now }
+    {
+        &self.marks
+    }
+
+    /// The places of the key's columns, counted from 0, in the order of the key.
+    pub fn key(&self) -> &[u16]
+        ensures { result.now ≡ self.now.key }
+    {
+        &self.key
+    }
+
+    /// How many rows a granule has.
+    pub fn granularity(&self) -> u32
+        ensures { result ≡ self.now.granularity }
+    {
+        self.granularity
+    }
+
+    /// A copy of row `i`, counted from 0; `None` where there is no such row.
+    pub fn row(&self, i: usize) -> Result<Option<Row>, AllocError>
+        ensures { IfOk result (λ row. row ≡ slice_get self.now.rows i) }
+    {
+        if i >= self.count {
+            return Ok(None);
+        }
+        let row = row_at(*self.columns.allocator(), &self.columns, i)?;
+        Ok(Some(row))
+    }
+
+    /// The rows of granule `g`, from the first to past the last, all counted from 0; `None` where there is no such
+    /// granule.
+    pub fn granule(&self, g: usize) -> Option<(usize, usize)>
+        ensures { result ≡ granule_of self.now g }
+    {
+        if g >= self.marks.len() {
+            return None;
+        }
+        let (count, size) = (self.count, self.granularity as usize);
+        let first = g * size;
+        let past = first + size.min(count - first);
+        Some((first, past))
+    }
+}
+
+#[cfg(test)]
+mod tests {
+    use super::*;
+    use crate::sorting::{all_fit, from_unsorted_rows};
+    use rmt_values::{Blob, Column, Kind, Name, Value};
+    use std::test::Fail;
+
+    /// The columns `u` of UInt64 and `s` of Strings, with a key of these, in granules of two rows.
+    fn schema(alloc: Global, key: &[u8]) -> Result<Schema, AllocError> {
+        let mut columns = Vec::new(alloc);
+        for (letter, kind) in [(b'u', Kind::UInt64), (b's', Kind::Text)] {
+            let name = Name::from_slice(alloc, &[letter])?;
+            columns.push(Column { name, kind })?;
+        }
+        let mut names = Vec::new(alloc);
+        for letter in key {
+            names.push(Name::from_slice(alloc, &[*letter])?)?;
+        }
+        Schema::new(alloc, columns, names, 2, 100).map_err(|_| AllocError)
+    }
+
+    /// The part of a number and a letter a row.
+    fn part(alloc: Global, key: &[u8], all: &[(u64, u8)]) -> Result<PartData, AllocError> {
+        let schema = schema(alloc, key)?;
+        let mut rows = Vec::new(alloc);
+        for (number, letter) in all {
+            let text = Blob::new(Vec::from_slice(alloc, &[*letter])?);
+            let values = vec![in alloc; Value::UInt(*number), Value::Text(text)]?;
+            rows.push(Row::new(values))?;
+        }
+        if all_fit(&rows, &schema) {
+            from_unsorted_rows(alloc, rows, &schema)
+        } else {
+            Err(AllocError)
+        }
+    }
+
+    /// The number and the letter of a row.
+    fn shown(row: Option<Row>) -> (u64, u8) {
+        let Some(row) = row else {
+            return (0, b' ');
+        };
+        match row.values() {
+            [Value::UInt(number), Value::Text(text)] => match text.as_bytes() {
+                [letter] => (*number, *letter),
+                _ => (0, b'?'),
+            },
+            _ => (0, b'?'),
+        }
+    }
+
+    /// The number of a mark of one number, or the letter of one of a String.
+    fn shown_mark(mark: &Row) -> u64 {
+        match mark.values() {
+            [Value::UInt(number)] => *number,
+            [Value::Text(text)] => match text.as_bytes() {
+                [letter] => *letter as u64,
+                _ => 0,
+            },
+            _ => 0,
+        }
+    }
+
+    #[test]
+    fn rows_are_sorted_and_marked(rt: HostRuntime) -> Result<(), Fail> {
+        let rows = [(3, b'a'), (1, b'b'), (2, b'c'), (1, b'a'), (5, b'e')];
+        let part = part(rt.alloc(), b"u", &rows)?;
+        assert_eq!(rt; (part.rows(), part.granules()), (5, 3));
+        assert_eq!(rt; shown(part.row(0)?), (1, b'b'));
+        assert_eq!(rt; shown(part.row(1)?), (1, b'a'));
+        assert_eq!(rt; shown(part.row(4)?), (5, b'e'));
+        assert!(rt; matches!(part.row(5)?, None));
+        let marks = part.marks();
+        assert_eq!(rt; marks.len(), 3);
+        assert_eq!(rt; shown_mark(&marks[0]), 1);
+        assert_eq!(rt; shown_mark(&marks[1]), 2);
+        assert_eq!(rt; shown_mark(&marks[2]), 5);
+        Ok(())
+    }
+
+    #[test]
+    fn granules_are_ranges_of_rows(rt: HostRuntime) -> Result<(), Fail> {
+        let part = part(rt.alloc(), b"s", &[(3, b'a'), (1, b'b'), (2, b'c')])?;
+        assert_eq!(rt; part.granule(0), Some((0, 2)));
+        assert_eq!(rt; part.granule(1), Some((2, 3)));
+        assert_eq!(rt; part.granule(2), None);
+        assert_eq!(rt; (part.key(), part.granularity()), ([1].as_slice(), 2));
+        assert_eq!(rt; part.columns().len(), 2);
+        assert_eq!(rt; part.columns()[0].kind(), Kind::UInt64);
+        assert_eq!(rt; part.columns()[1].len(), 3);
+        Ok(())
+    }
+
+    #[test]
+    fn a_part_may_have_no_rows(rt: HostRuntime) -> Result<(), Fail> {
+        let part = part(rt.alloc(), b"u", &[])?;
+        assert_eq!(rt; (part.rows(), part.granules()), (0, 0));
+        assert_eq!(rt; part.granule(0), None);
+        assert!(rt; matches!(part.row(0)?, None));
+        assert_eq!(rt; part.columns().len(), 2);
+        Ok(())
+    }
+
+    #[test]
+    fn without_a_key_rows_stay_as_they_stand(rt: HostRuntime) -> Result<(), Fail> {
+        let part = part(rt.alloc(), b"", &[(2, b'x'), (1, b'y')])?;
+        assert_eq!(rt; (part.rows(), part.granules()), (2, 1));
+        assert_eq!(rt; shown(part.row(0)?), (2, b'x'));
+        assert_eq!(rt; shown(part.row(1)?), (1, b'y'));
+        assert_eq!(rt; part.marks()[0].values().len(), 0);
+        Ok(())
+    }
+}
