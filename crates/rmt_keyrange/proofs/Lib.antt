@@ -1,0 +1,4 @@
+pub mod Parted
+pub mod Kept
+pub mod GivenBounds
+pub mod Within
