@@ -1,0 +1,9 @@
+pub mod Bags
+pub mod Grouping
+pub mod CellOrder
+pub mod Combining
+pub mod Over
+pub mod RunLemmas
+pub mod KeptLemmas
+pub mod BagLaws
+pub mod Counting

@@ -1,0 +1,24 @@
+use Rattle.std.proofs.Common.{rules, ◌≡◌, ℕ, zero, suc, ◌+◌, ◌-◌, ◌*◌, ◌<◌, ◌≤◌, List, [], ◌∷◌, ◌++◌, Bool, true, false, is_lt, length, map, take, drop, get_or, refl, sym, ap, ◌∙◌, subst, arith, inl, inr}
+use Rattle.std.proofs.lemmas.Fn.{always_returns_same}
+use Rattle.std.proofs.lemmas.List.Sorted.{ranks_by}
+use Rattle.rmt_values.specs.declared.value.Value.{Value}
+use Rattle.rmt_values.specs.Rows.{key_cmp}
+use Rattle.rmt_values.proofs.Sorting.{in_order-from_sort}
+use Rattle.rmt_values.proofs.Totals.{key_cmp_total}
+use Rattle.rmt_query.proofs.answers.group_sorted.Goals as goal
+
+pub returns-clause-order : goal.returns-clause-order
+returns-clause-order c =
+    let group = c.args.group.now in
+    let ranks = ranks_by (key_cmp_total group) (λ (x : List Value). x) in
+    let lt : List Value → List Value → Bool = λ x y. is_lt (key_cmp group x y) in
+    let by = always_returns_same _ (λ a r. is_lt r ≡ lt a.0.now a.1.0.now) _ (λ a r f' k. search rules) in
+    in_order-from_sort (key_cmp group) (key_cmp_total group) _ _ (c.in_ok-sort_by.ensures.sorted lt ranks by) (c.sort_by.ensures.stable lt ranks by)
+
+pub returns-clause-sorted : goal.returns-clause-sorted
+returns-clause-sorted c =
+    let group = c.args.group.now in
+    let ranks = ranks_by (key_cmp_total group) (λ (x : List Value). x) in
+    let lt : List Value → List Value → Bool = λ x y. is_lt (key_cmp group x y) in
+    let by = always_returns_same _ (λ a r. is_lt r ≡ lt a.0.now a.1.0.now) _ (λ a r f' k. search rules) in
+    c.in_ok-sort_by.ensures.sorted lt ranks by

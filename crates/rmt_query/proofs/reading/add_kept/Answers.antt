@@ -1,0 +1,17 @@
+use Rattle.std.proofs.Common.{rules, ◌≡◌, ℕ, zero, suc, ◌+◌, ◌-◌, ◌*◌, ◌<◌, ◌≤◌, List, [], ◌∷◌, ◌++◌, Bool, true, false, is_lt, length, map, take, drop, get_or, refl, sym, ap, ◌∙◌, subst, arith, inl, inr}
+use Rattle.rmt_values.specs.declared.value.Value.{Value}
+use Rattle.rmt_query.specs.Answers.{keeps as counts, kept}
+use Rattle.rmt_query.proofs.KeptLemmas.{none-before, all-before, append-none}
+use Rattle.rmt_query.proofs.reading.add_kept.Goals as goal
+
+pub rows-init : goal.rows-init
+rows-init c =
+    let none = none-before (counts c.args.filter.now) c.args.part.now.rows c.in_ok-first.first (λ i below keeps. (c.in_ok-first.ensures.others i below keeps).0) in
+    sym (ap (λ (l : List (List Value)). c.args.rows.now.items ++ l) none ∙ append-none c.args.rows.now.items)
+
+pub returns : goal.returns
+returns c =
+    let end : c.rows.i ≡ c.in_ok-first.past = omega (arith, c.in_ok-first.ensures.order) in
+    let all = all-before (counts c.args.filter.now) c.args.part.now.rows c.in_ok-first.past (λ i below keeps. (c.in_ok-first.ensures.others i below keeps).1) in
+    c.rows.invariant
+    ∙ ap (λ (l : List (List Value)). c.args.rows.now.items ++ l) (ap (λ (i : ℕ). kept c.args.filter.now (take i c.args.part.now.rows)) end ∙ all)

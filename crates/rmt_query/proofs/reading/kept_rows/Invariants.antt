@@ -1,0 +1,6 @@
+use Rattle.std.proofs.Common.{◌≡◌, ℕ, ◌+◌, ◌*◌, ◌<◌, ◌≤◌, ◌++◌, map, take, drop, length, get_or, []}
+use Rattle.rmt_query.specs.Answers.{kept, all_rows, data_in}
+use Rattle.rmt_query.proofs.reading.kept_rows.Given as goal
+
+abbrev pub invariant-parts : goal.invariant-parts
+invariant-parts l = l.rows.items ++ kept l.filter (all_rows (data_in (drop l.part-index l.parts))) ≡ kept l.filter (all_rows (data_in l.parts))

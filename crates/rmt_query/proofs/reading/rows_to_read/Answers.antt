@@ -1,0 +1,14 @@
+use Rattle.std.proofs.Common.{rules, ◌≡◌, ℕ, zero, suc, ◌+◌, ◌-◌, ◌*◌, ◌<◌, ◌≤◌, List, [], ◌∷◌, ◌++◌, Bool, true, false, is_lt, length, map, take, drop, get_or, refl, sym, ap, ◌∙◌, subst, arith, inl, inr}
+use Rattle.std.specs.declared.option.Option.{Option}
+use Rattle.rmt_values.specs.declared.checked.Checked.{Checked}
+use Rattle.rmt_keyrange.specs.Ranges.{IsRangeOf}
+use Rattle.rmt_query.specs.Answers.{keeps as counts}
+use Rattle.rmt_query.proofs.reading.rows_to_read.Goals as goal
+
+pub returns-in_ok-range-in-Some-clause-others : goal.returns-in_ok-range-in-Some-clause-others
+returns-in_ok-range-in-Some-clause-others c = λ i below keeps.
+    let filter = c.in-Some.filter in
+    let range = subst (λ (key : List ℕ). IsRangeOf key filter c.in_ok-range-in-Some.range) (sym c.requires) c.in_ok-range-in-Some.ensures in
+    let counted = subst (λ (o : Option Checked). counts o (get_or c.args.part.now.rows i []) ≡ true) c.in-Some.is keeps in
+    let inside = c.select-first.ensures.kept filter range i below counted in
+    c.rows_of_granules.ensures.within i below inside.0 inside.1

@@ -1,0 +1,7 @@
+use Rattle.std.proofs.Common.{◌≡◌, ℕ, ◌+◌, ◌*◌, ◌<◌, ◌≤◌, ◌++◌, ◌∷◌, map, take, drop, length, get_or, []}
+use Rattle.rmt_values.specs.declared.checked_item.CheckedItem.TheVariants as item
+use Rattle.rmt_query.specs.Inside.{over}
+use Rattle.rmt_query.proofs.runs.greatest_row.Given as goal
+
+abbrev pub invariant-rows : goal.invariant-rows
+invariant-rows l = (l.best < l.i) × (over (item.Max l.column) (get_or l.rows l.best [] ∷ drop l.i l.rows) ≡ over (item.Max l.column) l.rows)

@@ -1,0 +1,6 @@
+use Rattle.std.proofs.Common.{◌≡◌, ℕ, ◌+◌, ◌*◌, ◌<◌, ◌≤◌, ◌++◌, map, take, drop, length, get_or, []}
+use Rattle.rmt_query.specs.Inside.{over}
+use Rattle.rmt_query.proofs.runs.tuple_over.Given as goal
+
+abbrev pub invariant-items : goal.invariant-items
+invariant-items l = l.cells.items ≡ map (λ i. over i l.rows) (take l.item-index l.items)

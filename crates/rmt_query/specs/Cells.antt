@@ -1,0 +1,99 @@
+-- The cells of an answer: what an item is over rows.
+-- ClickHouse documentation: SELECT, GROUP BY; aggregate functions count, sum, min, max. That a sum is exact in 128 bits
+-- is this program's own.
+use Rattle.std.specs.Prelude.{◌≡◌, ℕ, ◌+◌, ℤ, pos, ◌+ℤ◌, cond, Bool, true, false, List, [], ◌∷◌, map, slice_get}
+use Rattle.std.specs.Ordering.{nat_cmp, int_cmp, is_gt}
+use Rattle.std.specs.Cmp.Lexicographic.{slice_cmp}
+use Rattle.std.specs.declared.option.Option.{Option}
+use Rattle.std.specs.declared.option.Option.TheVariants.{Some, None}
+use Rattle.std.specs.declared.cmp.Ordering.{Ordering}
+use Rattle.std.specs.declared.cmp.Ordering.TheVariants.{Less, Equal, Greater}
+use Rattle.rmt_values.specs.declared.value.Value.{Value}
+use Rattle.rmt_values.specs.declared.value.Value.TheVariants.{UInt, Int, Text}
+use Rattle.rmt_values.specs.declared.cell.Cell.{Cell}
+use Rattle.rmt_values.specs.declared.cell.Cell.TheVariants as cells
+use Rattle.rmt_values.specs.declared.kind.Kind.{Kind}
+use Rattle.rmt_values.specs.declared.kind.Kind.TheVariants as kinds
+use Rattle.rmt_values.specs.declared.checked_item.CheckedItem.{CheckedItem}
+use Rattle.rmt_values.specs.declared.checked_item.CheckedItem.TheVariants as item
+use Rattle.rmt_values.specs.Rows.{Shape, kind_at}
+
+-- numbers as numbers, texts by their bytes; kinds stand apart
+abbrev pub cell_order : Cell → Cell → Ordering
+cell_order (cells.UInt a) (cells.UInt b) = nat_cmp a b
+cell_order (cells.UInt a) (cells.Int b) = Less
+cell_order (cells.UInt a) (cells.Text b) = Less
+cell_order (cells.UInt a) (cells.Sum b) = Less
+cell_order (cells.Int a) (cells.UInt b) = Greater
+cell_order (cells.Int a) (cells.Int b) = int_cmp a b
+cell_order (cells.Int a) (cells.Text b) = Less
+cell_order (cells.Int a) (cells.Sum b) = Less
+cell_order (cells.Text a) (cells.UInt b) = Greater
+cell_order (cells.Text a) (cells.Int b) = Greater
+cell_order (cells.Text a) (cells.Text b) = slice_cmp nat_cmp a b
+cell_order (cells.Text a) (cells.Sum b) = Less
+cell_order (cells.Sum a) (cells.UInt b) = Greater
+cell_order (cells.Sum a) (cells.Int b) = Greater
+cell_order (cells.Sum a) (cells.Text b) = Greater
+cell_order (cells.Sum a) (cells.Sum b) = int_cmp a b
+
+-- tuples from left to right
+abbrev pub tuple_cmp : List Cell → List Cell → Ordering
+tuple_cmp a b = slice_cmp cell_order a b
+
+-- what is shown of a value; a row that fits has one in each column
+abbrev pub cell_of : Option Value → Cell
+cell_of None = cells.Sum (pos 0)
+cell_of (Some (UInt a)) = cells.UInt a
+cell_of (Some (Int a)) = cells.Int a
+cell_of (Some (Text a)) = cells.Text a
+
+-- the number that a value is, and 0 for what is none
+abbrev pub number_of : Option Value → ℤ
+number_of None = pos 0
+number_of (Some (UInt a)) = pos a
+number_of (Some (Int a)) = a
+number_of (Some (Text a)) = pos 0
+
+-- what an item is over one row
+abbrev pub one : CheckedItem → List Value → Cell
+one (item.Column c) row = cell_of (slice_get row c)
+one item.Count row = cells.UInt 1
+one (item.Sum c) row = cells.Sum (number_of (slice_get row c))
+one (item.Min c) row = cell_of (slice_get row c)
+one (item.Max c) row = cell_of (slice_get row c)
+
+-- what both come to
+abbrev pub plus : Cell → Cell → Cell
+plus (cells.UInt a) (cells.UInt b) = cells.UInt (a + b)
+plus (cells.Sum a) (cells.Sum b) = cells.Sum (a +ℤ b)
+plus a b = b
+
+abbrev pub lesser : Cell → Cell → Cell
+lesser a b = cond (is_gt (cell_order a b)) b a
+
+abbrev pub greater : Cell → Cell → Cell
+greater a b = cond (is_gt (cell_order b a)) b a
+
+-- what an item is over the rows of both; the rows of a group show one cell in each of its columns
+abbrev pub joined : CheckedItem → Cell → Cell → Cell
+joined (item.Column c) a b = lesser a b
+joined item.Count a b = plus a b
+joined (item.Sum c) a b = plus a b
+joined (item.Min c) a b = lesser a b
+joined (item.Max c) a b = greater a b
+
+-- the zero of a type, and the empty String
+abbrev pub zero_in : Option Kind → Cell
+zero_in None = cells.Sum (pos 0)
+zero_in (Some kinds.UInt64) = cells.UInt 0
+zero_in (Some kinds.Int64) = cells.Int (pos 0)
+zero_in (Some kinds.Text) = cells.Text []
+
+-- what an item is over no rows
+abbrev pub zero_of : Shape → CheckedItem → Cell
+zero_of shape (item.Column c) = zero_in (kind_at shape.columns c)
+zero_of shape item.Count = cells.UInt 0
+zero_of shape (item.Sum c) = cells.Sum (pos 0)
+zero_of shape (item.Min c) = zero_in (kind_at shape.columns c)
+zero_of shape (item.Max c) = zero_in (kind_at shape.columns c)

@@ -1,0 +1,6 @@
+pub mod Cells
+pub mod Groups
+pub mod Answers
+pub mod Laws
+pub mod Explained
+pub mod Inside

@@ -1,0 +1,122 @@
+//! The rows of parts that a filter keeps.
+ghost use Rattle.std.specs.Prelude.{◌≡◌, ◌<◌, ◌≤◌, ◌++◌, ℕ, [], true, map, length, slice_index_or, ◌∷◌, ◌*◌, IfOk, OnOk};
+ghost use Rattle.std.specs.Option.{option_to_list};
+ghost use Rattle.std.specs.List.{All};
+ghost use Rattle.std.specs.Arc.{arc_value};
+ghost use Rattle.rmt_granules.specs.Granules.{PartView};
+ghost use Rattle.rmt_query.specs.Answers.{all_rows, data_in, keeps as counts, kept};
+
+use rmt_expr::holds;
+use rmt_granules::PartData;
+use rmt_keyrange::{range_of, select};
+use rmt_values::{Checked, Row, Schema};
+use std::alloc::{AllocError, Global};
+use std::sync::Arc;
+
+/// The rows of parts that count, one part after the other.
+pub fn kept_rows(
+    alloc: Global,
+    parts: &[Arc<PartData, Global>],
+    filter: &Option<Checked>,
+    schema: &Schema,
+) -> Result<Vec<Row>, AllocError>
+    requires { All (λ part. (arc_value {X = PartView} part).key ≡ schema.now.key) parts.now }
+    ensures { IfOk result (λ rows. rows.items ≡ kept filter.now (all_rows (data_in parts.now))) }
+{
+    let mut rows = Vec::new(alloc);
+    'parts: for part in parts {
+        add_kept(&mut rows, part, filter, schema)?;
+    }
+    Ok(rows)
+}
+
+/// Puts the rows of a part that count behind the others. It reads the chosen granules alone.
+fn add_kept(
+    rows: &mut Vec<Row>,
+    part: &PartData,
+    filter: &Option<Checked>,
+    schema: &Schema,
+) -> Result<(), AllocError>
+    requires { part.now.key ≡ schema.now.key }
+    ensures { OnOk result (rows.new.items ≡ rows.old.items ++ kept filter.now part.now.rows) }
+{
+    let (first, past) = rows_to_read(part, filter, schema)?;
+    'rows: for i in first..past {
+        if let Some(row) = row_that_counts(part, i, filter)? {
+            rows.push(row)?;
+        }
+    }
+    Ok(())
+}
+
+/// A copy of a row, where it counts.
+fn row_that_counts(
+    part: &PartData,
+    i: usize,
+    filter: &Option<Checked>,
+) -> Result<Option<Row>, AllocError>
+    requires { i < length part.now.rows }
+    ensures { IfOk result (λ row. option_to_list row ≡ kept filter.now (slice_index_or part.now.rows i [] ∷ [])) }
+{
+    match part.row(i)? {
+        Some(row) => {
+            if keeps(filter, &row) {
+                Ok(Some(row))
+            } else {
+                Ok(None)
+            }
+        }
+        None => Ok(None),
+    }
+}
+
+/// Whether the row counts.
+fn keeps(filter: &Option<Checked>, row: &Row) -> bool
+    ensures { result ≡ counts filter.now row.now }
+{
+    match filter {
+        None => true,
+        Some(filter) => holds(filter, row),
+    }
+}
+
+/// The rows of the granules that a filter chooses, from the first to past the last.
+fn rows_to_read(
+    part: &PartData,
+    filter: &Option<Checked>,
+    schema: &Schema,
+) -> Result<(usize, usize), AllocError>
+    requires { part.now.key ≡ schema.now.key }
+    ensures order { IfOk result (λ r. r.0 ≤ r.1) }
+    ensures bound { IfOk result (λ r. r.1 ≤ length part.now.rows) }
+    ensures others { IfOk result (λ r. (i : ℕ) → i < length part.now.rows
+        → counts filter.now (slice_index_or part.now.rows i []) ≡ true → (r.0 ≤ i) × (i < r.1)) }
+{
+    match filter {
+        None => Ok((0, part.rows())),
+        Some(filter) => {
+            let range = range_of(filter, schema)?;
+            let (first, past) = select(part, &range);
+            Ok(rows_of_granules(part, first, past))
+        }
+    }
+}
+
+/// The rows of granules, from the first to past the last.
+fn rows_of_granules(part: &PartData, first: usize, past: usize) -> (usize, usize)
+    requires order { first ≤ past }
+    requires bound { past ≤ length part.now.marks }
+    ensures order { result.0 ≤ result.1 }
+    ensures bound { result.1 ≤ length part.now.rows }
+    ensures within { (i : ℕ) → i < length part.now.rows → first * part.now.granularity ≤ i
+        → i < past * part.now.granularity → (result.0 ≤ i) × (i < result.1) }
+{
+    let _marks = part.marks();
+    if first == past {
+        return (0, 0);
+    }
+    match (part.granule(first), part.granule(past - 1)) {
+        (Some(begin), Some(end)) => (begin.0, end.1),
+        _ => (0, 0),
+    }
+}
