@@ -6,7 +6,7 @@ use Rattle.rmt_values.specs.declared.value.Value.{Value}
 use Rattle.rmt_values.specs.declared.column.Column.{Column}
 use Rattle.rmt_values.specs.declared.kind.Kind.{Kind}
 use Rattle.rmt_values.specs.Rows.{Shape}
-use Rattle.rmt_granules.specs.Columns.{ColumnView}
+use Rattle.rmt_granules.specs.Columns.{ColumnView, rows_of, kinds_of}
 use Rattle.rmt_granules.specs.Granules.{PartView, marks_of}
 
 -- the types of a schema's columns
@@ -24,6 +24,16 @@ data_of shape rows = record {
 }
 
 -- ---- what only private functions cite
+
+-- the part whose columns, marks and settings these are
+abbrev pub stored_part : ℕ → List ColumnView → List (List Value) → List ℕ → ℕ → PartView
+stored_part count columns marks key n = record {
+  rows = rows_of count columns;
+  marks = marks;
+  key = key;
+  granularity = n;
+  kinds = kinds_of columns;
+}
 
 -- columns with one more row
 abbrev pub with_row : List ColumnView → List Value → List ColumnView

@@ -25,15 +25,16 @@ pub struct PartData {
 }
 
 impl Model for PartData {
-    ghost use Rattle.std.specs.Prelude.{length};
-    ghost use Rattle.rmt_granules.specs.Columns.{rows_of, kinds_of, AreLong};
+    ghost use Rattle.rmt_granules.specs.Columns.{AreLong};
     ghost use Rattle.rmt_granules.specs.Granules.{PartView, IsPart};
+    ghost use Rattle.rmt_granules.specs.Making.{stored_part};
 
     ghost Value = { PartView };
 
-    ghost view = { λ p. record { rows = rows_of p.count p.columns.items; marks = p.marks.items; key = p.key.items; granularity = p.granularity; kinds = kinds_of p.columns.items } };
+    ghost view = { λ p. stored_part p.count p.columns.items p.marks.items p.key.items p.granularity };
 
-    ghost invariant = { λ p. AreLong p.count p.columns.items × IsPart (record { rows = rows_of p.count p.columns.items; marks = p.marks.items; key = p.key.items; granularity = p.granularity; kinds = kinds_of p.columns.items }) };
+    ghost invariant = { λ p. AreLong p.count p.columns.items
+        × IsPart (stored_part p.count p.columns.items p.marks.items p.key.items p.granularity) };
 }
 
 /// Makes a part of the rows of a schema, which are sorted by its key.

@@ -1,6 +1,6 @@
 -- The greatest and the least of the literals that terms give.
-use Rattle.std.proofs.Common.{◌≡◌, ◌≢◌, ℕ, Bool, true, false, cond, List, [], ◌∷◌, ◌++◌, is_lt, refl, sym, ap, ◌∙◌, subst, inl, inr, append_assoc}
-use Rattle.std.specs.Prelude.{◌⊎◌, nat_eq}
+use Rattle.std.proofs.Common.{◌≡◌, ℕ, true, false, List, [], ◌∷◌, ◌++◌, is_lt, refl, sym, ap, ◌∙◌, subst, inl, inr, append_assoc}
+use Rattle.std.specs.Prelude.{nat_eq}
 use Rattle.std.specs.Option.{option_to_list}
 use Rattle.std.proofs.lemmas.Bool.{cond-true, cond-false, eq-eqb}
 use Rattle.std.specs.declared.option.Option.{Option}
@@ -16,7 +16,6 @@ use Rattle.rmt_values.specs.declared.checked.Checked.TheVariants.{Test}
 use Rattle.rmt_values.specs.Rows.{value_cmp}
 use Rattle.rmt_values.proofs.Sorting.{gt-from-lt}
 use Rattle.rmt_values.proofs.Totals.{value_cmp_total}
-use Rattle.rmt_keyrange.specs.declared.key_range.KeyRange.{KeyRange}
 use Rattle.rmt_keyrange.specs.Ranges.{terms, bounds_by, lower_of, upper_of, given, IsAmong, NoneAbove, NoneBelow, IsGreatest, IsLeast}
 
 pub given-append : (bound : Checked → Option Value) (ts us : List Checked) → given bound (ts ++ us) ≡ given bound ts ++ given bound us

@@ -1,6 +1,6 @@
 -- A row that a filter keeps lies between the filter's bounds.
-use Rattle.std.proofs.Common.{◌≡◌, ℕ, Bool, true, false, cond, not, List, [], ◌∷◌, ◌++◌, slice_get, is_lt, refl, sym, ap, ◌∙◌, subst, inl, inr}
-use Rattle.std.specs.Prelude.{◌⊎◌, nat_eq, ◌&&◌}
+use Rattle.std.proofs.Common.{◌≡◌, ℕ, Bool, true, false, not, List, [], ◌∷◌, ◌++◌, slice_get, is_lt, refl, sym, ap, subst, inl, inr}
+use Rattle.std.specs.Prelude.{◌⊎◌, nat_eq}
 use Rattle.std.specs.Option.{option_to_list}
 use Rattle.std.proofs.lemmas.Bool.{cases_Bool, and_parts, cond-true, cond-false, eqb-true}
 use Rattle.std.specs.declared.option.Option.{Option}
@@ -13,9 +13,8 @@ use Rattle.rmt_values.specs.declared.cmp.Cmp.{Cmp}
 use Rattle.rmt_values.specs.declared.cmp.Cmp.TheVariants as cmps
 use Rattle.rmt_values.specs.declared.checked.Checked.{Checked}
 use Rattle.rmt_values.specs.declared.checked.Checked.TheVariants.{Test, Both', Either', Not'}
-use Rattle.rmt_values.specs.Rows.{value_cmp, cell_cmp}
+use Rattle.rmt_values.specs.Rows.{value_cmp}
 use Rattle.rmt_values.specs.Filters.{holds, cell_holds}
-use Rattle.rmt_granules.specs.Granules.{key_cell}
 use Rattle.rmt_keyrange.specs.declared.key_range.KeyRange.{KeyRange}
 use Rattle.rmt_keyrange.specs.Ranges.{terms, bounds_by, lower_of, upper_of, given, IsAmong, IsGreatest, IsLeast, IsRangeOf}
 use Rattle.rmt_keyrange.specs.Chosen.{cell_most, cell_below, IsWithin}

@@ -1,7 +1,7 @@
 -- The bounds that a filter gives on the first key column.
 -- ClickHouse documentation: A practical introduction to primary indexes in ClickHouse (which granules a query reads).
 -- That strict and non-strict comparisons count alike is this program's own.
-use Rattle.std.specs.Prelude.{◌≡◌, ◌⊎◌, ◌++◌, ℕ, cond, nat_eq, ◌&&◌, Bool, true, false, List, [], ◌∷◌}
+use Rattle.std.specs.Prelude.{◌≡◌, ◌⊎◌, ◌++◌, ℕ, cond, nat_eq, false, List, [], ◌∷◌}
 use Rattle.std.specs.Option.{option_to_list}
 use Rattle.std.specs.Ordering.{is_gt, is_lt}
 use Rattle.std.specs.declared.option.Option.{Option}

@@ -160,9 +160,9 @@ mod tests {
     fn read(
         part: &PartData,
         schema: &Schema,
-        filter: &Checked,
+        filter: Checked,
     ) -> Result<(usize, usize), AllocError> {
-        let range = range_of(filter, schema)?;
+        let range = range_of(&filter, schema)?;
         Ok(select(part, &range))
     }
 
@@ -173,7 +173,7 @@ mod tests {
         let alloc = rt.alloc();
         let schema = schema(alloc, b"c", 2)?;
         let part = part(alloc, &schema, &ONES)?;
-        assert_eq!(rt; read(&part, &schema, &number(Cmp::Eq, 1))?, (0, 2));
+        assert_eq!(rt; read(&part, &schema, number(Cmp::Eq, 1))?, (0, 2));
         assert_eq!(rt; part.granules(), 3);
         Ok(())
     }
@@ -198,29 +198,39 @@ mod tests {
             (Cmp::Ge, 30, (1, 3)),
             (Cmp::Ne, 20, (0, 3)),
         ] {
-            let chosen = read(&part, &schema, &number(cmp, value))?;
+            let chosen = read(&part, &schema, number(cmp, value))?;
             assert_eq!(rt; chosen, granules);
         }
         Ok(())
     }
 
     #[test]
-    fn only_and_terms_of_the_first_key_column_bound(rt: HostRuntime) -> Result<(), Fail> {
+    fn and_terms_bound(rt: HostRuntime) -> Result<(), Fail> {
         let alloc = rt.alloc();
         let schema = schema(alloc, b"cs", 2)?;
         let part = part(alloc, &schema, &TENS)?;
-        let filter = both(alloc, number(Cmp::Gt, 21), number(Cmp::Lt, 29))?;
-        assert_eq!(rt; read(&part, &schema, &filter)?, (1, 2));
-        let filter = both(alloc, filter, number(Cmp::Ge, 31))?;
-        assert_eq!(rt; read(&part, &schema, &filter)?, (2, 2));
-        let filter = either(alloc, number(Cmp::Eq, 20), number(Cmp::Eq, 20))?;
-        assert_eq!(rt; read(&part, &schema, &filter)?, (0, 3));
-        let filter = not(alloc, number(Cmp::Ge, 15))?;
-        assert_eq!(rt; read(&part, &schema, &filter)?, (0, 3));
-        let filter = letter(alloc, Cmp::Eq, b'a')?;
-        assert_eq!(rt; read(&part, &schema, &filter)?, (0, 3));
-        let filter = both(alloc, letter(alloc, Cmp::Eq, b'e')?, number(Cmp::Le, 15))?;
-        assert_eq!(rt; read(&part, &schema, &filter)?, (0, 1));
+        let between = both(alloc, number(Cmp::Gt, 21), number(Cmp::Lt, 29))?;
+        assert_eq!(rt; read(&part, &schema, between)?, (1, 2));
+        let none = both(alloc, number(Cmp::Ge, 31), number(Cmp::Lt, 29))?;
+        assert_eq!(rt; read(&part, &schema, none)?, (2, 2));
+        let second = both(alloc, letter(alloc, Cmp::Eq, b'e')?, number(Cmp::Le, 15))?;
+        assert_eq!(rt; read(&part, &schema, second)?, (0, 1));
+        Ok(())
+    }
+
+    #[test]
+    fn other_terms_do_not_bound(rt: HostRuntime) -> Result<(), Fail> {
+        let alloc = rt.alloc();
+        let schema = schema(alloc, b"cs", 2)?;
+        let part = part(alloc, &schema, &TENS)?;
+        let either = either(alloc, number(Cmp::Eq, 20), number(Cmp::Eq, 20))?;
+        assert_eq!(rt; read(&part, &schema, either)?, (0, 3));
+        let not = not(alloc, number(Cmp::Ge, 15))?;
+        assert_eq!(rt; read(&part, &schema, not)?, (0, 3));
+        assert_eq!(rt;
+            read(&part, &schema, letter(alloc, Cmp::Eq, b'a')?)?,
+            (0, 3)
+        );
         Ok(())
     }
 
@@ -229,15 +239,15 @@ mod tests {
         let alloc = rt.alloc();
         let schema = schema(alloc, b"s", 2)?;
         let part = part(alloc, &schema, &TENS)?;
-        let filter = letter(alloc, Cmp::Eq, b'd')?;
-        assert_eq!(rt; read(&part, &schema, &filter)?, (1, 2));
-        let filter = both(
-            alloc,
-            letter(alloc, Cmp::Gt, b'c')?,
-            letter(alloc, Cmp::Lt, b'z')?,
-        )?;
-        assert_eq!(rt; read(&part, &schema, &filter)?, (0, 3));
-        assert_eq!(rt; read(&part, &schema, &number(Cmp::Eq, 10))?, (0, 3));
+        assert_eq!(rt;
+            read(&part, &schema, letter(alloc, Cmp::Eq, b'd')?)?,
+            (1, 2)
+        );
+        assert_eq!(rt;
+            read(&part, &schema, letter(alloc, Cmp::Gt, b'c')?)?,
+            (0, 3)
+        );
+        assert_eq!(rt; read(&part, &schema, number(Cmp::Eq, 10))?, (0, 3));
         Ok(())
     }
 
@@ -246,7 +256,7 @@ mod tests {
         let alloc = rt.alloc();
         let schema = schema(alloc, b"", 2)?;
         let part = part(alloc, &schema, &TENS)?;
-        assert_eq!(rt; read(&part, &schema, &number(Cmp::Eq, 10))?, (0, 3));
+        assert_eq!(rt; read(&part, &schema, number(Cmp::Eq, 10))?, (0, 3));
         Ok(())
     }
 
@@ -255,7 +265,7 @@ mod tests {
         let alloc = rt.alloc();
         let schema = schema(alloc, b"c", 2)?;
         let part = part(alloc, &schema, &[])?;
-        assert_eq!(rt; read(&part, &schema, &number(Cmp::Ge, 0))?, (0, 0));
+        assert_eq!(rt; read(&part, &schema, number(Cmp::Ge, 0))?, (0, 0));
         Ok(())
     }
 
@@ -271,7 +281,7 @@ mod tests {
         if all_fit(&rows, &schema) {
             let part = from_unsorted_rows(alloc, rows, &schema)?;
             assert_eq!(rt; part.granules(), 123);
-            assert_eq!(rt; read(&part, &schema, &number(Cmp::Eq, 777_777))?, (94, 95));
+            assert_eq!(rt; read(&part, &schema, number(Cmp::Eq, 777_777))?, (94, 95));
         } else {
             assert!(rt; false);
         }

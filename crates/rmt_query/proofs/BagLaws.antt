@@ -1,10 +1,8 @@
 -- Rows of one bag have one answer.
-use Rattle.std.proofs.Common.{◌≡◌, ℕ, ◌+◌, Bool, true, false, cond, List, [], ◌∷◌, filter, map, refl, sym, ap, ◌∙◌, arith, inl, inr}
-use Rattle.std.proofs.lemmas.Bool.{cases_Bool, cond-true, cond-false}
+use Rattle.std.proofs.Common.{◌≡◌, ℕ, ◌+◌, Bool, true, false, cond, List, [], ◌∷◌, filter, map, refl, sym, ap, ◌∙◌, arith}
 use Rattle.std.specs.declared.option.Option.{Option}
 use Rattle.std.specs.Cmp.Lexicographic.{slice_cmp}
 use Rattle.rmt_values.specs.declared.value.Value.{Value}
-use Rattle.rmt_values.specs.declared.cell.Cell.{Cell}
 use Rattle.rmt_values.specs.declared.checked.Checked.{Checked}
 use Rattle.rmt_values.specs.declared.checked_item.CheckedItem.{CheckedItem}
 use Rattle.rmt_values.specs.declared.checked_query.CheckedQuery.{CheckedQuery}

@@ -1,13 +1,11 @@
 -- Equal bags: in order they are equal lists, and folds whose steps commute tell them alike.
-use Rattle.std.proofs.Common.{◌≡◌, ℕ, zero, suc, ◌+◌, Bool, true, false, cond, List, [], ◌∷◌, filter, is_lt, refl, sym, ap, ◌∙◌, arith, inl, inr}
-use Rattle.std.proofs.lemmas.Bool.{cond-true, cond-false, cases_Bool}
+use Rattle.std.proofs.Common.{◌≡◌, ℕ, zero, suc, ◌+◌, Bool, true, false, cond, List, [], ◌∷◌, filter, is_lt, refl, sym, ap, ◌∙◌, arith}
 use Rattle.std.specs.declared.cmp.Ordering.{Ordering}
-use Rattle.std.specs.declared.cmp.Ordering.TheVariants.{Less, Equal, Greater}
 use Rattle.std.specs.Ordering.{is_gt}
 use Rattle.std.specs.Cmp.{IsTotalOrder}
 use Rattle.std.specs.List.Sorted.{ties}
 use Rattle.rmt_values.specs.Order.{sink, in_order, tally, SameBag, folded, IsExact, Commutes}
-use Rattle.rmt_values.proofs.Sorting.{tied, Up-in_order, filter-in_order, same_from_ties, tally-in_order}
+use Rattle.rmt_values.proofs.Sorting.{tied, Up-in_order, filter-in_order, same_from_ties}
 
 -- n times x
 abbrev times : {X : Type 0} → ℕ → X → List X

@@ -1,6 +1,6 @@
 -- Rows may be put together in any order.
-use Rattle.std.proofs.Common.{◌≡◌, ℕ, ◌+◌, Bool, true, false, cond, List, [], ◌∷◌, slice_get, refl, sym, ap, ◌∙◌, arith}
-use Rattle.std.specs.Prelude.{ℤ, ◌+ℤ◌}
+use Rattle.std.proofs.Common.{◌≡◌, Bool, true, false, cond, List, [], ◌∷◌, slice_get, refl, sym, ap, ◌∙◌, arith}
+use Rattle.std.specs.Prelude.{ℤ}
 use Rattle.std.specs.declared.cmp.Ordering.{Ordering}
 use Rattle.std.specs.declared.cmp.Ordering.TheVariants.{Equal}
 use Rattle.std.specs.Ordering.{is_gt, flip_args}
@@ -12,7 +12,7 @@ use Rattle.rmt_values.specs.declared.cell.Cell.{Cell}
 use Rattle.rmt_values.specs.declared.cell.Cell.TheVariants.{UInt, Int, Text, Sum}
 use Rattle.rmt_values.specs.declared.checked_item.CheckedItem.{CheckedItem}
 use Rattle.rmt_values.specs.declared.checked_item.CheckedItem.TheVariants as item
-use Rattle.rmt_values.specs.Order.{sink, in_order, tally, SameBag, IsExact, Commutes}
+use Rattle.rmt_values.specs.Order.{sink, in_order, SameBag, IsExact, Commutes}
 use Rattle.rmt_query.specs.Cells.{cell_order, number_of, one, joined, plus, lesser, greater}
 use Rattle.rmt_query.specs.Answers.{add_row}
 use Rattle.rmt_query.proofs.Bags.{bag-order}

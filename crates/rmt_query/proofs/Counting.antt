@@ -1,5 +1,5 @@
 -- Counts of parts, one part after the other.
-use Rattle.std.proofs.Common.{◌≡◌, ℕ, zero, suc, ◌+◌, ◌<◌, List, [], ◌∷◌, ◌++◌, length, take, get_or, refl, subst, arith}
+use Rattle.std.proofs.Common.{◌≡◌, ℕ, zero, suc, ◌+◌, ◌<◌, List, [], ◌∷◌, ◌++◌, length, take, get_or, subst, arith}
 use Rattle.std.specs.declared.option.Option.{Option}
 use Rattle.rmt_values.specs.declared.checked.Checked.{Checked}
 use Rattle.rmt_granules.specs.Granules.{PartView}

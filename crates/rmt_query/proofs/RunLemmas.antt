@@ -1,5 +1,5 @@
 -- A run of rows that tie is a group.
-use Rattle.std.proofs.Common.{◌≡◌, ℕ, zero, suc, ◌+◌, ◌<◌, ◌≤◌, Bool, true, false, List, [], ◌∷◌, ◌++◌, map, length, take, drop, get_or, refl, sym, ap, ◌∙◌, subst, arith}
+use Rattle.std.proofs.Common.{◌≡◌, ℕ, zero, suc, ◌<◌, ◌≤◌, false, List, [], ◌∷◌, ◌++◌, map, length, take, drop, get_or, refl, sym, ap, ◌∙◌, arith}
 use Rattle.std.proofs.lemmas.List.{take-append-drop}
 use Rattle.std.specs.List.{AllWithin}
 use Rattle.std.specs.declared.option.Option.{Option}
@@ -14,7 +14,7 @@ use Rattle.rmt_values.specs.declared.value.Value.{Value}
 use Rattle.rmt_values.specs.declared.cell.Cell.{Cell}
 use Rattle.rmt_values.specs.declared.checked_item.CheckedItem.{CheckedItem}
 use Rattle.rmt_values.specs.Rows.{cell_cmp, key_of, key_cmp}
-use Rattle.rmt_values.specs.Order.{folded, IsExact, Commutes}
+use Rattle.rmt_values.specs.Order.{folded, Commutes}
 use Rattle.rmt_values.proofs.Sorting.{Low, Up}
 use Rattle.rmt_values.proofs.Totals.{cell_cmp_total, key_cmp_total, value_cmp_exact}
 use Rattle.rmt_query.specs.Groups.{enter, placed}
@@ -175,14 +175,3 @@ module _ (items : List CheckedItem) (group : List ℕ) where
 
       group-is : (j : Key) × (by k j ≡ Equal) × (folded put (folded put [] rest) (x ∷ take n xs) ≡ (j, folded (add_row items) [] (x ∷ take n xs)) ∷ folded put [] rest)
       group-is = run-folds k x (take n xs) (folded put [] rest) (tie-take k (x ∷ xs) (suc n) r.together r.within) (behind k rest (up-drop n xs u.1) less)
-
-  pub some-tuples : (x : List Value) (xs : List (List Value)) (t : List (List Cell)) → tuples (x ∷ xs) ≡ t → t ≡ [] → ⊥
-  some-tuples x xs t e h = go (groups_of items group xs) (e ∙ h) where
-    placed-some : (o : Ordering) (g : Key × List Cell) (gs deeper : Groups) → map (λ (g : Key × List Cell). g.1) (placed by (key_of group) [] (add_row items) o x g gs deeper) ≡ [] → ⊥
-    placed-some Less g gs deeper q = absurd (cc)
-    placed-some Equal g gs deeper q = absurd (cc)
-    placed-some Greater g gs deeper q = absurd (cc)
-
-    go : (gs : Groups) → map (λ (g : Key × List Cell). g.1) (put x gs) ≡ [] → ⊥
-    go [] q = absurd (cc)
-    go (g ∷ gs) q = placed-some (by (key_of group x) g.0) g gs (put x gs) q

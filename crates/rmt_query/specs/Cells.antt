@@ -1,13 +1,13 @@
 -- The cells of an answer: what an item is over rows.
 -- ClickHouse documentation: SELECT, GROUP BY; aggregate functions count, sum, min, max. That a sum is exact in 128 bits
 -- is this program's own.
-use Rattle.std.specs.Prelude.{◌≡◌, ℕ, ◌+◌, ℤ, pos, ◌+ℤ◌, cond, Bool, true, false, List, [], ◌∷◌, map, slice_get}
+use Rattle.std.specs.Prelude.{◌+◌, ℤ, pos, ◌+ℤ◌, cond, List, [], slice_get}
 use Rattle.std.specs.Ordering.{nat_cmp, int_cmp, is_gt}
 use Rattle.std.specs.Cmp.Lexicographic.{slice_cmp}
 use Rattle.std.specs.declared.option.Option.{Option}
 use Rattle.std.specs.declared.option.Option.TheVariants.{Some, None}
 use Rattle.std.specs.declared.cmp.Ordering.{Ordering}
-use Rattle.std.specs.declared.cmp.Ordering.TheVariants.{Less, Equal, Greater}
+use Rattle.std.specs.declared.cmp.Ordering.TheVariants.{Less, Greater}
 use Rattle.rmt_values.specs.declared.value.Value.{Value}
 use Rattle.rmt_values.specs.declared.value.Value.TheVariants.{UInt, Int, Text}
 use Rattle.rmt_values.specs.declared.cell.Cell.{Cell}

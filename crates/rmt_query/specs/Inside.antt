@@ -1,5 +1,5 @@
 -- What an item is over several rows. No public clause cites this module.
-use Rattle.std.specs.Prelude.{◌≡◌, ℕ, ℤ, pos, ◌+ℤ◌, List, [], ◌∷◌, map, slice_get}
+use Rattle.std.specs.Prelude.{ℕ, ℤ, pos, ◌+ℤ◌, List, [], ◌∷◌, slice_get}
 use Rattle.rmt_values.specs.declared.value.Value.{Value}
 use Rattle.rmt_values.specs.declared.cell.Cell.{Cell}
 use Rattle.rmt_values.specs.declared.cell.Cell.TheVariants as cells

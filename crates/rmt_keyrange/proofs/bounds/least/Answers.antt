@@ -1,4 +1,4 @@
-use Rattle.std.proofs.Common.{◌≡◌, true, false, sym, ◌∙◌, ap, subst, rules}
+use Rattle.std.proofs.Common.{sym, ◌∙◌, ap, subst}
 use Rattle.std.specs.Ordering.{is_gt}
 use Rattle.std.specs.declared.option.Option.{Option}
 use Rattle.rmt_values.specs.declared.value.Value.{Value}

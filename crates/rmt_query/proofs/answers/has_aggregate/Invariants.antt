@@ -1,4 +1,4 @@
-use Rattle.std.proofs.Common.{◌≡◌, ℕ, ◌+◌, ◌*◌, ◌<◌, ◌≤◌, ◌++◌, map, take, drop, length, get_or, []}
+use Rattle.std.proofs.Common.{◌≡◌, drop}
 use Rattle.rmt_query.specs.Answers.{has_aggregate}
 use Rattle.rmt_query.proofs.answers.has_aggregate.Given as goal
 

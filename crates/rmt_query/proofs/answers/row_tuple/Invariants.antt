@@ -1,4 +1,4 @@
-use Rattle.std.proofs.Common.{◌≡◌, ℕ, ◌+◌, ◌*◌, ◌<◌, ◌≤◌, ◌++◌, map, take, drop, length, get_or, []}
+use Rattle.std.proofs.Common.{◌≡◌, map, take}
 use Rattle.rmt_query.specs.Cells.{one}
 use Rattle.rmt_query.proofs.answers.row_tuple.Given as goal
 

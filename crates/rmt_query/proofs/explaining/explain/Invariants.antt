@@ -1,4 +1,4 @@
-use Rattle.std.proofs.Common.{◌≡◌, ℕ, ◌+◌, ◌*◌, ◌<◌, ◌≤◌, ◌++◌, map, take, drop, length, get_or, []}
+use Rattle.std.proofs.Common.{take}
 use Rattle.rmt_query.specs.Answers.{data_in}
 use Rattle.rmt_query.specs.Explained.{AreCounted}
 use Rattle.rmt_query.proofs.explaining.explain.Given as goal

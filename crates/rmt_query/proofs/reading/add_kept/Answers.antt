@@ -1,4 +1,4 @@
-use Rattle.std.proofs.Common.{rules, ◌≡◌, ℕ, zero, suc, ◌+◌, ◌-◌, ◌*◌, ◌<◌, ◌≤◌, List, [], ◌∷◌, ◌++◌, Bool, true, false, is_lt, length, map, take, drop, get_or, refl, sym, ap, ◌∙◌, subst, arith, inl, inr}
+use Rattle.std.proofs.Common.{◌≡◌, ℕ, List, ◌++◌, take, sym, ap, ◌∙◌, arith}
 use Rattle.rmt_values.specs.declared.value.Value.{Value}
 use Rattle.rmt_query.specs.Answers.{keeps as counts, kept}
 use Rattle.rmt_query.proofs.KeptLemmas.{none-before, all-before, append-none}

@@ -1,4 +1,4 @@
-use Rattle.std.proofs.Common.{◌≡◌, ℕ, ◌+◌, ◌*◌, ◌<◌, ◌≤◌, ◌++◌, map, take, drop, length, get_or, []}
+use Rattle.std.proofs.Common.{◌≡◌, ◌++◌, take}
 use Rattle.rmt_query.specs.Answers.{kept}
 use Rattle.rmt_query.proofs.reading.add_kept.Given as goal
 

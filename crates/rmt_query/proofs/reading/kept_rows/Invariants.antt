@@ -1,4 +1,4 @@
-use Rattle.std.proofs.Common.{◌≡◌, ℕ, ◌+◌, ◌*◌, ◌<◌, ◌≤◌, ◌++◌, map, take, drop, length, get_or, []}
+use Rattle.std.proofs.Common.{◌≡◌, ◌++◌, drop}
 use Rattle.rmt_query.specs.Answers.{kept, all_rows, data_in}
 use Rattle.rmt_query.proofs.reading.kept_rows.Given as goal
 

@@ -1,4 +1,4 @@
-use Rattle.std.proofs.Common.{rules, ◌≡◌, ℕ, zero, suc, ◌+◌, ◌-◌, ◌*◌, ◌<◌, ◌≤◌, List, [], ◌∷◌, ◌++◌, Bool, true, false, is_lt, length, map, take, drop, get_or, refl, sym, ap, ◌∙◌, subst, arith, inl, inr}
+use Rattle.std.proofs.Common.{◌≡◌, ℕ, List, [], true, get_or, sym, subst}
 use Rattle.std.specs.declared.option.Option.{Option}
 use Rattle.rmt_values.specs.declared.checked.Checked.{Checked}
 use Rattle.rmt_keyrange.specs.Ranges.{IsRangeOf}

@@ -1,4 +1,4 @@
-use Rattle.std.proofs.Common.{◌≡◌, ℕ, ◌+◌, ◌*◌, ◌<◌, ◌≤◌, ◌++◌, map, take, drop, length, get_or, []}
+use Rattle.std.proofs.Common.{◌≡◌, ◌++◌, map, length}
 use Rattle.rmt_values.specs.Rows.{key_cmp}
 use Rattle.rmt_values.proofs.Sorting.{Up}
 use Rattle.rmt_values.proofs.Totals.{key_cmp_total}
