@@ -31,7 +31,7 @@ pub length-entries : (tokens : List (Token Entry)) → length (entries tokens) �
 length-entries tokens = length-reverse (map (λ t. t.value) tokens) ∙ length-map tokens (λ t. t.value)
 
 -- the element at a place of a list with one more at its end
-get-snoc : {A : Type 0} (xs : List A) (x : A) (i : ℕ) → slice_get (xs ++ x ∷ []) i ≡ cond (nat_eq i (length xs)) (Some x) (slice_get xs i)
+pub get-snoc : {A : Type 0} (xs : List A) (x : A) (i : ℕ) → slice_get (xs ++ x ∷ []) i ≡ cond (nat_eq i (length xs)) (Some x) (slice_get xs i)
 get-snoc [] x zero = refl
 get-snoc [] x (suc i) = rw eqb-suc-zero refl
 get-snoc (y ∷ xs) x zero = rw eqb-zero-suc refl

@@ -10,26 +10,7 @@ use Rattle.rmt_entries.specs.declared.entry.Entry.{Entry}
 use Rattle.rmt_entries.specs.declared.entry.Entry.TheVariants.{Get, Merge, Mutate, Mutation, DropRange}
 use Rattle.rmt_model.specs.Words.{Has}
 use Rattle.rmt_model.specs.Lawful.{Uses, Used, AboveUsed, IsFresh, Merges, IsMutate, IsMutation, Lawful}
-use Rattle.rmt_model.proofs.LiveLaws.{tight}
-
--- a dropped number is used
-drop-used : (log : List Entry) (p : Option ℕ) (m : ℕ) → Has log (DropRange p m) → Used log p m
-drop-used [] p m h = absurd h
-drop-used (e ∷ log) p m (inl q) = inl (subst (λ (x : Entry). Uses x p m) (sym q) (refl, refl))
-drop-used (e ∷ log) p m (inr h) = inr (drop-used log p m h)
-
--- a number above all that are used is fresh
-fresh : (schema : Shape) (log : List Entry) (p : Option ℕ) (n : ℕ) → Lawful schema log → AboveUsed log p n → IsFresh log p n
-fresh schema log p n l u =
-    record {
-      unused = λ k. let q = u n k in absurd (omega (arith, q));
-      outside = λ a h s.
-          let t = (tight schema log l).used a h in
-          let q = u a.max (subst (λ (x : Option ℕ). Used log x a.max) s.partition t) in
-          let r = s.high in
-          absurd (omega (arith, q, r));
-      above = λ m d. u m (drop-used log p m d);
-    }
+use Rattle.rmt_model.proofs.Drops.{fresh}
 
 module _ (schema : Shape) (d : List ℕ) (command : CheckedMutation) (fits : CommandFits schema command) where
   abbrev pub part : ℕ → ℕ → ℕ → ℕ → ℕ → Name

@@ -10,7 +10,7 @@ use Rattle.rmt_entries.specs.declared.entry.Entry.{Entry}
 use Rattle.rmt_entries.specs.declared.entry.Entry.TheVariants.{Get, Merge, Mutate, Mutation, DropRange}
 use Rattle.rmt_model.specs.Words.{Has, Pairwise}
 use Rattle.rmt_model.specs.Live.{made, made_with, TakesAway, Dropped, DroppedAfter}
-use Rattle.rmt_model.specs.Lawful.{Lawful, Used, DropIn, entry_at}
+use Rattle.rmt_model.specs.Lawful.{Lawful, IsFresh, AboveUsed, Used, DropIn, entry_at}
 use Rattle.rmt_model.specs.Laws.{Supersedes}
 use Rattle.rmt_model.specs.Fair.{MadeAtMark, DroppedAtMark}
 use Rattle.rmt_model.proofs.Lists.{Each-at}
@@ -197,3 +197,16 @@ dropped-after schema (x ∷ log) i e a l q r d = elim (entry-cases x log i e q) 
     older : entry_at log i ≡ Some e → (Dropped log a → DroppedAfter log i a) → Dropped (x ∷ log) a → DroppedAfter (x ∷ log) i a
     older k f (inl d) = inl (f d)
     older k f (inr d) = inr (entry-below log i e k, d.1)
+
+-- a number above all that are used is fresh
+pub fresh : (schema : Shape) (log : List Entry) (p : Option ℕ) (n : ℕ) → Lawful schema log → AboveUsed log p n → IsFresh log p n
+fresh schema log p n l u =
+    record {
+      unused = λ k. let q = u n k in absurd (omega (arith, q));
+      outside = λ a h s.
+          let t = (tight schema log l).used a h in
+          let q = u a.max (subst (λ (x : Option ℕ). Used log x a.max) s.partition t) in
+          let r = s.high in
+          absurd (omega (arith, q, r));
+      above = λ m d. u m (drop-used log p m d);
+    }

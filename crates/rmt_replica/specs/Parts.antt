@@ -3,6 +3,10 @@
 use Rattle.std.specs.Prelude.{◌≡◌, ◌⊎◌, ℕ, not, filter, List, ◌∷◌, ◌++◌, map}
 use Rattle.std.specs.declared.option.Option.{Option}
 use Rattle.std.specs.declared.option.Option.TheVariants.{Some}
+use Rattle.rmt_values.specs.declared.value.Value.{Value}
+use Rattle.rmt_values.specs.Rows.{Shape, in_key_order}
+use Rattle.rmt_granules.specs.Granules.{PartView}
+use Rattle.rmt_granules.specs.Making.{data_of}
 use Rattle.rmt_names.specs.Names.{Name, Covers}
 use Rattle.rmt_entries.specs.Entries.{result_name}
 use Rattle.rmt_entries.specs.declared.entry.Entry.{Entry}
@@ -13,11 +17,16 @@ use Rattle.rmt_row.specs.Token.{Token}
 use Rattle.rmt_model.specs.Words.{Has, Each}
 use Rattle.rmt_model.specs.Live.{placed, in_drop}
 
--- a part: its name, its block, and the entry that made it
+-- a part: its name, its block, the block's rows in order of key, and the entry that made it
 pub record BlockPart : Type 0 where
   pub name : Name
   pub block : BlockView
+  pub rows : PartView
   pub made : Token Entry
+
+-- rows in order of key, in granules
+abbrev pub rows_in : Shape → List (List Value) → PartView
+rows_in schema rows = data_of schema (in_key_order schema rows)
 
 -- the entry is a Get of this block's partition and digest
 abbrev pub IsGetOf : Entry → BlockView → Type 0

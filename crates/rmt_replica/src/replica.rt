@@ -1,4 +1,4 @@
-ghost use Rattle.std.specs.Prelude.{◌≡◌, ◌↔◌, ◌∷◌, ◌++◌, ◌<◌, ◌≤◌, ◌⊎◌, [], true, false, length, IsTrue, IfOk, OnOk, OnErr, MatchOption, IfSome};
+ghost use Rattle.std.specs.Prelude.{◌≡◌, ◌↔◌, ◌∷◌, ◌++◌, ◌<◌, ◌≤◌, ◌⊎◌, ℕ, [], true, false, length, IsTrue, IfOk, OnOk, OnErr, MatchOption, IfSome};
 ghost use Rattle.std.specs.Option.{option_map, option_copied};
 ghost use Rattle.std.specs.Arc.{arc_value};
 ghost use Rattle.rmt_names.specs.Names.{Name, Covers};
@@ -107,7 +107,8 @@ impl Replica {
     /// Whether the entry at this place is done.
     pub fn done(&self, i: usize) -> bool
         requires { i < length self.now.log }
-        ensures { result ≡ done_at self.now.done i }
+        ensures done { result ≡ done_at self.now.done i }
+        ensures standing { IsStandingReplica self.now }
     {
         self.queue.done(i)
     }
@@ -120,6 +121,17 @@ impl Replica {
         match self.queue.lowest() {
             Some(lowest) => self.copy.len() <= lowest,
             None => true,
+        }
+    }
+
+    /// The place of the first entry of the copy that isn't done; the length where all are.
+    pub fn first_pending(&self) -> usize
+        ensures bound { result ≤ length self.now.log }
+        ensures below { (i : ℕ) → i < result → done_at self.now.done i ≡ true }
+    {
+        match self.queue.lowest() {
+            Some(lowest) => lowest.min(self.copy.len()),
+            None => self.copy.len(),
         }
     }
 

@@ -3,8 +3,8 @@ ghost use Rattle.std.specs.declared.option.Option.TheVariants.{Some};
 ghost use Rattle.std.specs.Arc.{arc_value};
 
 use crate::part::Part;
+use rmt_granules::PartData;
 use rmt_names::PartName;
-use rmt_values::Row;
 use std::alloc::{AllocError, Global};
 use std::marker::Model;
 use std::sync::Arc;
@@ -56,11 +56,11 @@ impl Snapshot {
         self.parts[i].name()
     }
 
-    /// The rows of a part, counted from 0, as they were offered.
-    pub fn rows(&self, i: usize) -> &[Row]
+    /// The rows of a part, counted from 0, in order of key.
+    pub fn rows(&self, i: usize) -> &Arc<PartData, Global>
         requires { i < length self.now }
-        ensures { (part : _) → slice_get self.now i ≡ Some part → result.now ≡ part.block.rows }
+        ensures { (part : _) → slice_get self.now i ≡ Some part → arc_value result.now ≡ part.rows }
     {
-        self.parts[i].block().rows()
+        self.parts[i].rows()
     }
 }

@@ -1,0 +1,238 @@
+-- Logs of Gets alone.
+use Rattle.std.proofs.Common.{◌≡◌, ℕ, zero, suc, ◌+◌, ◌-◌, ◌<◌, ◌≤◌, ◌⊎◌, inl, inr, Bool, true, false, cond, List, [], ◌∷◌, ◌++◌, length, map, refl, sym, ap, subst, arith, ◌∙◌, nat_eq}
+use Rattle.std.proofs.lemmas.Bool.Decides.{nat_tests}
+use Rattle.std.specs.Prelude.{replicate, slice_get, slice_set, MatchOption, IsSome}
+use Rattle.std.specs.Arc.{arc_value}
+use Rattle.std.specs.declared.sync.Arc.{Arc}
+use Rattle.std.specs.declared.alloc.Global.{Global}
+use Rattle.std.specs.declared.option.Option.{Option}
+use Rattle.std.specs.declared.option.Option.TheVariants.{Some, None}
+use Rattle.rmt_values.specs.Rows.{Shape}
+use Rattle.rmt_names.specs.Names.{Name, Covers, block_name}
+use Rattle.rmt_entries.specs.Entries.{result_name}
+use Rattle.rmt_entries.specs.declared.entry.Entry.{Entry}
+use Rattle.rmt_entries.specs.declared.entry.Entry.TheVariants.{Get, Merge, Mutate, Mutation, DropRange}
+use Rattle.rmt_model.specs.Words.{Has}
+use Rattle.rmt_model.specs.Live.{Dropped, TakesAway}
+use Rattle.rmt_model.specs.Lawful.{entry_at, Lawful, Used}
+use Rattle.rmt_model.specs.Parts.{GoesOn}
+use Rattle.rmt_model.specs.Fair.{MadeAtMark, CoveredBy}
+use Rattle.rmt_model.proofs.Lists.{Each-at}
+use Rattle.rmt_model.proofs.Drops.{entry-older, entry-below, entry-cases, fresh}
+use Rattle.rmt_history.specs.Copies.{MakesAt}
+use Rattle.rmt_queue.specs.Marks.{done_at}
+use Rattle.rmt_replica.specs.Parts.{BlockPart, IsBlockPart}
+use Rattle.rmt_replica.specs.Replicas.{ReplicaView, IsOfCopy, IsStandingReplica}
+use Rattle.rmt_replica.specs.declared.supply.Supply.TheVariants.{Fetched}
+use Rattle.rmt_replica.proofs.MarkLemmas.{length-set-is}
+use Rattle.rmt_replicas.specs.Following.{AreGets, OneHasDone, Supplies, DoesGet, CatchesUp, Pulls, Drains}
+
+-- a front of a log of Gets is one
+pub gets-front : (xs log : List Entry) → AreGets (xs ++ log) → AreGets log
+gets-front [] log g = g
+gets-front (Get p n digest source need ∷ xs) log g = gets-front xs log g.2
+gets-front (Merge new sources count ∷ xs) log g = absurd g
+gets-front (Mutate old new upto count mcount ∷ xs) log g = absurd g
+gets-front (Mutation id numbers command ∷ xs) log g = absurd g
+gets-front (DropRange p n ∷ xs) log g = absurd g
+
+-- it has no drop
+pub gets-keep : (log : List Entry) (a : Name) → AreGets log → Dropped log a → ⊥
+gets-keep [] a g d = d
+gets-keep (Get p n digest source need ∷ log) a g (inl d) = gets-keep log a g.2 d
+gets-keep (Get p n digest source need ∷ log) a g (inr d) = d.1
+gets-keep (Merge new sources count ∷ log) a g d = absurd g
+gets-keep (Mutate old new upto count mcount ∷ log) a g d = absurd g
+gets-keep (Mutation id numbers command ∷ log) a g d = absurd g
+gets-keep (DropRange p n ∷ log) a g d = absurd g
+
+named : (p : Option ℕ) (n k : ℕ) → p ≡ None → n ≡ k → block_name p n ≡ block_name None k
+named p n k e f = cc
+
+-- each place makes the part of its number
+pub makes-number : (log : List Entry) (i : ℕ) → AreGets log → i < length log → MakesAt log i (block_name None i)
+makes-number [] i g l = absurd (omega (arith, l))
+makes-number (Get p n digest source need ∷ log) i g l = go (nat_eq i (length log)) refl (makes-number log i g.2)
+  where
+    go : (b : Bool) → nat_eq i (length log) ≡ b → (i < length log → MakesAt log i (block_name None i)) → MakesAt (Get p n digest source need ∷ log) i (block_name None i)
+    go true e f =
+        let q : i ≡ length log = grind (arith, nat_tests) in
+        record {
+          entry = Get p n digest source need;
+          stands = ap (λ (b : Bool). cond b (Some (Get p n digest source need)) (entry_at log i)) e;
+          makes = ap Some (named p n i g.0 (g.1 ∙ sym q));
+        }
+    go false e f =
+        let k : i < length log = grind (arith, nat_tests) in
+        let m = f k in
+        record { entry = m.entry; stands = entry-older (Get p n digest source need) log i m.entry m.stands; makes = m.makes }
+makes-number (Merge new sources count ∷ log) i g l = absurd g
+makes-number (Mutate old new upto count mcount ∷ log) i g l = absurd g
+makes-number (Mutation id numbers command ∷ log) i g l = absurd g
+makes-number (DropRange p n ∷ log) i g l = absurd g
+
+-- what is made at a marked place
+pub made-at-mark : (log : List Entry) (marked : ℕ → Bool) (i : ℕ) (e : Entry) (a : Name) → entry_at log i ≡ Some e → result_name e ≡ Some a → marked i ≡ true → MadeAtMark log marked a
+made-at-mark [] marked i e a q r m = absurd (cc)
+made-at-mark (x ∷ log) marked i e a q r m = elim (entry-cases x log i e q) [
+  | inl k ↦ inl (subst (λ (j : ℕ). marked j ≡ true) k.0 m, ap result_name k.1 ∙ r)
+  | inr k ↦ inr (made-at-mark log marked i e a k r m)
+]
+
+-- what stands in a front stands in the log
+pub entry-on : (xs log : List Entry) (i : ℕ) (e : Entry) → entry_at log i ≡ Some e → entry_at (xs ++ log) i ≡ Some e
+entry-on [] log i e q = q
+entry-on (x ∷ xs) log i e q = entry-older x (xs ++ log) i e (entry-on xs log i e q)
+
+true-within : (xs : List Bool) (i : ℕ) → done_at xs i ≡ true → i < length xs
+true-within [] i e = absurd (cc)
+true-within (x ∷ xs) zero e = omega arith
+true-within (x ∷ xs) (suc i) e = let k = true-within xs i e in omega (arith, k)
+
+-- a replica that has done an entry has a part of its number
+pub has-part : (r : ReplicaView) (i : ℕ) → IsStandingReplica r → AreGets r.log → done_at r.done i ≡ true → CoveredBy (map (λ p. p.name) r.parts) (block_name None i)
+has-part r i s g d = go (s.fair.answered (block_name None i) (made-at-mark r.log (done_at r.done) i m.entry (block_name None i) m.stands m.makes d))
+  where
+    within : i < length r.log
+    within = let a = true-within r.done i d in let b = s.marks in omega (arith, a, b)
+
+    m : MakesAt r.log i (block_name None i)
+    m = makes-number r.log i g within
+
+    go : CoveredBy (map (λ p. p.name) r.parts) (block_name None i) ⊎ Dropped r.log (block_name None i) → CoveredBy (map (λ p. p.name) r.parts) (block_name None i)
+    go (inl c) = c
+    go (inr t) = absurd (gets-keep r.log (block_name None i) g t)
+
+-- a part of a replica that follows the log was made in the log
+pub part-on : (r : ReplicaView) (log : List Entry) (part : BlockPart) → IsStandingReplica r → GoesOn r.log log → Has r.parts part → IsOfCopy log part
+part-on r log part s g h =
+    subst (λ (l : List Entry). IsOfCopy l part) (sym g.is) (entry-on g.gained r.log part.made.place part.made.value (Each-at (λ p. IsOfCopy r.log p × IsBlockPart p) r.parts part s.made h).0)
+
+pub part-within : (log : List Entry) (part : BlockPart) → IsOfCopy log part → part.made.place < length log
+part-within log part o = entry-below log part.made.place part.made.value o
+
+-- marks that are all set
+pub all-set : (xs : List Bool) (n : ℕ) → length xs ≡ n → ((i : ℕ) → i < n → done_at xs i ≡ true) → xs ≡ replicate n true
+all-set [] zero e f = refl
+all-set [] (suc n) e f = absurd (omega (arith, e))
+all-set (x ∷ xs) zero e f = absurd (omega (arith, e))
+all-set (x ∷ xs) (suc n) e f = ap (λ (b : Bool). b ∷ xs) (f 0 (omega arith)) ∙ ap (λ zs. true ∷ zs) (all-set xs n (omega (arith, e)) (λ i l. f (suc i) (omega (arith, l))))
+
+pub is-some-of : {A : Type 0} (o : Option A) (P : Type 0) (Q : A → Type 0) → MatchOption o P Q → (P → ⊥) → IsSome o
+is-some-of None P Q m n = absurd (n m)
+is-some-of (Some x) P Q m n = refl
+
+pub is-some : {A : Type 0} (o : Option A) (x : A) → o ≡ Some x → IsSome o
+is-some o x e = subst IsSome (sym e) refl
+
+pub set-here : (xs : List Bool) (i : ℕ) → i < length xs → done_at (slice_set xs i true) i ≡ true
+set-here [] i l = absurd (omega (arith, l))
+set-here (x ∷ xs) zero l = refl
+set-here (x ∷ xs) (suc i) l = set-here xs i (omega (arith, l))
+
+pub set-more : (xs : List Bool) (i j : ℕ) → done_at xs j ≡ true → done_at (slice_set xs i true) j ≡ true
+set-more [] i j e = e
+set-more (x ∷ xs) zero zero e = refl
+set-more (x ∷ xs) zero (suc j) e = e
+set-more (x ∷ xs) (suc i) zero e = e
+set-more (x ∷ xs) (suc i) (suc j) e = set-more xs i j e
+
+-- what a replica that has the log can be supplied with by another one
+pub supplied-by : (r other : ReplicaView) (log : List Entry) (i : ℕ) (part : Arc BlockPart Global) → IsStandingReplica other → GoesOn other.log log → AreGets log → i < length log → r.log ≡ log
+    → Has other.parts (arc_value part) → Covers (arc_value part).name (block_name None i) → Supplies r i (Fetched part)
+supplied-by r other log i part s g gets l e h c =
+    let of_copy = subst (λ (x : List Entry). IsOfCopy x (arc_value part)) (sym e) (part-on other log (arc_value part) s g h) in
+    record {
+      name = block_name None i;
+      makes = subst (λ (x : List Entry). MakesAt x i (block_name None i)) (sym e) (makes-number log i gets l);
+      serves = record { part = arc_value part; given = refl; covers = c; within = part-within r.log (arc_value part) of_copy };
+      of_table = λ _. of_copy;
+    }
+
+pub caught-up : (old other : ReplicaView) (i : ℕ) (part : Arc BlockPart Global) (new : ReplicaView) → i < length old.done → Has other.parts (arc_value part) → DoesGet old i (Fetched part) new → CatchesUp old other i new
+caught-up old other i part new l h d = record {
+  copy = d.copy;
+  done = ap (λ (ds : List Bool). done_at ds i) d.done ∙ set-here old.done i l;
+  more = λ j e. ap (λ (ds : List Bool). done_at ds j) d.done ∙ set-more old.done i j e;
+  marks = ap (λ (ds : List Bool). length ds) d.done ∙ length-set-is old.done i;
+  parts = λ p k. elim (d.parts p k) [ inl q ↦ inl (subst (Has other.parts) (some-one (arc_value part) p q) h) | inr m ↦ inr m ];
+  schema_is = d.schema_is;
+  up = d.up;
+}
+  where
+    some-one : (x y : BlockPart) → Some x ≡ Some y → x ≡ y
+    some-one x y e = cc
+
+-- a replica that is drained up to a place
+pub record DrainedTo (old other : ReplicaView) (log : List Entry) (i : ℕ) (r : ReplicaView) : Type 0 where
+  pub copy : r.log ≡ log
+  pub below : (j : ℕ) → j < i → done_at r.done j ≡ true
+  pub marks : length r.done ≡ length log
+  pub one : OneHasDone log r other
+  pub parts : (p : BlockPart) → Has r.parts p → Has other.parts p ⊎ Has old.parts p
+  pub schema_is : r.schema ≡ old.schema
+  pub up : r.up ≡ old.up
+
+pub drained-on : (old other : ReplicaView) (log : List Entry) (i : ℕ) (r new : ReplicaView) → DrainedTo old other log i r → CatchesUp r other i new → DrainedTo old other log (i + 1) new
+drained-on old other log i r new d c = record {
+  copy = c.copy ∙ d.copy;
+  below = λ j l. below j (nat_eq j i) refl l;
+  marks = c.marks ∙ d.marks;
+  one = λ j l. elim (d.one j l) [ inl e ↦ inl (c.more j e) | inr e ↦ inr e ];
+  parts = λ p h. elim (c.parts p h) [ inl k ↦ inl k | inr k ↦ d.parts p k ];
+  schema_is = c.schema_is ∙ d.schema_is;
+  up = c.up ∙ d.up;
+}
+  where
+    below : (j : ℕ) (b : Bool) → nat_eq j i ≡ b → j < i + 1 → done_at new.done j ≡ true
+    below j true e l = let q : j ≡ i = grind (arith, nat_tests) in ap (done_at new.done) q ∙ c.done
+    below j false e l = c.more j (d.below j (grind (arith, nat_tests)))
+
+pub drained-start : (old other r : ReplicaView) (log : List Entry) (first : ℕ) → Pulls old log r → IsStandingReplica r → OneHasDone log old other → ((j : ℕ) → j < first → done_at r.done j ≡ true) → DrainedTo old other log first r
+drained-start old other r log first p s o f = record {
+  copy = p.copy;
+  below = f;
+  marks = s.marks ∙ ap (λ (x : List Entry). length x) p.copy;
+  one = λ j l. elim (o j l) [ inl e ↦ inl (ap (λ (ds : List Bool). done_at ds j) p.done ∙ front-true old.done (replicate (length log - length old.done) false) j e) | inr e ↦ inr e ];
+  parts = λ x h. inr (subst (λ (ps : List BlockPart). Has ps x) p.parts h);
+  schema_is = p.schema_is;
+  up = p.up;
+}
+  where
+    front-true : (xs ys : List Bool) (j : ℕ) → done_at xs j ≡ true → done_at (xs ++ ys) j ≡ true
+    front-true [] ys j e = absurd (cc)
+    front-true (x ∷ xs) ys zero e = e
+    front-true (x ∷ xs) ys (suc j) e = front-true xs ys j e
+
+pub drained-end : (old other : ReplicaView) (log : List Entry) (i : ℕ) (r : ReplicaView) → DrainedTo old other log i r → length log ≤ i → Drains old other log r
+drained-end old other log i r d l = record {
+  copy = d.copy;
+  done = all-set r.done (length log) d.marks (λ j m. d.below j (omega (arith, l, m)));
+  parts = d.parts;
+  schema_is = d.schema_is;
+  up = d.up;
+}
+
+pub other-done : {P : Type 0} {b : Bool} → (b ≡ true) ⊎ P → b ≡ false → P
+other-done (inl e) f = absurd (cc)
+other-done (inr p) f = p
+
+used-below : (log : List Entry) (p : Option ℕ) (n : ℕ) → AreGets log → Used log p n → n < length log
+used-below [] p n g u = absurd u
+used-below (Get q m digest source need ∷ log) p n g (inl u) = let a = u.1 in let b = g.1 in omega (arith, a, b)
+used-below (Get q m digest source need ∷ log) p n g (inr u) = let k = used-below log p n g.2 u in omega (arith, k)
+used-below (Merge new sources count ∷ log) p n g u = absurd g
+used-below (Mutate old new upto count mcount ∷ log) p n g u = absurd g
+used-below (Mutation id numbers command ∷ log) p n g u = absurd g
+used-below (DropRange q m ∷ log) p n g u = absurd g
+
+-- a log of Gets is lawful
+pub gets-lawful : (schema : Shape) (log : List Entry) → AreGets log → Lawful schema log
+gets-lawful schema [] g = tt
+gets-lawful schema (Get p n digest source need ∷ log) g =
+    let l = gets-lawful schema log g.2 in
+    (l, fresh schema log p n l (λ m u. let k = used-below log p m g.2 u in let e = g.1 in omega (arith, k, e)))
+gets-lawful schema (Merge new sources count ∷ log) g = absurd g
+gets-lawful schema (Mutate old new upto count mcount ∷ log) g = absurd g
+gets-lawful schema (Mutation id numbers command ∷ log) g = absurd g
+gets-lawful schema (DropRange p n ∷ log) g = absurd g

@@ -1,0 +1,5 @@
+pub mod Pulled
+pub mod Gets
+pub mod Newest
+pub mod TableSteps
+pub mod Reading
