@@ -57,7 +57,9 @@ impl Part {
     {
         let name = match made.value() {
             Entry::Get {
-                partition, number, ..
+                partition,
+                number,
+                ..
             } => block_name(*partition, *number),
             _ => unreachable!(),
         };
