@@ -1,7 +1,7 @@
 -- Logs of Gets alone.
 use Rattle.std.proofs.Common.{◌≡◌, ℕ, zero, suc, ◌+◌, ◌-◌, ◌<◌, ◌≤◌, ◌⊎◌, inl, inr, Bool, true, false, cond, List, [], ◌∷◌, ◌++◌, length, map, refl, sym, ap, subst, arith, ◌∙◌, nat_eq}
 use Rattle.std.proofs.lemmas.Bool.Decides.{nat_tests}
-use Rattle.std.specs.Prelude.{replicate, slice_get, slice_set, MatchOption, IsSome}
+use Rattle.std.specs.Prelude.{replicate, slice_set, MatchOption, IsSome}
 use Rattle.std.specs.Arc.{arc_value}
 use Rattle.std.specs.declared.sync.Arc.{Arc}
 use Rattle.std.specs.declared.alloc.Global.{Global}
@@ -13,7 +13,7 @@ use Rattle.rmt_entries.specs.Entries.{result_name}
 use Rattle.rmt_entries.specs.declared.entry.Entry.{Entry}
 use Rattle.rmt_entries.specs.declared.entry.Entry.TheVariants.{Get, Merge, Mutate, Mutation, DropRange}
 use Rattle.rmt_model.specs.Words.{Has}
-use Rattle.rmt_model.specs.Live.{Dropped, TakesAway}
+use Rattle.rmt_model.specs.Live.{Dropped}
 use Rattle.rmt_model.specs.Lawful.{entry_at, Lawful, Used}
 use Rattle.rmt_model.specs.Parts.{GoesOn}
 use Rattle.rmt_model.specs.Fair.{MadeAtMark, CoveredBy}

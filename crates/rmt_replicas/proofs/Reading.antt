@@ -1,5 +1,5 @@
 -- What the active parts of a replica hold.
-use Rattle.std.proofs.Common.{◌≡◌, ℕ, zero, suc, ◌+◌, ◌-◌, ◌<◌, ◌≤◌, ◌⊎◌, inl, inr, ◌&&◌, ◌||◌, Bool, true, false, cond, List, [], ◌∷◌, ◌++◌, length, map, refl, sym, ap, subst, arith, ◌∙◌, nat_eq, nat_lt, nat_le}
+use Rattle.std.proofs.Common.{◌≡◌, ℕ, zero, suc, ◌+◌, ◌-◌, ◌<◌, ◌≤◌, ◌&&◌, ◌||◌, Bool, true, false, cond, List, [], ◌∷◌, ◌++◌, length, refl, sym, ap, subst, arith, ◌∙◌, nat_eq, nat_lt, nat_le}
 use Rattle.std.proofs.lemmas.Bool.Decides.{nat_tests}
 use Rattle.std.proofs.lemmas.List.{append-nil}
 use Rattle.std.specs.List.{filter_map, cons_option}
@@ -13,22 +13,20 @@ use Rattle.rmt_names.specs.Names.{Name, rank, block_name, data_version}
 use Rattle.rmt_entries.specs.declared.entry.Entry.{Entry}
 use Rattle.rmt_entries.specs.declared.entry.Entry.TheVariants.{Get, Merge, Mutate, Mutation, DropRange}
 use Rattle.rmt_block.specs.Blocks.{BlockView}
-use Rattle.rmt_model.specs.Words.{Has, Each}
+use Rattle.rmt_model.specs.Words.{Each}
 use Rattle.rmt_model.specs.Live.{live}
-use Rattle.rmt_model.specs.Lawful.{Lawful}
-use Rattle.rmt_model.specs.Content.{Row, Blocks, changed, is_block, has_block, block_rows, joined, content, rows, snapshot}
+use Rattle.rmt_model.specs.Content.{Row, Blocks, changed, has_block, block_rows, joined, content, rows, snapshot}
 use Rattle.rmt_model.specs.Fair.{AreFair, AllMarked}
-use Rattle.rmt_model.specs.Parts.{GoesOn}
 use Rattle.rmt_model.proofs.Lists.{Each-at, Each-all}
 use Rattle.rmt_model.proofs.Drained.{fair-live}
 use Rattle.rmt_model.proofs.Headline.{reads-plain-rows}
 use Rattle.rmt_model.proofs.Standing.{fair-more}
 use Rattle.rmt_queue.specs.Marks.{done_at}
-use Rattle.rmt_replica.specs.Parts.{BlockPart, part_names, rows_in}
+use Rattle.rmt_replica.specs.Parts.{BlockPart, part_names}
 use Rattle.rmt_replica.specs.Replicas.{ReplicaView, IsStandingReplica}
 use Rattle.rmt_replica.proofs.MarkLemmas.{past-false}
-use Rattle.rmt_replicas.specs.Following.{AreGets, IsPartOfBlock}
-use Rattle.rmt_replicas.specs.Tables.{Accepted, TableState, known_at, rows_by_number, contents, part_rows, IsReading, AreOf, accepted, block_at, Holds, Follows, IsReplicaAt}
+use Rattle.rmt_replicas.specs.Following.{AreGets}
+use Rattle.rmt_replicas.specs.Tables.{Accepted, TableState, rows_by_number, contents, part_rows, IsReading, AreOf, accepted, block_at, Holds, IsReplicaAt}
 use Rattle.rmt_replicas.proofs.Gets.{gets-lawful}
 use Rattle.rmt_replicas.proofs.Pulled.{length-both}
 use Rattle.rmt_replicas.proofs.TableSteps.{same-length, block-below}

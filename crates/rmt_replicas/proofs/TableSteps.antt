@@ -1,5 +1,5 @@
 -- What a table keeps as a block is accepted, and as a replica is brought up to date.
-use Rattle.std.proofs.Common.{◌≡◌, ℕ, zero, suc, ◌+◌, ◌-◌, ◌<◌, ◌≤◌, ◌⊎◌, inl, inr, Bool, true, false, cond, List, [], ◌∷◌, ◌++◌, length, map, reverse, refl, sym, ap, subst, arith, ◌∙◌, nat_eq}
+use Rattle.std.proofs.Common.{◌≡◌, ℕ, zero, suc, ◌+◌, ◌-◌, ◌<◌, ◌⊎◌, inl, inr, Bool, true, false, cond, List, [], ◌∷◌, ◌++◌, length, map, reverse, refl, sym, ap, subst, arith, ◌∙◌, nat_eq}
 use Rattle.std.proofs.lemmas.Bool.Decides.{nat_tests}
 use Rattle.std.proofs.lemmas.List.{reverse-append}
 use Rattle.std.specs.Prelude.{slice_get, slice_set, replicate}
@@ -12,7 +12,6 @@ use Rattle.rmt_entries.specs.declared.entry.Entry.{Entry}
 use Rattle.rmt_entries.specs.declared.entry.Entry.TheVariants.{Get}
 use Rattle.rmt_block.specs.Blocks.{BlockView, block_of, kinds_of}
 use Rattle.rmt_row.specs.Token.{Token}
-use Rattle.rmt_model.specs.Words.{Has, Each}
 use Rattle.rmt_model.specs.Parts.{GoesOn}
 use Rattle.rmt_model.proofs.Lists.{Each-at, Each-all}
 use Rattle.rmt_history.specs.Copies.{entries}
@@ -22,7 +21,7 @@ use Rattle.rmt_entries.specs.Entries.{result_name}
 use Rattle.rmt_queue.specs.Marks.{grown, done_at}
 use Rattle.rmt_replica.specs.Parts.{BlockPart, IsGetOf}
 use Rattle.rmt_replica.specs.Replicas.{ReplicaView}
-use Rattle.rmt_replicas.specs.Following.{AreGets, OneHasDone, IsPartOfBlock, IsNewest, TakesBlock, Drains}
+use Rattle.rmt_replicas.specs.Following.{AreGets, OneHasDone, IsNewest, TakesBlock, Drains}
 use Rattle.rmt_replicas.specs.Tables.{AreOf, accepted, block_at, Holds, Follows, IsTable, table_of, learned, Accepted, ComesNext, with_block, synced, Accepts, known_at, TableState}
 use Rattle.rmt_model.specs.Content.{Row}
 use Rattle.rmt_replicas.proofs.Gets.{set-here, set-more}

@@ -1,15 +1,13 @@
 -- A table's log of inserted blocks, and a replica that follows it.
 -- ClickHouse documentation, Data Replication: a replica pulls the entries of the log, and fetches parts from other replicas.
-use Rattle.std.specs.Prelude.{◌≡◌, ◌⊎◌, ℕ, ◌<◌, ◌-◌, Bool, true, false, cond, nat_eq, List, [], ◌∷◌, ◌++◌, length, replicate, slice_set, IfSome}
-use Rattle.std.specs.declared.option.Option.{Option}
+use Rattle.std.specs.Prelude.{◌≡◌, ◌⊎◌, ℕ, ◌<◌, ◌-◌, true, List, [], ◌∷◌, length, replicate, slice_set}
 use Rattle.std.specs.declared.option.Option.TheVariants.{Some, None}
 use Rattle.rmt_values.specs.Rows.{Shape}
 use Rattle.rmt_names.specs.Names.{Name, block_name}
 use Rattle.rmt_entries.specs.declared.entry.Entry.{Entry}
 use Rattle.rmt_entries.specs.declared.entry.Entry.TheVariants.{Get, Merge, Mutate, Mutation, DropRange}
 use Rattle.rmt_block.specs.Blocks.{BlockView}
-use Rattle.rmt_model.specs.Words.{Has, Each}
-use Rattle.rmt_model.specs.Parts.{GoesOn}
+use Rattle.rmt_model.specs.Words.{Has}
 use Rattle.rmt_history.specs.Copies.{MakesAt}
 use Rattle.rmt_queue.specs.Marks.{done_at, grown}
 use Rattle.rmt_replica.specs.declared.supply.Supply.{Supply}

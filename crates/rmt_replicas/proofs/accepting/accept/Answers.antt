@@ -3,8 +3,6 @@ use Rattle.std.proofs.lemmas.Grind.{common_steps}
 use Rattle.std.proofs.lemmas.Option.{gets}
 use Rattle.std.specs.Arc.{arc_value}
 use Rattle.std.specs.declared.option.Option.TheVariants.{Some}
-use Rattle.rmt_row.specs.Token.{Token}
-use Rattle.rmt_entries.specs.declared.entry.Entry.{Entry}
 use Rattle.rmt_replica.specs.Parts.{BlockPart, IsBlockPart, rows_in}
 use Rattle.rmt_block.specs.Blocks.{BlockView}
 use Rattle.rmt_replicas.proofs.Newest.{supplies-newest, takes-block}

@@ -1,4 +1,4 @@
-use Rattle.std.proofs.Common.{◌≡◌, ◌<◌, ◌∙◌, inl, inr, arith, length, slice_get, sym, subst, ap}
+use Rattle.std.proofs.Common.{◌≡◌, ◌<◌, ◌∙◌, arith, length, slice_get, sym, subst, ap}
 use Rattle.std.proofs.lemmas.Grind.{common_steps}
 use Rattle.std.proofs.lemmas.Option.{gets}
 use Rattle.std.specs.Prelude.{ℕ, List, MatchOption}
@@ -13,7 +13,7 @@ use Rattle.rmt_model.specs.Words.{Has}
 use Rattle.rmt_model.proofs.Drops.{some-same}
 use Rattle.rmt_history.specs.Copies.{entries}
 use Rattle.rmt_history.proofs.Copied.{token_at, length-entries}
-use Rattle.rmt_replica.specs.Parts.{BlockPart, IsCovering, part_names}
+use Rattle.rmt_replica.specs.Parts.{IsCovering, part_names}
 use Rattle.rmt_replicas.specs.Following.{AreGets}
 use Rattle.rmt_replicas.proofs.Gets.{gets-front, makes-number, has-part, is-some, is-some-of, other-done, supplied-by, caught-up}
 use Rattle.rmt_replicas.proofs.draining.catch_up.Goals as goal

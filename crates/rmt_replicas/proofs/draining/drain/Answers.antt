@@ -1,4 +1,4 @@
-use Rattle.std.proofs.Common.{◌≡◌, ◌∙◌, ◌≤◌, arith, length, sym, ap}
+use Rattle.std.proofs.Common.{arith}
 use Rattle.rmt_history.specs.Copies.{entries}
 use Rattle.rmt_history.proofs.Copied.{length-entries}
 use Rattle.rmt_replicas.proofs.Gets.{drained-end}

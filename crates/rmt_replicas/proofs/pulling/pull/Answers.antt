@@ -1,4 +1,4 @@
-use Rattle.std.proofs.Common.{◌≡◌, ◌∙◌, ◌∷◌, ◌≤◌, ◌+◌, arith, length, slice_get, take, sym, subst, ap}
+use Rattle.std.proofs.Common.{◌≡◌, ◌∙◌, ◌∷◌, arith, length, slice_get, take, sym, subst, ap}
 use Rattle.std.proofs.lemmas.Grind.{common_steps}
 use Rattle.std.proofs.lemmas.Option.{gets}
 use Rattle.std.specs.Prelude.{List}
@@ -8,7 +8,7 @@ use Rattle.rmt_entries.specs.declared.entry.Entry.{Entry}
 use Rattle.rmt_model.specs.Lawful.{Lawful}
 use Rattle.rmt_values.specs.Rows.{Shape}
 use Rattle.rmt_history.specs.Copies.{entries}
-use Rattle.rmt_replicas.proofs.Pulled.{pulled-start, start-within, next-place, next-lawful, pulled-on}
+use Rattle.rmt_replicas.proofs.Pulled.{pulled-start, next-place, next-lawful, pulled-on}
 use Rattle.rmt_replicas.proofs.pulling.pull.Goals as goal
 
 pub entries-init : goal.entries-init

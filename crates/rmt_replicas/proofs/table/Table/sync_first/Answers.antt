@@ -1,4 +1,4 @@
-use Rattle.std.proofs.Common.{◌≡◌, ◌∙◌, map, reverse, slice_get, sym, subst}
+use Rattle.std.proofs.Common.{◌≡◌, map, reverse, slice_get, sym, subst}
 use Rattle.std.specs.Prelude.{List}
 use Rattle.std.specs.Arc.{arc_value}
 use Rattle.std.specs.declared.option.Option.TheVariants.{Some}
@@ -8,7 +8,7 @@ use Rattle.rmt_history.specs.Copies.{entries}
 use Rattle.rmt_model.specs.Parts.{GoesOn}
 use Rattle.rmt_replicas.specs.Following.{AreGets, OneHasDone, Drains}
 use Rattle.rmt_replicas.proofs.Gets.{gets-lawful}
-use Rattle.rmt_replicas.proofs.TableSteps.{turned, drained-first, synced-first}
+use Rattle.rmt_replicas.proofs.TableSteps.{drained-first, synced-first}
 use Rattle.rmt_replicas.proofs.table.Table.sync_first.Goals as goal
 
 pub drain-requires-clause-front : goal.drain-requires-clause-front

@@ -1,4 +1,4 @@
-use Rattle.std.proofs.Common.{◌≡◌, ◌∙◌, map, reverse, slice_get, sym, subst}
+use Rattle.std.proofs.Common.{◌≡◌, map, reverse, slice_get, sym, subst}
 use Rattle.std.specs.Prelude.{List}
 use Rattle.std.specs.Arc.{arc_value}
 use Rattle.std.specs.declared.option.Option.TheVariants.{Some}

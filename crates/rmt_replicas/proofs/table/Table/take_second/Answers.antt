@@ -1,4 +1,4 @@
-use Rattle.std.proofs.Common.{◌≡◌, ◌∙◌, ◌∷◌, ◌++◌, [], map, reverse, sym, subst}
+use Rattle.std.proofs.Common.{◌∙◌, map, reverse, subst}
 use Rattle.std.specs.Prelude.{List}
 use Rattle.std.specs.Arc.{arc_value}
 use Rattle.rmt_row.specs.Token.{Token}
