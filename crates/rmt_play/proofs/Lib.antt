@@ -1,4 +1,5 @@
-pub mod Held
-pub mod Places
 pub mod Steps
 pub mod Playing
+pub mod Seated
+pub mod Acting
+pub mod Worlds

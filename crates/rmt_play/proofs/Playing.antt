@@ -5,8 +5,8 @@ use Rattle.std.specs.Io.KnownBytes.{Appends, Keeps}
 use Rattle.std.proofs.KnownBytes.{Appends-nil, Appends-trans, Appends-kept}
 use Rattle.std.proofs.lemmas.List.{append-nil}
 use Rattle.std.proofs.lemmas.List.Sums.{sum_by-append}
-use Rattle.rmt_sql.specs.declared.parsed.Parsed.TheVariants as parsed
-use Rattle.rmt_sql.specs.Script.{ReadsAt}
+use Rattle.rmt_pieces.specs.declared.parsed.Parsed.TheVariants as parsed
+use Rattle.rmt_pieces.specs.Script.{ReadsAt}
 use Rattle.rmt_play.specs.declared.line.Line.{Line}
 use Rattle.rmt_play.specs.World.{World, start}
 use Rattle.rmt_play.specs.Plays.{Played}

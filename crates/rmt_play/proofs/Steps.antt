@@ -2,13 +2,13 @@
 use Rattle.std.proofs.Common.{◌≡◌, ◌∙◌, ℕ, ◌+◌, ◌≤◌, ◌<◌, min, List, [], ◌∷◌, length, refl, ap, subst, Bool, true, false, arith}
 use Rattle.std.specs.Prelude.{◌==◌}
 use Rattle.std.proofs.lemmas.Bool.Decides.{nat_tests}
-use Rattle.rmt_sql.specs.declared.parsed.Parsed.{Parsed}
-use Rattle.rmt_sql.specs.declared.parsed.Parsed.TheVariants as parsed
-use Rattle.rmt_sql.specs.declared.statement.Statement.{Statement}
-use Rattle.rmt_sql.specs.declared.statement.Statement.TheVariants.{Create, At}
-use Rattle.rmt_sql.specs.Tokens.{Spot}
-use Rattle.rmt_sql.specs.Forms.{IsStatement, SentAct}
-use Rattle.rmt_sql.specs.Script.{ReadsAt, start_from, piece_at}
+use Rattle.rmt_pieces.specs.declared.parsed.Parsed.{Parsed}
+use Rattle.rmt_pieces.specs.declared.parsed.Parsed.TheVariants as parsed
+use Rattle.rmt_pieces.specs.declared.statement.Statement.{Statement}
+use Rattle.rmt_pieces.specs.declared.statement.Statement.TheVariants.{Create, At}
+use Rattle.rmt_pieces.specs.Tokens.{Spot}
+use Rattle.rmt_pieces.specs.Forms.{IsStatement, SentAct}
+use Rattle.rmt_pieces.specs.Script.{ReadsAt, start_from, piece_at}
 use Rattle.rmt_play.specs.declared.line.Line.{Line}
 use Rattle.rmt_play.specs.World.{World, start}
 use Rattle.rmt_play.specs.Plays.{EndsAt, Played}

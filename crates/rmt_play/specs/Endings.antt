@@ -4,8 +4,8 @@ use Rattle.std.specs.declared.option.Option.{Option}
 use Rattle.std.specs.Io.KnownBytes.{Appends, Keeps}
 use Rattle.rmt_outside.specs.Causes.{Rose}
 use Rattle.rmt_outside.specs.Told.{AppendsFront}
-use Rattle.rmt_sql.specs.declared.parsed.Parsed.TheVariants as parsed
-use Rattle.rmt_sql.specs.Script.{ReadsAt}
+use Rattle.rmt_pieces.specs.declared.parsed.Parsed.TheVariants as parsed
+use Rattle.rmt_pieces.specs.Script.{ReadsAt}
 use Rattle.rmt_play.specs.declared.ending.Ending.{Ending}
 use Rattle.rmt_play.specs.declared.ending.Ending.TheVariants as endings
 use Rattle.rmt_play.specs.declared.ending.Turned.{Turned}

@@ -1,10 +1,13 @@
 pub use Rattle.rmt_outside.specs.Causes
 pub use Rattle.rmt_outside.specs.Told
-pub use Rattle.rmt_sql.specs.Forms
-pub use Rattle.rmt_sql.specs.Script
+pub use Rattle.rmt_pieces.specs.Forms
+pub use Rattle.rmt_pieces.specs.Script
+pub use Rattle.rmt_replicas.specs.Tables
+pub use Rattle.rmt_query.specs.Answers
 pub mod World
 pub mod Plays
 pub mod Printed
 pub mod Runs
+pub mod Asked
 pub mod Inside
 pub mod Endings

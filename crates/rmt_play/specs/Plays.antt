@@ -1,21 +1,35 @@
 -- What statements reply and change, one after the other.
-use Rattle.std.specs.Prelude.{◌≡◌, ℕ, zero, suc, cond, List, [], ◌∷◌, ◌++◌, length, sum, codes, MatchOption}
+use Rattle.std.specs.Prelude.{◌≡◌, ℕ, zero, suc, cond, List, [], ◌∷◌, ◌++◌, map, codes, MatchOption}
 use Rattle.std.specs.declared.option.Option.{Option}
 use Rattle.std.specs.declared.option.Option.TheVariants.{Some, None}
 use Rattle.std.specs.Str.{bytes_eq}
 use Rattle.std.specs.Fmt.{decimal}
-use Rattle.rmt_sql.specs.declared.statement.Statement.{Statement}
-use Rattle.rmt_sql.specs.declared.statement.Statement.TheVariants.{Create, At}
-use Rattle.rmt_sql.specs.declared.act.Act.{Act}
-use Rattle.rmt_sql.specs.declared.act.Act.TheVariants.{Insert, Select}
-use Rattle.rmt_sql.specs.declared.parsed.Parsed.{Parsed}
-use Rattle.rmt_sql.specs.declared.parsed.Parsed.TheVariants as parsed
-use Rattle.rmt_sql.specs.Script.{ReadsAt}
+use Rattle.rmt_pieces.specs.declared.statement.Statement.{Statement}
+use Rattle.rmt_pieces.specs.declared.statement.Statement.TheVariants.{Create, At}
+use Rattle.rmt_pieces.specs.declared.act.Act.{Act}
+use Rattle.rmt_pieces.specs.declared.act.Act.TheVariants.{Insert, Select}
+use Rattle.rmt_pieces.specs.declared.parsed.Parsed.{Parsed}
+use Rattle.rmt_pieces.specs.declared.parsed.Parsed.TheVariants as parsed
+use Rattle.rmt_pieces.specs.Script.{ReadsAt}
 use Rattle.rmt_play.specs.declared.line.Line.{Line}
-use Rattle.rmt_play.specs.declared.line.Line.TheVariants.{Okay, Part, Totals, Refused}
+use Rattle.rmt_play.specs.declared.line.Line.TheVariants.{Okay, Part, Rows, Read, Refused}
 use Rattle.rmt_play.specs.declared.refusal.Refusal.{Refusal}
 use Rattle.rmt_play.specs.declared.refusal.Refusal.TheVariants.{Syntax, UnknownTable, UnknownReplica}
-use Rattle.rmt_play.specs.World.{Table, World, start, rows}
+use Rattle.rmt_pieces.specs.declared.sent.Sent.{Sent}
+use Rattle.rmt_pieces.specs.declared.total.Total.{Total}
+use Rattle.rmt_pieces.specs.declared.total.Total.TheVariants as totals
+use Rattle.rmt_pieces.specs.declared.mode.Mode.TheVariants as modes
+use Rattle.rmt_values.specs.declared.value.Value.TheVariants.{UInt}
+use Rattle.rmt_values.specs.declared.checked_item.CheckedItem.{CheckedItem}
+use Rattle.rmt_values.specs.declared.checked_item.CheckedItem.TheVariants as items
+use Rattle.rmt_values.specs.declared.checked_query.CheckedQuery.{CheckedQuery}
+use Rattle.rmt_names.specs.Names.{Name}
+use Rattle.rmt_model.specs.Content.{Row, rows}
+use Rattle.rmt_model.specs.Fair.{AreFair}
+use Rattle.rmt_queue.specs.Marks.{done_at}
+use Rattle.rmt_query.specs.Answers.{answer_of}
+use Rattle.rmt_replicas.specs.Tables.{known_at, rows_by_number, Accepts, synced, contents}
+use Rattle.rmt_play.specs.World.{Table, World, start, empty_table}
 
 -- ---- refusals: each has its test, and a statement meets the first in the order of the checks
 
@@ -63,7 +77,7 @@ unknown_replica world name = refused_name (replica_at world name) name
 
 abbrev pub table_named : Act → List ℕ
 table_named (Insert table rows) = table
-table_named (Select table) = table
+table_named (Select table totals mode) = table
 
 -- the refusals of a statement, in their order
 abbrev pub refusals : World → Statement → List (Option Refusal)
@@ -80,34 +94,68 @@ pub record Refuses (old : World) (refusal : Refusal) (line : Line) (new : World)
 -- CREATE makes an empty table
 pub record Creates (old : World) (name : List ℕ) (line : Line) (new : World) : Type 0 where
   pub reply : line ≡ Okay
-  pub change : new ≡ record old { tables = record { name = name; blocks = [] } ∷ old.tables }
+  pub change : new ≡ record old { tables = empty_table name ∷ old.tables }
+
+-- the rows of one column
+abbrev pub rows_of : List ℕ → List Row
+rows_of values = map (λ n. UInt n ∷ []) values
+
+-- INSERT: the replica accepts a block of the rows, with the table's next number
+pub record Inserts (t : Table) (r : ℕ) (values : List ℕ) (line : Line) (u : Table) : Type 0 where
+  pub name : Name
+  pub accepts : Accepts t.state r (rows_of values) name u.state
+  pub same : u.name ≡ t.name
+  pub reply : line ≡ Part name
+
+-- what is asked for as the items of a query over all rows
+abbrev pub item_of : Total → CheckedItem
+item_of totals.Count = items.Count
+item_of totals.Sum = items.Sum 0
+
+abbrev pub query_of : List Total → CheckedQuery
+query_of all = record { items = map item_of all; filter = None; group = [] }
+
+-- SELECT .. SYNC: every place of the log is known at the replica then; the answer is the plain query over the rows of the
+-- accepted blocks, each once
+pub record Syncs (t : Table) (r : ℕ) (all : List Total) (line : Line) (u : Table) : Type 0 where
+  pub reply : line ≡ Rows (answer_of t.state.schema (query_of all) (rows t.state.log (rows_by_number t.state.blocks)))
+  pub change : u ≡ record t { state = synced t.state r }
+
+-- SELECT: the answer is the query over what parts hold whose names are fair for the places known at the replica
+pub record Reads (t : Table) (r : ℕ) (all : List Total) (line : Line) (u : Table) : Type 0 where
+  pub names : List Name
+  pub fair : AreFair t.state.log (done_at (known_at t.state r)) names
+  pub reply : line ≡ Read names (answer_of t.state.schema (query_of all) (contents t.state.schema t.state.log (rows_by_number t.state.blocks) names))
+  pub change : u ≡ t
+
+-- what an act does to its table at a replica, counted from 0
+abbrev pub Acts : Table → ℕ → Act → Line → Table → Type 0
+Acts t r (Insert table values) line u = Inserts t r values line u
+Acts t r (Select table all modes.Sync) line u = Syncs t r all line u
+Acts t r (Select table all modes.Plain) line u = Reads t r all line u
 
 -- the tables, with one in place of the one of that name
 abbrev pub with_table : List Table → List ℕ → Table → List Table
 with_table [] name t = []
 with_table (u ∷ others) name t = cond (bytes_eq u.name name) (t ∷ others) (u ∷ with_table others name t)
 
--- INSERT adds a block, which gets the table's next number, counted from 0
-pub record Inserts (old : World) (name : List ℕ) (values : List ℕ) (line : Line) (new : World) : Type 0 where
+-- the table of this name changes so, and nothing else does
+pub record InTable (old : World) (name : List ℕ) (Change : Table → Table → Type 0) (new : World) : Type 0 where
   pub table : Table
   pub found : table_of old.tables name ≡ Some table
-  pub reply : line ≡ Part (length table.blocks)
-  pub change : new ≡ record old { tables = with_table old.tables name (record table { blocks = table.blocks ++ values ∷ [] }) }
+  pub after : Table
+  pub changes : Change table after
+  pub rest : new ≡ record old { tables = with_table old.tables name after }
 
--- SELECT .. SYNC answers the plain query over all rows
-pub record Selects (old : World) (name : List ℕ) (line : Line) (new : World) : Type 0 where
-  pub table : Table
-  pub found : table_of old.tables name ≡ Some table
-  pub reply : line ≡ Totals (length (rows table.blocks)) (sum (rows table.blocks))
-  pub change : new ≡ old
-
-abbrev pub PerformsAct : World → Act → Line → World → Type 0
-PerformsAct old (Insert table values) line new = Inserts old table values line new
-PerformsAct old (Select table) line new = Selects old table line new
+-- what is sent to a replica is done in its table
+pub record PerformsSent (old : World) (sent : Sent) (line : Line) (new : World) : Type 0 where
+  pub replica : ℕ
+  pub at : replica_at old sent.replica ≡ Some (suc replica)
+  pub acts : InTable old (table_named sent.act) (λ t u. Acts t replica sent.act line u) new
 
 abbrev pub Performs : World → Statement → Line → World → Type 0
 Performs old (Create table) line new = Creates old table line new
-Performs old (At sent) line new = PerformsAct old sent.act line new
+Performs old (At sent) line new = PerformsSent old sent line new
 
 -- ---- a script
 

@@ -4,8 +4,8 @@ use Rattle.std.specs.declared.option.Option.{Option}
 use Rattle.std.specs.Str.{bytes_eq}
 use Rattle.std.specs.Io.KnownBytes.{Appends}
 use Rattle.rmt_outside.specs.Told.{AppendsFront}
-use Rattle.rmt_sql.specs.declared.parsed.Parsed.TheVariants as parsed
-use Rattle.rmt_sql.specs.Script.{ReadsAt}
+use Rattle.rmt_pieces.specs.declared.parsed.Parsed.TheVariants as parsed
+use Rattle.rmt_pieces.specs.Script.{ReadsAt}
 use Rattle.rmt_play.specs.declared.line.Line.{Line}
 use Rattle.rmt_play.specs.World.{World}
 use Rattle.rmt_play.specs.Plays.{Played}

@@ -1,81 +1,97 @@
 ghost use Rattle.std.specs.Prelude.{◌≡◌, ◌↔◌, [], IfOk, IsTrue, IsSome};
-ghost use Rattle.rmt_sql.specs.declared.statement.Statement.TheVariants.{At};
 ghost use Rattle.std.specs.Option.{option_map};
-ghost use Rattle.std.specs.Result.{result_err};
-ghost use Rattle.rmt_play.specs.Inside.{number_of, CreatesFirst};
+ghost use Rattle.rmt_pieces.specs.declared.statement.Statement.TheVariants.{At};
+ghost use Rattle.rmt_replicas.specs.Seats.{seat_index};
 ghost use Rattle.rmt_play.specs.World.{start};
-ghost use Rattle.rmt_play.specs.Plays.{table_of, replica_of as replica_named, first_of, refusals, unknown_table as table_refusal, unknown_replica as replica_refusal, Creates, Inserts, Selects, PerformsAct, TurnsStatement, table_named};
+ghost use Rattle.rmt_play.specs.Plays.{table_of, replica_of as replica_named, unknown_table as table_refusal, Creates, Acts, InTable, TurnsStatement, table_named};
+ghost use Rattle.rmt_play.specs.Inside.{number_of, CreatesFirst, IsSeatOf, IsChecked};
 
+use crate::asking::ask;
 use crate::line::Line;
+use crate::making::{new_table, rows_of};
+use crate::named_table::NamedTable;
 use crate::refusal::Refusal;
-use crate::replica::{Replica, insert};
-use crate::totals::Totals;
-use rmt_sql::{Act, Numbers, Sent, Statement};
+use rmt_pieces::{Act, Mode, Sent, Statement};
+use rmt_replicas::Seat;
 use rmt_values::Name;
 use std::alloc::{AllocError, Global};
 use std::marker::Model;
 
-/// The number of a replica, 1 or 2.
-#[derive(Clone, Copy, Debug, PartialEq, Eq)]
-enum Place {
-    First,
-    Second,
-}
-
-/// The place of the replica of this name.
-fn place_named(name: &Name) -> Option<Place>
+/// The seat of the replica of this name.
+fn seat_named(name: &Name) -> Option<Seat>
     ensures { option_map number_of result ≡ replica_named 2 name.now }
 {
     if name.is(b"r2") {
-        return Some(Place::Second);
+        return Some(Seat::Second);
     }
     if name.is(b"r1") {
-        return Some(Place::First);
+        return Some(Seat::First);
     }
     None
 }
 
-/// The reply of a SELECT.
-fn reply(totals: Totals) -> Line
-    ensures { result ≡ Line.Totals totals.count totals.sum }
-{
-    Line::Totals {
-        count: totals.count,
-        sum: totals.sum,
-    }
-}
-
 /// A table at two replicas. Contracts see the world that the statements so far have made.
-#[derive(Debug, Drop)]
+#[derive(Drop)]
 pub(crate) struct Player {
-    table: Option<Name>,
-    blocks: Vec<Numbers>,
-    first: Replica,
-    second: Replica,
+    table: Option<NamedTable>,
 }
 
 impl Model for Player {
     ghost use Rattle.rmt_play.specs.World.{World};
-    ghost use Rattle.rmt_play.specs.Inside.{world_of, IsPlayer};
+    ghost use Rattle.rmt_play.specs.Inside.{world_of};
+    ghost use Rattle.std.specs.Coded.{codes};
+    ghost use Rattle.rmt_values.specs.contracts.checked.Checked as filter;
 
     ghost Value = { World };
 
-    ghost view = { λ p. world_of p.table p.blocks.items };
+    ghost coded = { Prim.hlevel (codes, filter.the_row.coded) };
 
-    ghost invariant = { λ p. IsPlayer p.table p.blocks.items p.first p.second };
+    ghost view = { λ p. world_of p.table };
+}
+
+/// Does an act in its table at a replica.
+fn act_in(
+    alloc: Global,
+    named: NamedTable,
+    seat: Seat,
+    act: Act,
+) -> Result<(NamedTable, Line), AllocError>
+    ensures { IfOk result (λ x. Acts named (seat_index seat) act x.1 x.0) }
+{
+    let NamedTable { name, table } = named;
+    match act {
+        Act::Insert { rows, .. } => {
+            let rows = rows_of(alloc, rows.as_slice())?;
+            let (table, part) = table.insert(alloc, seat, rows)?;
+            Ok((NamedTable { name, table }, Line::Part(part)))
+        }
+        Act::Select {
+            totals,
+            mode: Mode::Sync,
+            ..
+        } => {
+            let table = table.sync(seat)?;
+            let asked = ask(alloc, &table, seat, &totals)?;
+            Ok((NamedTable { name, table }, Line::Rows(asked.rows)))
+        }
+        Act::Select {
+            totals,
+            mode: Mode::Plain,
+            ..
+        } => {
+            let asked = ask(alloc, &table, seat, &totals)?;
+            let (parts, rows) = (asked.parts, asked.rows);
+            Ok((NamedTable { name, table }, Line::Read { parts, rows }))
+        }
+    }
 }
 
 impl Player {
     /// One with no table.
-    pub(crate) fn new(alloc: Global) -> Player
+    pub(crate) fn new() -> Player
         ensures { result ≡ start }
     {
-        Player {
-            table: None,
-            blocks: Vec::new(alloc),
-            first: Replica::new(alloc),
-            second: Replica::new(alloc),
-        }
+        Player { table: None }
     }
 
     /// Whether the table has this name.
@@ -83,7 +99,7 @@ impl Player {
         ensures { IsTrue result ↔ IsSome (table_of self.now.tables table.now) }
     {
         match &self.table {
-            Some(name) => name.is(table.as_bytes()),
+            Some(named) => named.name.is(table.as_bytes()),
             None => false,
         }
     }
@@ -98,104 +114,73 @@ impl Player {
         Ok(Some(Refusal::UnknownTable(table.copy()?)))
     }
 
-    /// The place of a replica, the first one where none is named, or the refusal of one that isn't there.
-    fn place(&self, name: &Option<Name>) -> Result<Result<Place, Refusal>, AllocError>
-        ensures { IfOk result (λ r. result_err r ≡ replica_refusal self.now name.now) }
+    /// The seat of a replica, the first one where none is named, or the refusal of one that isn't there.
+    fn seat(&self, name: &Option<Name>) -> Result<Result<Seat, Refusal>, AllocError>
+        ensures { IfOk result (IsSeatOf self.now name.now) }
     {
         let _ = &self.table;
         let Some(name) = name else {
-            return Ok(Ok(Place::First));
+            return Ok(Ok(Seat::First));
         };
-        match place_named(name) {
-            Some(place) => Ok(Ok(place)),
+        match seat_named(name) {
+            Some(seat) => Ok(Ok(seat)),
             None => Ok(Err(Refusal::UnknownReplica(name.copy()?))),
         }
     }
 
-    /// The place at which the statement is played, or the first refusal that it meets.
-    fn check(&self, sent: &Sent) -> Result<Result<Place, Refusal>, AllocError>
-        ensures { IfOk result (λ r. result_err r ≡ first_of (refusals self.now (At sent.now))) }
+    /// The seat at which the statement is played, or the first refusal that it meets.
+    fn check(&self, sent: &Sent) -> Result<Result<Seat, Refusal>, AllocError>
+        ensures { IfOk result (IsChecked self.now sent.now) }
     {
         let table = match &sent.act {
             Act::Insert { table, .. } => table,
-            Act::Select { table } => table,
+            Act::Select { table, .. } => table,
         };
         if let Some(refusal) = self.unknown_table(table)? {
             return Ok(Err(refusal));
         }
-        let place = self.place(&sent.replica)?;
-        Ok(place)
+        let seat = self.seat(&sent.replica)?;
+        Ok(seat)
     }
 
     /// Makes the table. It is the first one.
-    fn create(&mut self, table: Name) -> Line
+    fn create(&mut self, alloc: Global, table: Name) -> Result<Line, AllocError>
         requires { self.old.tables ≡ [] }
-        ensures { Creates self.old table result self.new }
+        ensures { IfOk result (λ line. Creates self.old table line self.new) }
     {
-        self.table = Some(table);
-        Line::Okay
+        self.table = Some(new_table(alloc, table)?);
+        Ok(Line::Okay)
     }
 
-    /// Adds a block.
-    fn insert(&mut self, place: Place, table: &Name, rows: Numbers) -> Result<Line, AllocError>
-        requires { IsSome (table_of self.old.tables table.now) }
-        ensures { IfOk result (λ line. Inserts self.old table.now rows line self.new) }
-    {
-        let number = self.blocks.len();
-        match place {
-            Place::First => insert(&mut self.blocks, &mut self.first, &mut self.second, rows)?,
-            Place::Second => insert(&mut self.blocks, &mut self.second, &mut self.first, rows)?,
-        }
-        Ok(Line::Part { number })
-    }
-
-    /// Brings a replica all blocks, and gives the totals of what it has then.
-    #[tactic(auto, using(crate::proofs::Places::selects))]
-    fn select(&mut self, place: Place, table: &Name) -> Result<Line, AllocError>
-        requires { IsSome (table_of self.old.tables table.now) }
-        ensures { IfOk result (λ line. Selects self.old table.now line self.new) }
-    {
-        match place {
-            Place::First => {
-                let totals = self.first.drain(&self.blocks)?;
-                Ok(reply(totals))
-            }
-            Place::Second => {
-                let totals = self.second.drain(&self.blocks)?;
-                Ok(reply(totals))
-            }
-        }
-    }
-
-    /// Does what a statement says that meets no refusal.
-    fn act(&mut self, place: Place, act: Act) -> Result<Line, AllocError>
+    /// Does what a statement says in its table, which there is.
+    fn act(&mut self, alloc: Global, seat: Seat, act: Act) -> Result<Line, AllocError>
         requires { IsSome (table_of self.old.tables (table_named act)) }
-        ensures { IfOk result (λ line. PerformsAct self.old act line self.new) }
+        ensures { IfOk result (λ line. InTable self.old (table_named act) (λ t u. Acts t (seat_index seat) act line u) self.new) }
     {
-        match act {
-            Act::Insert { table, rows } => self.insert(place, &table, rows),
-            Act::Select { table } => self.select(place, &table),
-        }
+        let named = self.table.take().unwrap();
+        let (named, line) = act_in(alloc, named, seat, act)?;
+        self.table = Some(named);
+        Ok(line)
     }
 
     /// Plays a statement that is sent to a replica.
-    fn send(&mut self, sent: Sent) -> Result<Line, AllocError>
+    fn send(&mut self, alloc: Global, sent: Sent) -> Result<Line, AllocError>
         ensures { IfOk result (λ line. TurnsStatement self.old (At sent) line self.new) }
     {
         match self.check(&sent)? {
-            Ok(place) => self.act(place, sent.act),
+            Ok(seat) => self.act(alloc, seat, sent.act),
             Err(refusal) => Ok(Line::Refused(refusal)),
         }
     }
 
     /// Plays a statement. A CREATE comes first.
-    pub(crate) fn play(&mut self, statement: Statement) -> Result<Line, AllocError>
+    pub(crate) fn play(&mut self, alloc: Global, statement: Statement) -> Result<Line, AllocError>
         requires { CreatesFirst self.old statement }
         ensures { IfOk result (λ line. TurnsStatement self.old statement line self.new) }
     {
         match statement {
-            Statement::Create { table } => Ok(self.create(table)),
-            Statement::At(sent) => self.send(sent),
+            Statement::Create { table } => self.create(alloc, table),
+            Statement::At(sent) => self.send(alloc, sent),
         }
     }
 }

@@ -1,11 +1,16 @@
 ghost use Rattle.std.specs.Prelude.{◌≡◌, ◌++◌, OnOk};
-ghost use Rattle.rmt_play.specs.declared.line.Line.TheVariants.{Part, Totals, Refused};
-ghost use Rattle.std.specs.Fmt.{decimal};
-ghost use Rattle.rmt_play.specs.Printed.{printed, refusal_text as text_of_refusal};
+ghost use Rattle.rmt_play.specs.declared.line.Line.TheVariants.{Part, Read, Refused};
+ghost use Rattle.rmt_names.specs.Texts.{text_of};
+ghost use Rattle.std.specs.Fmt.{decimal, signed_decimal};
+ghost use Rattle.rmt_play.specs.Printed.{printed, cell_text, row_text, rows_text, answer_text, names_text, further_cells as further_cells_of, refusal_text as text_of_refusal};
 
 use crate::line::Line;
 use crate::refusal::Refusal;
-use rmt_values::Name;
+use crate::rows::Rows;
+use rmt_entries::Names;
+use rmt_names::PartName;
+use rmt_query::Tuple;
+use rmt_values::{Cell, Name};
 use std::alloc::{AllocError, Global};
 
 /// Adds bytes.
@@ -55,27 +60,114 @@ fn refusal_text(alloc: Global, out: &mut Vec<u8>, refusal: &Refusal) -> Result<(
     }
 }
 
-/// Adds the reply of an INSERT.
-fn part(alloc: Global, out: &mut Vec<u8>, part: usize) -> Result<(), AllocError>
-    ensures { OnOk result (out.new.items ≡ out.old.items ++ printed (Part part)) }
+/// Adds the name of a part.
+fn name(alloc: Global, out: &mut Vec<u8>, name: &PartName) -> Result<(), AllocError>
+    ensures { OnOk result (out.new.items ≡ out.old.items ++ text_of name.now) }
 {
-    text(out, b"part all_")?;
-    number(alloc, out, part as u128)?;
-    text(out, b"_")?;
-    number(alloc, out, part as u128)?;
-    text(out, b"_0\n")?;
+    let spelled = rmt_names::text(alloc, name)?;
+    text(out, spelled.as_bytes())?;
     Ok(())
 }
 
-/// Adds the reply of a SELECT.
-fn totals(alloc: Global, out: &mut Vec<u8>, count: u64, sum: u128) -> Result<(), AllocError>
-    ensures { OnOk result (out.new.items ≡ out.old.items ++ printed (Totals count sum)) }
+/// Adds the reply of an INSERT.
+fn part(alloc: Global, out: &mut Vec<u8>, part: &PartName) -> Result<(), AllocError>
+    ensures { OnOk result (out.new.items ≡ out.old.items ++ printed (Part part.now)) }
 {
-    text(out, b"rows 1\n")?;
-    number(alloc, out, u128::from(count))?;
-    text(out, b",")?;
-    number(alloc, out, sum)?;
+    text(out, b"part ")?;
+    name(alloc, out, part)?;
     text(out, b"\n")?;
+    Ok(())
+}
+
+/// Adds a signed number as a decimal.
+fn signed(alloc: Global, out: &mut Vec<u8>, number: i128) -> Result<(), AllocError>
+    ensures { OnOk result (out.new.items ≡ out.old.items ++ signed_decimal number) }
+{
+    let digits = number.to_string(alloc)?;
+    text(out, digits.as_bytes())?;
+    Ok(())
+}
+
+/// Adds a cell.
+fn cell(alloc: Global, out: &mut Vec<u8>, cell: &Cell) -> Result<(), AllocError>
+    ensures { OnOk result (out.new.items ≡ out.old.items ++ cell_text cell.now) }
+{
+    match cell {
+        Cell::UInt(value) => number(alloc, out, u128::from(*value))?,
+        Cell::Int(value) => signed(alloc, out, i128::from(*value))?,
+        Cell::Sum(value) => signed(alloc, out, *value)?,
+        Cell::Text(value) => text(out, value.as_bytes())?,
+    }
+    Ok(())
+}
+
+/// Adds cells, a comma before each.
+fn further_cells(alloc: Global, out: &mut Vec<u8>, cells: &[Cell]) -> Result<(), AllocError>
+    ensures { OnOk result (out.new.items ≡ out.old.items ++ further_cells_of cells.now) }
+{
+    'cells: for one in cells {
+        text(out, b",")?;
+        cell(alloc, out, one)?;
+    }
+    Ok(())
+}
+
+/// Adds a row.
+fn row(alloc: Global, out: &mut Vec<u8>, row: &Tuple) -> Result<(), AllocError>
+    ensures { OnOk result (out.new.items ≡ out.old.items ++ row_text row.now) }
+{
+    match row.cells() {
+        [] => Ok(()),
+        [first, others @ ..] => {
+            cell(alloc, out, first)?;
+            further_cells(alloc, out, others)?;
+            Ok(())
+        }
+    }
+}
+
+/// Adds rows, each on a line.
+fn lines(alloc: Global, out: &mut Vec<u8>, rows: &[Tuple]) -> Result<(), AllocError>
+    ensures { OnOk result (out.new.items ≡ out.old.items ++ rows_text rows.now) }
+{
+    'rows: for one in rows {
+        row(alloc, out, one)?;
+        text(out, b"\n")?;
+    }
+    Ok(())
+}
+
+/// Adds how many rows there are, and the rows.
+fn answer(alloc: Global, out: &mut Vec<u8>, rows: &Rows) -> Result<(), AllocError>
+    ensures { OnOk result (out.new.items ≡ out.old.items ++ answer_text rows.now) }
+{
+    let all = rows.as_slice();
+    text(out, b"rows ")?;
+    number(alloc, out, all.len() as u128)?;
+    text(out, b"\n")?;
+    lines(alloc, out, all)?;
+    Ok(())
+}
+
+/// Adds names, a space before each.
+fn names(alloc: Global, out: &mut Vec<u8>, names: &[PartName]) -> Result<(), AllocError>
+    ensures { OnOk result (out.new.items ≡ out.old.items ++ names_text names.now) }
+{
+    'names: for one in names {
+        text(out, b" ")?;
+        name(alloc, out, one)?;
+    }
+    Ok(())
+}
+
+/// Adds the reply of a SELECT that isn't brought up to date.
+fn read(alloc: Global, out: &mut Vec<u8>, parts: &Names, rows: &Rows) -> Result<(), AllocError>
+    ensures { OnOk result (out.new.items ≡ out.old.items ++ printed (Read parts.now rows.now)) }
+{
+    text(out, b"parts")?;
+    names(alloc, out, parts.as_slice())?;
+    text(out, b"\n")?;
+    answer(alloc, out, rows)?;
     Ok(())
 }
 
@@ -95,8 +187,9 @@ pub(crate) fn print(alloc: Global, out: &mut Vec<u8>, line: &Line) -> Result<(),
 {
     match line {
         Line::Okay => text(out, b"ok\n")?,
-        Line::Part { number } => part(alloc, out, *number)?,
-        Line::Totals { count, sum } => totals(alloc, out, *count, *sum)?,
+        Line::Part(name) => part(alloc, out, name)?,
+        Line::Rows(rows) => answer(alloc, out, rows)?,
+        Line::Read { parts, rows } => read(alloc, out, parts, rows)?,
         Line::Refused(refusal) => refused(alloc, out, refusal)?,
     }
     Ok(())

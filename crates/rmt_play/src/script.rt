@@ -1,6 +1,6 @@
 ghost use Rattle.std.specs.Prelude.{◌≡◌, ◌≤◌, ◌<◌, ◌+◌, ◌-◌, ◌^◌, length, IfOk, MatchOption, if◌then◌else◌};
-ghost use Rattle.rmt_sql.specs.declared.parsed.Parsed.TheVariants as parsed;
-ghost use Rattle.rmt_sql.specs.Script.{ReadsAt};
+ghost use Rattle.rmt_pieces.specs.declared.parsed.Parsed.TheVariants as parsed;
+ghost use Rattle.rmt_pieces.specs.Script.{ReadsAt};
 ghost use Rattle.rmt_play.specs.World.{start};
 ghost use Rattle.rmt_play.specs.Plays.{Step};
 ghost use Rattle.rmt_play.specs.Printed.{is_refused as refused_test};
@@ -12,7 +12,7 @@ use crate::player::Player;
 use crate::printing::print;
 use crate::refusal::Refusal;
 use rmt_outside::{Sink, write_all_of};
-use rmt_sql::{Parsed, next_statement};
+use rmt_pieces::{Parsed, next_statement};
 use std::alloc::{AllocError, Global};
 
 /// Whether the reply is a refusal.
@@ -45,7 +45,7 @@ fn next_line(
     match next_statement(alloc, script, at)? {
         Parsed::End => Ok(None),
         Parsed::Statement { statement, end } => {
-            let line = player.play(statement)?;
+            let line = player.play(alloc, statement)?;
             Ok(Some((line, end)))
         }
         Parsed::Syntax { offset, end } => {
@@ -92,7 +92,7 @@ pub(crate) fn play<K: Sink>(alloc: Global, script: &[u8], sink: &mut K) -> Endin
         (K.faults sink.old) (K.faults sink.new) result }
     ensures later { K.faults sink.old ≤ K.faults sink.new }
 {
-    let mut player = Player::new(alloc);
+    let mut player = Player::new();
     let mut at = 0;
     let mut refused = 0;
     'statements: loop {

@@ -70,6 +70,23 @@ fn scripts_write_their_replies(rt: HostRuntime) -> Result<(), Fail> {
             2,
             1,
         ),
+        // A SELECT reads what its replica has; with SYNC it has all.
+        (
+            "CREATE TABLE t (c UInt64) ENGINE = ReplicatedMergeTree ORDER BY c; INSERT INTO t VALUES (7),(8); \
+                @r2 SELECT count(), sum(c) FROM t; @r2 SELECT sum(c) FROM t SYNC;",
+            "ok\npart all_0_0_0\nparts\nrows 1\n0,0\nrows 1\n15\n",
+            0,
+            0,
+        ),
+        (
+            "CREATE TABLE t (c UInt64) ENGINE = ReplicatedMergeTree ORDER BY c; INSERT INTO t VALUES (7); \
+                @r2 INSERT INTO t VALUES (8); SELECT sum(c), count(), sum(c) FROM t; @r2 SELECT sum(c) FROM t; \
+                SELECT count() FROM t SYNC; SELECT count() FROM t",
+            "ok\npart all_0_0_0\npart all_1_1_0\nparts all_0_0_0\nrows 1\n7,1,7\nparts all_1_1_0\nrows 1\n8\n\
+                rows 1\n2\nparts all_0_0_0 all_1_1_0\nrows 1\n2\n",
+            0,
+            0,
+        ),
     ];
     for (script, output, code, refused) in cases {
         let (status, page) = played(rt.alloc(), script, Vec::new(rt.alloc()))?;

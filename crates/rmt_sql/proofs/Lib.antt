@@ -1,5 +1,10 @@
-pub mod Closed
-pub mod FormLaws
-pub mod Lexemes
-pub mod Rows
-pub mod Pieces
+pub mod PartLaws
+pub mod CreateLaws
+pub mod SelectLaws
+pub mod InsertLaws
+pub mod StatementLaws
+pub mod FilterReads
+pub mod IntoReads
+pub mod Ends
+pub mod Scripts
+pub mod Going

@@ -1,6 +1,4 @@
-pub mod Tokens
-pub mod Exact
-pub mod Forms
-pub mod Readers
-pub mod Lexing
+pub mod Said
+pub mod Grammar
 pub mod Script
+pub mod Views

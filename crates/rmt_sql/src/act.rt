@@ -1,11 +1,54 @@
-use crate::numbers::Numbers;
-use rmt_values::Name;
+use crate::insert::Insert;
+use crate::mode::Mode;
+use crate::partition_word::PartitionWord;
+use rmt_values::{Mutation, Name, Query};
 
 /// What a statement does at a replica.
 #[derive(Debug, Drop)]
 pub enum Act {
-    /// Inserts rows, one block of them.
-    Insert { table: Name, rows: Numbers },
-    /// Brings the replica up to date, and gives the number of rows and their sum.
-    Select { table: Name },
+    Insert(Insert),
+    Select {
+        table: Name,
+        query: Query,
+        mode: Mode,
+    },
+    Explain {
+        table: Name,
+        query: Query,
+    },
+    /// ALTER TABLE .. UPDATE or DELETE.
+    Mutate {
+        table: Name,
+        command: Mutation,
+    },
+    DropPartition {
+        table: Name,
+        partition: PartitionWord,
+    },
+    Optimize {
+        table: Name,
+        partition: Option<PartitionWord>,
+    },
+    ShowParts {
+        table: Name,
+    },
+    CheckTable {
+        table: Name,
+    },
+    WaitMutation {
+        table: Name,
+        id: u128,
+    },
+    SyncReplica {
+        table: Name,
+    },
+    RestartReplica {
+        table: Name,
+    },
+    StopFetches {
+        table: Name,
+    },
+    StartFetches {
+        table: Name,
+    },
 }

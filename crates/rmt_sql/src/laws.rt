@@ -1,20 +1,9 @@
-//! Each form is read exactly: what is read is a line of the form, each line of the form is read, and a fault stands
-//! at the first token that can't follow.
-ghost use Rattle.rmt_sql.specs.Exact.{Exact, never};
-ghost use Rattle.rmt_sql.specs.Forms.{CreateTable, InsertInto, SelectTotals};
-ghost use Rattle.rmt_sql.specs.Readers.{create_table, insert_into, select_totals, row_next};
+//! Statements are read exactly: what is read is a line of a statement, each line of a statement is read, and a fault
+//! stands at the first token that can't follow.
+ghost use Rattle.rmt_tokens.specs.Exact.{IsExact, never};
+ghost use Rattle.rmt_sql.specs.Grammar.{statement};
 
-/// CREATE TABLE is read exactly.
-pub fn create_is_read_exactly()
-    ensures { Exact CreateTable create_table never }
-{}
-
-/// INSERT INTO is read exactly. Its rows go on as long as a comma or a parenthesis stands next.
-pub fn insert_is_read_exactly()
-    ensures { Exact InsertInto insert_into (λ _. row_next) }
-{}
-
-/// SELECT is read exactly.
-pub fn select_is_read_exactly()
-    ensures { Exact SelectTotals select_totals never }
+/// Statements are read exactly, those that may stand first and those that may stand later.
+pub fn statements_are_read_exactly(is_first: bool)
+    ensures { IsExact (statement is_first) never }
 {}

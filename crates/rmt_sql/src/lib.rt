@@ -1,24 +1,48 @@
-//! The language of scripts: tokens, the forms of statements, and how a script is read statement by statement.
+//! The language of scripts: the forms of statements, and how a script is read statement by statement.
 #![tactic(auto)]
 
 mod act;
-mod forms;
+mod alters;
+mod columns;
+mod creates;
+mod filters;
+mod insert;
+mod inserts;
+mod lane;
+mod lanes;
 mod laws;
-mod lexing;
-mod mark;
-mod numbers;
+mod literals;
+mod mode;
+mod offered;
+mod order;
+mod parallel;
 mod parsed;
-mod read_error;
-mod readers;
+mod partition_rule;
+mod partition_word;
+mod parts;
 mod script;
+mod selects;
 mod sent;
+mod services;
+mod settings;
 mod statement;
-mod token;
+mod statements;
+#[cfg(test)]
+mod tests;
+mod tuples;
 
 pub use act::Act;
-pub use laws::{create_is_read_exactly, insert_is_read_exactly, select_is_read_exactly};
-pub use numbers::Numbers;
+pub use columns::Columns;
+pub use insert::Insert;
+pub use lane::Lane;
+pub use lanes::Lanes;
+pub use laws::statements_are_read_exactly;
+pub use literals::Literals;
+pub use mode::Mode;
+pub use offered::Offered;
 pub use parsed::Parsed;
+pub use partition_word::PartitionWord;
 pub use script::next_statement;
 pub use sent::Sent;
 pub use statement::Statement;
+pub use tuples::Tuples;

@@ -3,10 +3,18 @@ use crate::statement::Statement;
 /// What stands next in a script. Places are counted in bytes from the script's start.
 #[derive(Debug, Drop)]
 pub enum Parsed {
-    /// A statement, and the place behind it, where reading goes on.
-    Statement { statement: Statement, end: usize },
-    /// The place of the first byte of a piece that is no statement, and the place behind the piece.
-    Syntax { offset: usize, end: usize },
+    /// A statement, the place of its first token, and the place behind it, where reading goes on.
+    Statement {
+        statement: Statement,
+        start: usize,
+        end: usize,
+    },
+    /// The place of the first token that can't follow the tokens of its statement in any form, or the script's length
+    /// where the script ends too early; and the place where reading goes on, behind the first `;` from there on.
+    Syntax {
+        offset: usize,
+        end: usize,
+    },
     /// No statement is left.
     End,
 }

@@ -1,23 +1,51 @@
-ghost use Rattle.std.specs.Prelude.{◌≡◌, ◌≤◌, ◌==◌, not, length, IfOk};
+ghost use Rattle.std.specs.Prelude.{◌≡◌, ◌≤◌, ◌==◌, ◌&&◌, not, length, IfOk};
 ghost use Rattle.std.specs.List.{prefix_len};
-ghost use Rattle.rmt_sql.specs.Tokens.{spots};
-ghost use Rattle.rmt_sql.specs.Script.{is_gap as gap_test, ReadsAt};
+ghost use Rattle.rmt_tokens.specs.Lexing.{tokens};
+ghost use Rattle.rmt_sql.specs.Views.{PassesEmpty};
+ghost use Rattle.rmt_sql.specs.Script.{passed, empty_next, behind_end, ReadsAt, GoesOn};
 
-use crate::forms::statement;
-use crate::lexing::is_white;
 use crate::parsed::Parsed;
-use crate::read_error::ReadError;
+use crate::statements::statement;
+use rmt_tokens::{Context, Cursor, ReadError, Token, is_end_next, left, next_token};
 use std::alloc::{AllocError, Global};
 
-/// How many bytes at the front are white or `;`.
-fn gap_len(bytes: &[u8]) -> usize
-    ensures len { result ≡ prefix_len gap_test bytes.now }
-    ensures bound { result ≤ length bytes.now }
+/// What stands behind a `;` of the script, where one stands next.
+fn next_empty(at: Cursor<'_>) -> Option<Cursor<'_>>
+    ensures { PassesEmpty (tokens at.entry) result }
 {
-    bytes
-        .iter()
-        .take_while(|byte| is_white(**byte) || **byte == b';')
-        .count()
+    match next_token(at) {
+        None => None,
+        Some(next) => match next.token {
+            Token::Semicolon if next.left > 0 => Some(next.rest),
+            _ => None,
+        },
+    }
+}
+
+/// The place behind empty statements.
+fn behind_empty(at: Cursor<'_>) -> Cursor<'_>
+    ensures { tokens result ≡ passed (tokens at.entry) }
+{
+    let mut rest = at;
+    'empty: loop {
+        let Some(after) = next_empty(rest) else {
+            return rest;
+        };
+        rest = after;
+    }
+}
+
+/// Whether nothing but white space and comments stands before the first statement.
+fn is_first(at: usize, here: Cursor<'_>) -> bool
+    ensures { result ≡ (at == 0) && not (empty_next (tokens here.entry)) }
+{
+    if at != 0 {
+        return false;
+    }
+    match next_empty(here) {
+        None => true,
+        Some(_) => false,
+    }
 }
 
 /// How many bytes at the front are not `;`.
@@ -28,23 +56,47 @@ fn piece_len(bytes: &[u8]) -> usize
     bytes.iter().take_while(|byte| **byte != b';').count()
 }
 
-/// Reads what stands next in a script, from the place `at` on. Empty statements are passed over. A CREATE is read as
-/// a statement only where reading begins at the script's start.
+/// The place behind the first `;` from a place on, or the script's end.
+fn end_behind(script: &[u8], at: usize) -> usize
+    requires { at ≤ length script.now }
+    ensures { result ≡ behind_end script.now at }
+{
+    let (_, rest) = script.split_at(at);
+    (at + piece_len(rest)).saturating_add(1).min(script.len())
+}
+
+/// Reads what stands next in a script, from the place `at` on. White space, comments and empty statements are passed
+/// over. REPLICAS is read as a statement only at the script's start.
 pub fn next_statement(alloc: Global, script: &[u8], at: usize) -> Result<Parsed, AllocError>
     requires { at ≤ length script.now }
-    ensures { IfOk result (ReadsAt script.now at) }
+    ensures reads { IfOk result (ReadsAt script.now at) }
+    ensures goes_on { IfOk result (GoesOn script.now at) }
 {
     let (_, ahead) = script.split_at(at);
-    let start = at + gap_len(ahead);
-    let (_, rest) = script.split_at(start);
-    if rest.is_empty() {
+    let here = Cursor {
+        bytes: ahead,
+        context: Context::Plain,
+    };
+    let first = is_first(at, here);
+    let place = behind_empty(here);
+    if is_end_next(place) {
         return Ok(Parsed::End);
     }
-    let (piece, _) = rest.split_at(piece_len(rest));
-    let end = (start + piece.len()).saturating_add(1).min(script.len());
-    match statement(alloc, at == 0, piece) {
-        Ok(statement) => Ok(Parsed::Statement { statement, end }),
-        Err(ReadError::Fault(_)) => Ok(Parsed::Syntax { offset: start, end }),
+    let start = script.len().saturating_sub(left(place));
+    match statement(alloc, first, place) {
+        Ok((statement, left, _)) => {
+            let end = script.len().saturating_sub(left);
+            Ok(Parsed::Statement {
+                statement,
+                start,
+                end,
+            })
+        }
+        Err(ReadError::Fault(left)) => {
+            let offset = script.len().saturating_sub(left);
+            let end = end_behind(script, offset);
+            Ok(Parsed::Syntax { offset, end })
+        }
         Err(ReadError::Memory) => Err(AllocError),
     }
 }

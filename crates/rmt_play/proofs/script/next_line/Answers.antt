@@ -1,6 +1,6 @@
 use Rattle.std.proofs.Common.{subst}
-use Rattle.rmt_sql.specs.declared.parsed.Parsed.{Parsed}
-use Rattle.rmt_sql.specs.Script.{ReadsAt}
+use Rattle.rmt_pieces.specs.declared.parsed.Parsed.{Parsed}
+use Rattle.rmt_pieces.specs.Script.{ReadsAt}
 use Rattle.rmt_play.proofs.Steps.{creates_first}
 use Rattle.rmt_play.proofs.script.next_line.Goals as goal
 

@@ -1,28 +1,38 @@
-use Rattle.std.proofs.Common.{◌≡◌, ◌<◌, ◌+◌, subst, drop, ℕ, length, arith, refl}
-use Rattle.std.specs.Prelude.{◌==◌, IsErrAnd}
-use Rattle.std.proofs.lemmas.Bool.Decides.{nat_tests}
-use Rattle.rmt_sql.specs.Tokens.{spots}
-use Rattle.rmt_sql.specs.Exact.{left_of}
-use Rattle.rmt_sql.specs.Forms.{IsStatement}
-use Rattle.rmt_sql.specs.Readers.{statement}
-use Rattle.rmt_sql.specs.Script.{piece_at, end_at}
-use Rattle.rmt_sql.proofs.Pieces.{piece_is, piece_is_none, start_is, piece_at_is, end_is}
+use Rattle.std.proofs.Common.{◌≡◌, ◌∙◌, [], ◌∷◌, ap, sym, false}
+use Rattle.std.specs.Prelude.{◌==◌, ◌&&◌, not, IsErrAnd}
+use Rattle.rmt_tokens.specs.declared.context.Context.TheVariants.{Plain}
+use Rattle.rmt_tokens.specs.Tokens.{spots}
+use Rattle.rmt_tokens.specs.Classes.{End, next_among}
+use Rattle.rmt_tokens.specs.Lexing.{tokens}
+use Rattle.rmt_tokens.specs.Exact.{left_of}
+use Rattle.rmt_sql.specs.Grammar.{statement}
+use Rattle.rmt_sql.specs.Script.{passed, empty_next, tokens_at, is_first}
+use Rattle.rmt_sql.proofs.Scripts.{stands_there, fails_there}
+use Rattle.rmt_sql.proofs.Going.{stands_on, fails_on}
 use Rattle.rmt_sql.proofs.script.next_statement.Goals as goal
 
-pub returns-in-Ok : goal.returns-in-Ok
-returns-in-Ok c =
-    let start = start_is c.args.script.now c.split_at.result.1.now c.args.at c.gap_len.result c.split_at.ensures.back c.gap_len.ensures.len in
-    let piece = piece_at_is c.args.script.now c.split_at-2.result.1.now c.split_at-3.result.0.now (c.args.at + c.gap_len.result) c.piece_len.result c.split_at-2.ensures.back c.piece_len.ensures.len c.split_at-3.ensures.front in
-    let end = end_is c.args.script.now c.split_at-3.result.0.now (c.args.at + c.gap_len.result) (length c.split_at-3.result.0.now) c.saturating_add.result c.min-end.result piece refl c.saturating_add.ensures c.min-end.ensures (omega arith) in
-    let within : c.args.at + c.gap_len.result < length c.args.script.now = grind (arith, nat_tests, c.is_empty.ensures, c.if-is_empty.false, c.split_at-2.ensures.back_len) in
-    subst (λ (s : ℕ). (s < length c.args.script.now) × (c.min-end.result ≡ end_at c.args.script.now s) × IsStatement (c.args.at == 0) (spots (piece_at c.args.script.now s)) c.in-Ok.statement) start
-    (within, end, piece_is (c.args.at == 0) (drop (c.args.at + c.gap_len.result) c.args.script.now) c.in-Ok.statement (rw (← piece) c.in-Ok.ensures))
+pub returns-in-Ok-clause-reads : goal.returns-in-Ok-clause-reads
+returns-in-Ok-clause-reads c =
+    let first : c.is_first-first.result ≡ is_first c.args.script.now c.args.at = c.is_first-first.ensures ∙ ap (λ l. (c.args.at == 0) && not (empty_next (spots Plain l))) c.split_at.ensures.back in
+    let place : tokens c.behind_empty-place.result ≡ passed (tokens_at c.args.script.now c.args.at) = c.behind_empty-place.ensures ∙ ap (λ l. passed (spots Plain l)) c.split_at.ensures.back in
+    stands_there c.args.script.now c.args.at c.is_first-first.result (tokens c.behind_empty-place.result) c.in-Ok.statement c.in-Ok.left c.saturating_sub-start.result c.saturating_sub-end.result (tokens c.in-Ok.field-0-2)
+    first place c.in-Ok.ensures (rw (← c.left.ensures.left) c.saturating_sub-start.ensures) c.saturating_sub-end.ensures
 
-pub returns-in-Err-Fault : goal.returns-in-Err-Fault
-returns-in-Err-Fault c =
-    let start = start_is c.args.script.now c.split_at.result.1.now c.args.at c.gap_len.result c.split_at.ensures.back c.gap_len.ensures.len in
-    let piece = piece_at_is c.args.script.now c.split_at-2.result.1.now c.split_at-3.result.0.now (c.args.at + c.gap_len.result) c.piece_len.result c.split_at-2.ensures.back c.piece_len.ensures.len c.split_at-3.ensures.front in
-    let end = end_is c.args.script.now c.split_at-3.result.0.now (c.args.at + c.gap_len.result) (length c.split_at-3.result.0.now) c.saturating_add.result c.min-end.result piece refl c.saturating_add.ensures c.min-end.ensures (omega arith) in
-    let within : c.args.at + c.gap_len.result < length c.args.script.now = grind (arith, nat_tests, c.is_empty.ensures, c.if-is_empty.false, c.split_at-2.ensures.back_len) in
-    let failed : IsErrAnd (statement (c.args.at == 0) (spots c.split_at-3.result.0.now)) (λ rest. c.in-Err-Fault.field-0-0 ≡ left_of rest) = rw c.in-Err-Fault.field-0-is at c.in-Err-Fault.ensures in
-    (start, within, end, piece_is_none (c.args.at == 0) _ c.in-Err-Fault.field-0-0 (rw (← piece) failed))
+pub returns-in-Ok-clause-goes_on : goal.returns-in-Ok-clause-goes_on
+returns-in-Ok-clause-goes_on c =
+    let place : tokens c.behind_empty-place.result ≡ passed (tokens_at c.args.script.now c.args.at) = c.behind_empty-place.ensures ∙ ap (λ l. passed (spots Plain l)) c.split_at.ensures.back in
+    let more : next_among (End ∷ []) (passed (tokens_at c.args.script.now c.args.at)) ≡ false = ap (λ l. next_among (End ∷ []) l) (sym place) ∙ (sym c.is_end_next.ensures ∙ c.if-is_end_next.false) in
+    stands_on c.args.script.now c.args.at c.in-Ok.statement c.saturating_sub-start.result c.saturating_sub-end.result more (returns-in-Ok-clause-reads c)
+
+pub returns-in-Err-Fault-clause-reads : goal.returns-in-Err-Fault-clause-reads
+returns-in-Err-Fault-clause-reads c =
+    let first : c.is_first-first.result ≡ is_first c.args.script.now c.args.at = c.is_first-first.ensures ∙ ap (λ l. (c.args.at == 0) && not (empty_next (spots Plain l))) c.split_at.ensures.back in
+    let place : tokens c.behind_empty-place.result ≡ passed (tokens_at c.args.script.now c.args.at) = c.behind_empty-place.ensures ∙ ap (λ l. passed (spots Plain l)) c.split_at.ensures.back in
+    let failed : IsErrAnd ((statement c.is_first-first.result).read (tokens c.behind_empty-place.result)) (λ rest. c.in-Err-Fault.left ≡ left_of rest) = rw c.in-Err-Fault.field-0-is at c.in-Err-Fault.ensures in
+    fails_there c.args.script.now c.args.at c.is_first-first.result (tokens c.behind_empty-place.result) c.in-Err-Fault.left c.saturating_sub-offset.result c.end_behind-end.result first place failed c.saturating_sub-offset.ensures c.end_behind-end.ensures
+
+pub returns-in-Err-Fault-clause-goes_on : goal.returns-in-Err-Fault-clause-goes_on
+returns-in-Err-Fault-clause-goes_on c =
+    let place : tokens c.behind_empty-place.result ≡ passed (tokens_at c.args.script.now c.args.at) = c.behind_empty-place.ensures ∙ ap (λ l. passed (spots Plain l)) c.split_at.ensures.back in
+    let more : next_among (End ∷ []) (passed (tokens_at c.args.script.now c.args.at)) ≡ false = ap (λ l. next_among (End ∷ []) l) (sym place) ∙ (sym c.is_end_next.ensures ∙ c.if-is_end_next.false) in
+    fails_on c.args.script.now c.args.at c.saturating_sub-offset.result c.end_behind-end.result more (returns-in-Err-Fault-clause-reads c)

@@ -1,0 +1,158 @@
+//! Literals and fields of data as values of columns.
+ghost use Rattle.std.specs.Prelude.{◌≡◌, ◌≤◌, ◌^◌, IfOk, IfSome, MatchOption, length, true};
+ghost use Rattle.std.specs.List.{prefix_len};
+ghost use Rattle.std.specs.Char.{is_ascii_digit};
+ghost use Rattle.rmt_tokens.specs.Tokens.{value_of};
+ghost use Rattle.rmt_data.specs.Offers.{number_value as number_value_of, text_value as text_value_of, literal_value as literal_value_of, is_number as number_test, digits_value as digits_value_of, numeral_value as numeral_value_of, field_value as field_value_of, absent as absent_of};
+
+use rmt_values::{Blob, Kind, Literal, Value};
+use std::alloc::{AllocError, Global};
+
+/// The longest String, in bytes.
+const LONGEST_TEXT: usize = 65_535;
+/// The most digits of a number.
+const MOST_DIGITS: usize = 39;
+
+/// The value of a number in a column of this type, if it has one there.
+fn number_value(kind: Kind, minus: bool, size: u128) -> Option<Value>
+    ensures { result ≡ number_value_of kind minus size }
+{
+    match (kind, minus) {
+        (Kind::UInt64, false) => {
+            if size < 1 << 64 {
+                Some(Value::UInt(size as u64))
+            } else {
+                None
+            }
+        }
+        (Kind::Int64, false) => {
+            if size < 1 << 63 {
+                Some(Value::Int(size as i64))
+            } else {
+                None
+            }
+        }
+        (Kind::Int64, true) => {
+            if size <= 1 << 63 {
+                Some(Value::Int((0 - size as i128) as i64))
+            } else {
+                None
+            }
+        }
+        _ => None,
+    }
+}
+
+/// The value of a text in a column of this type, if it has one there.
+fn text_value(alloc: Global, kind: Kind, bytes: &[u8]) -> Result<Option<Value>, AllocError>
+    ensures { IfOk result (λ o. o ≡ text_value_of kind bytes.now) }
+{
+    match kind {
+        Kind::Text => {
+            if bytes.len() <= LONGEST_TEXT {
+                let bytes = Vec::from_slice(alloc, bytes)?;
+                Ok(Some(Value::Text(Blob::new(bytes))))
+            } else {
+                Ok(None)
+            }
+        }
+        _ => Ok(None),
+    }
+}
+
+/// The value of a literal in a column of this type, if it has one there.
+pub fn literal_value(
+    alloc: Global,
+    kind: Kind,
+    literal: &Literal,
+) -> Result<Option<Value>, AllocError>
+    ensures { IfOk result (λ o. o ≡ literal_value_of kind literal.now) }
+{
+    match literal {
+        Literal::Number { minus, size } => Ok(number_value(kind, *minus, *size)),
+        Literal::Text(text) => text_value(alloc, kind, text.as_bytes()),
+    }
+}
+
+/// How many bytes at the front are digits.
+fn digits_len(bytes: &[u8]) -> usize
+    ensures { result ≡ prefix_len is_ascii_digit bytes.now }
+{
+    bytes
+        .iter()
+        .take_while(|byte| byte.is_ascii_digit())
+        .count()
+}
+
+/// Whether these bytes are 1 to 39 digits.
+fn is_number(bytes: &[u8]) -> bool
+    ensures { result ≡ number_test bytes.now }
+{
+    if bytes.is_empty() || bytes.len() > MOST_DIGITS {
+        return false;
+    }
+    digits_len(bytes) == bytes.len()
+}
+
+/// The value of digits; none where it is 2^128 or more.
+fn value(digits: &[u8]) -> Option<u128>
+    ensures { MatchOption result (2 ^ 128 ≤ value_of digits.now) (λ n. n ≡ value_of digits.now) }
+{
+    let mut value: u128 = 0;
+    'digits: for digit in digits {
+        let Some(tens) = value.checked_mul(10) else {
+            return None;
+        };
+        let Some(sum) = tens.checked_add(u128::from(digit.saturating_sub(b'0'))) else {
+            return None;
+        };
+        value = sum;
+    }
+    Some(value)
+}
+
+/// The value of digits in a column of this type, if they have one there.
+fn digits_value(kind: Kind, minus: bool, digits: &[u8]) -> Option<Value>
+    ensures { result ≡ digits_value_of kind minus digits.now }
+{
+    if !is_number(digits) {
+        return None;
+    }
+    match value(digits) {
+        Some(size) => number_value(kind, minus, size),
+        None => None,
+    }
+}
+
+/// The value of a number with or without a minus in a column of this type, if it has one there.
+fn numeral_value(kind: Kind, bytes: &[u8]) -> Option<Value>
+    ensures { result ≡ numeral_value_of kind bytes.now }
+{
+    match bytes {
+        [] => None,
+        [b'-', digits @ ..] => digits_value(kind, true, digits),
+        _ => digits_value(kind, false, bytes),
+    }
+}
+
+/// The value of a field of data in a column of this type, if it has one there.
+pub fn field_value(alloc: Global, kind: Kind, bytes: &[u8]) -> Result<Option<Value>, AllocError>
+    ensures { IfOk result (λ o. o ≡ field_value_of kind bytes.now) }
+{
+    match kind {
+        Kind::Text => text_value(alloc, Kind::Text, bytes),
+        Kind::UInt64 => Ok(numeral_value(Kind::UInt64, bytes)),
+        Kind::Int64 => Ok(numeral_value(Kind::Int64, bytes)),
+    }
+}
+
+/// The value of a column that is left out.
+pub fn absent(alloc: Global, kind: Kind) -> Value
+    ensures { result ≡ absent_of kind }
+{
+    match kind {
+        Kind::UInt64 => Value::UInt(0),
+        Kind::Int64 => Value::Int(0),
+        Kind::Text => Value::Text(Blob::new(Vec::new(alloc))),
+    }
+}

@@ -1,0 +1,5 @@
+pub mod Closed
+pub mod FormLaws
+pub mod Lexemes
+pub mod Rows
+pub mod Pieces

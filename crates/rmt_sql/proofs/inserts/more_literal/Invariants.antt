@@ -1,0 +1,13 @@
+use Rattle.std.proofs.Common.{length}
+use Rattle.rmt_tokens.specs.Lexing.{tokens}
+use Rattle.rmt_tokens.specs.Exact.{always}
+use Rattle.rmt_tokens.proofs.Loops.{Left}
+use Rattle.rmt_sql.specs.Grammar.{further, more_listed, comma}
+use Rattle.rmt_sql.specs.Grammar.{literal}
+use Rattle.rmt_sql.proofs.inserts.more_literal.Given as goal
+
+abbrev pub invariant-items : goal.invariant-items
+invariant-items l = Left always comma (λ all. (further literal all).read) l.all.items (tokens l.rest) ((more_listed literal l.fn.all.items).read (tokens l.at))
+
+abbrev pub decreases-items : goal.decreases-items
+decreases-items l = length (tokens l.rest)

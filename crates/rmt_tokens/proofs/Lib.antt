@@ -1,0 +1,11 @@
+pub mod Closed
+pub mod Apart
+pub mod Laws
+pub mod SingleLaws
+pub mod Longest
+pub mod Lexemes
+pub mod Numbers
+pub mod Gaps
+pub mod Texts
+pub mod Loops
+pub mod Falling
