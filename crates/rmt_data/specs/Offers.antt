@@ -26,6 +26,7 @@ number_value kinds.Int64 false size = cond (nat_lt size (2 ^ 63)) (Some (Int (po
 number_value kinds.Int64 true size = cond (nat_le size (2 ^ 63)) (Some (Int (pos 0 -ℤ pos size))) None
 number_value kinds.Text minus size = None
 
+-- the value of some bytes in a column of a type: a String of at most 65,535 bytes
 abbrev pub text_value : Kind → List ℕ → Option Value
 text_value kinds.Text bytes = cond (nat_le (length bytes) 65535) (Some (Text bytes)) None
 text_value kind bytes = None
@@ -39,6 +40,7 @@ literal_value kind (literals.Text bytes) = text_value kind bytes
 abbrev pub is_number : List ℕ → Bool
 is_number bytes = (nat_lt 0 (length bytes) && nat_le (length bytes) 39) && (prefix_len is_ascii_digit bytes == length bytes)
 
+-- the value of digits in a column of a type of numbers
 abbrev pub digits_value : Kind → Bool → List ℕ → Option Value
 digits_value kind minus digits = cond (is_number digits) (number_value kind minus (value_of digits)) None
 
@@ -76,20 +78,24 @@ name_from i (n ∷ ns) name = cond (bytes_eq n name) (Some i) (name_from (i + 1)
 abbrev pub places_in : List (List ℕ) → List Column → List (Option ℕ)
 places_in named columns = map (λ c. name_from 0 named c.name) columns
 
+-- the columns that an INSERT has values for: those named, or all in the schema's order
 abbrev pub all_names : List Column → Option (List (List ℕ)) → List (List ℕ)
 all_names columns None = names_of columns
 all_names columns (Some named) = named
 
 -- ---- rows
 
+-- the value of a cell in a column of a type, where there is a cell
 abbrev pub cell_value : {X : Type 0} → (Kind → X → Option Value) → Kind → Option X → Option Value
 cell_value valued kind None = None
 cell_value valued kind (Some x) = valued kind x
 
+-- the value of a column: that of the cell at its place, or the one of a column that is left out
 abbrev pub value_at : {X : Type 0} → (Kind → X → Option Value) → Kind → Option ℕ → List X → Option Value
 value_at valued kind None cells = Some (absent kind)
 value_at valued kind (Some i) cells = cell_value valued kind (slice_get cells i)
 
+-- values with one more in front, where all of them are values
 abbrev pub with_value : Option Value → Option (List Value) → Option (List Value)
 with_value None rest = None
 with_value (Some v) None = None
@@ -105,6 +111,7 @@ row_values valued (c ∷ cs) (p ∷ ps) cells = with_value (value_at valued c.ki
 abbrev pub row_of : {X : Type 0} → (Kind → X → Option Value) → List Column → List (Option ℕ) → ℕ → List X → Option (List Value)
 row_of valued columns places named cells = cond (length cells == named) (row_values valued columns places cells) None
 
+-- rows with one more in front, or the number of the first that is none
 abbrev pub next_row : ℕ → Option (List Value) → Result (List (List Value)) ℕ → Result (List (List Value)) ℕ
 next_row n None rest = Err n
 next_row n (Some row) (Ok rows) = Ok (row ∷ rows)

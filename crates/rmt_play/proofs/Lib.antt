@@ -1,5 +1,5 @@
-pub mod Steps
 pub mod Playing
-pub mod Seated
-pub mod Acting
-pub mod Worlds
+pub mod TableLemmas
+pub mod ActLemmas
+pub mod SendLemmas
+pub mod SchemaLemmas

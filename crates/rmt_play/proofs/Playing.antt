@@ -5,15 +5,14 @@ use Rattle.std.specs.Io.KnownBytes.{Appends, Keeps}
 use Rattle.std.proofs.KnownBytes.{Appends-nil, Appends-trans, Appends-kept}
 use Rattle.std.proofs.lemmas.List.{append-nil}
 use Rattle.std.proofs.lemmas.List.Sums.{sum_by-append}
-use Rattle.rmt_pieces.specs.declared.parsed.Parsed.TheVariants as parsed
-use Rattle.rmt_pieces.specs.Script.{ReadsAt}
-use Rattle.rmt_play.specs.declared.line.Line.{Line}
+use Rattle.rmt_sql.specs.declared.parsed.Parsed.TheVariants as parsed
+use Rattle.rmt_sql.specs.Script.{ReadsAt}
+use Rattle.rmt_reply.specs.declared.line.Line.{Line}
+use Rattle.rmt_reply.specs.Printed.{printed}
 use Rattle.rmt_play.specs.World.{World, start}
-use Rattle.rmt_play.specs.Plays.{Played}
-use Rattle.rmt_play.specs.Printed.{printed, output, is_refused}
-use Rattle.rmt_play.specs.Runs.{GivesScript, PlayedWhole, CutShort}
+use Rattle.rmt_play.specs.Plays.{Played, is_refused}
+use Rattle.rmt_play.specs.Runs.{output, GivesScript, PlayedWhole, CutShort}
 use Rattle.rmt_play.specs.Endings.{GoesOn, StopsShort}
-use Rattle.rmt_play.proofs.Steps.{played_none}
 
 -- the statements up to a place were played, their replies written and the refused ones counted
 pub record SoFar (script : List ℕ) (at : ℕ) (world : World) (before now : Option (List ℕ)) (refused : ℕ) : Type 0 where
@@ -40,9 +39,6 @@ so_far_on script at old new before now after refused end count more so on c =
       written = Appends-trans before now after (output so.lines) (printed on.line) so.written on.written;
       counted = omega (arith, counted, flag, all, c);
     }
-
-pub so_far_first : (script : List ℕ) (at : ℕ) (world : World) (before now : Option (List ℕ)) (refused : ℕ) → SoFar script at world before now refused → at ≡ 0 → world ≡ start
-so_far_first script at world before now refused so e = played_none script so.lines world (subst (λ a. Played script so.lines a world) e so.played)
 
 pub so_far_whole : (script : List ℕ) (at : ℕ) (world : World) (before now after : Option (List ℕ)) (refused : ℕ) → SoFar script at world before now refused → ReadsAt script at parsed.End → Keeps now after → PlayedWhole script before after refused
 so_far_whole script at world before now after refused so ended keeps =

@@ -4,17 +4,17 @@ use Rattle.std.specs.declared.option.Option.{Option}
 use Rattle.std.specs.Io.KnownBytes.{Appends, Keeps}
 use Rattle.rmt_outside.specs.Causes.{Rose}
 use Rattle.rmt_outside.specs.Told.{AppendsFront}
-use Rattle.rmt_pieces.specs.declared.parsed.Parsed.TheVariants as parsed
-use Rattle.rmt_pieces.specs.Script.{ReadsAt}
+use Rattle.rmt_sql.specs.declared.parsed.Parsed.TheVariants as parsed
+use Rattle.rmt_sql.specs.Script.{ReadsAt}
 use Rattle.rmt_play.specs.declared.ending.Ending.{Ending}
 use Rattle.rmt_play.specs.declared.ending.Ending.TheVariants as endings
 use Rattle.rmt_play.specs.declared.ending.Turned.{Turned}
 use Rattle.rmt_play.specs.declared.ending.Turned.TheVariants as turned
-use Rattle.rmt_play.specs.declared.line.Line.{Line}
+use Rattle.rmt_reply.specs.declared.line.Line.{Line}
+use Rattle.rmt_reply.specs.Printed.{printed}
 use Rattle.rmt_play.specs.declared.status.Status.{Status}
 use Rattle.rmt_play.specs.World.{World}
-use Rattle.rmt_play.specs.Plays.{Step}
-use Rattle.rmt_play.specs.Printed.{printed, is_refused}
+use Rattle.rmt_play.specs.Plays.{Step, is_refused}
 use Rattle.rmt_play.specs.Runs.{PlayedWhole, CutShort}
 
 -- a statement was played and its reply written

@@ -1,44 +1,115 @@
--- What the player keeps behind the world. No public clause cites this module.
-use Rattle.std.specs.Prelude.{◌≡◌, ℕ, suc, List, [], ◌∷◌, length, IfOk}
+-- What the player keeps behind the world, and what the steps of a statement come to. No public clause cites this module.
+use Rattle.std.specs.Prelude.{◌≡◌, ◌⊎◌, ℕ, ◌<◌, ◌≤◌, true, List, length, slice_get, slice_set, MatchOption}
+use Rattle.std.specs.List.{All}
 use Rattle.std.specs.declared.option.Option.{Option}
 use Rattle.std.specs.declared.option.Option.TheVariants.{Some, None}
-use Rattle.rmt_pieces.specs.declared.statement.Statement.{Statement}
-use Rattle.rmt_pieces.specs.declared.statement.Statement.TheVariants.{Create, At}
-use Rattle.rmt_replicas.specs.declared.seat.Seat.{Seat}
-use Rattle.rmt_replicas.specs.Seats.{seat_index}
-use Rattle.std.specs.Result.{result_err}
-use Rattle.std.specs.declared.result.Result.{Result}
-use Rattle.rmt_pieces.specs.declared.sent.Sent.{Sent}
-use Rattle.rmt_play.specs.declared.refusal.Refusal.{Refusal}
+use Rattle.rmt_values.specs.declared.query.Query.{Query}
+use Rattle.rmt_values.specs.declared.column.Column.{Column}
+use Rattle.rmt_values.specs.declared.schema_error.SchemaError.{SchemaError}
+use Rattle.rmt_values.specs.declared.schema_error.SchemaError.TheVariants as schemas
+use Rattle.rmt_values.specs.Rows.{Shape, fits}
+use Rattle.rmt_values.specs.Schemas.{schema_refusal, shape_of}
+use Rattle.rmt_expr.specs.Queries.{query_refusal}
+use Rattle.rmt_model.specs.Words.{Each}
+use Rattle.rmt_model.specs.Content.{Row}
 use Rattle.rmt_replicas.specs.Tables.{TableState}
-use Rattle.rmt_play.specs.World.{Table, World, the_schema}
-use Rattle.rmt_play.specs.Plays.{replica_at, unknown_replica, first_of, refusals}
+use Rattle.rmt_sql.specs.declared.act.Act.{Act}
+use Rattle.rmt_sql.specs.declared.insert.Insert.{Insert}
+use Rattle.rmt_sql.specs.declared.sent.Sent.{Sent}
+use Rattle.rmt_data.specs.declared.rows_error.RowsError.TheVariants as offers
+use Rattle.rmt_data.specs.Offers.{names_refusal, all_names}
+use Rattle.rmt_data.specs.Data.{AreOffered, IsRefused}
+use Rattle.rmt_reply.specs.declared.line.Line.{Line}
+use Rattle.rmt_reply.specs.declared.line.Line.TheVariants as lines
+use Rattle.rmt_reply.specs.declared.refusal.Refusal.{Refusal}
+use Rattle.rmt_reply.specs.declared.refusal.Refusal.TheVariants.{BadRow}
+use Rattle.rmt_play.specs.World.{Table, World}
+use Rattle.rmt_play.specs.Checks.{table_of, first_of, granularity_of, default_window, create_refusals, sent_refusals, refused_names, refused_query, act_refusal}
+use Rattle.rmt_play.specs.Acts.{Acts}
+use Rattle.rmt_play.specs.Plays.{with_table, Creates, PerformsSent, Refuses}
 
--- the world of a player that has one table at most
-abbrev pub world_of : Option Table → World
-world_of None = record { replicas = 2; tables = [] }
-world_of (Some table) = record { replicas = 2; tables = table ∷ [] }
+-- a world that a player has: 1 to 8 replicas, and each table is at all of them
+pub record IsPlayed (world : World) : Type 0 where
+  pub some : 0 < world.replicas
+  pub few : world.replicas ≤ 8
+  pub known : Each (λ t. length t.state.known ≡ world.replicas) world.tables
 
--- the number of a seat's replica
-abbrev pub number_of : Seat → ℕ
-number_of seat = suc (seat_index seat)
+-- the first table of this name stands at this place
+pub record IsPlaceOf (tables : List Table) (name : List ℕ) (place : ℕ) : Type 0 where
+  pub table : Table
+  pub there : slice_get tables place ≡ Some table
+  pub found : table_of tables name ≡ Some table
+  pub set : (t : Table) → with_table tables name t ≡ slice_set tables place t
 
--- a table is made in a world that has none
-abbrev pub CreatesFirst : World → Statement → Type 0
-CreatesFirst world (Create table) = world.tables ≡ []
-CreatesFirst world (At sent) = Unit {0}
+-- the place of the table of this name, where there is one
+abbrev pub IsFound : List Table → List ℕ → Option ℕ → Type 0
+IsFound tables name place = MatchOption place (table_of tables name ≡ None) (IsPlaceOf tables name)
 
--- a table that is played: of the one schema, at two replicas
-pub record IsPlayed (t : TableState) : Type 0 where
-  pub schema_is : t.schema ≡ the_schema
-  pub two : length t.known ≡ 2
+-- a setting's number, or one out of its range in place of another
+abbrev pub IsClipped : ℕ → ℕ → Type 0
+IsClipped number clipped = (clipped ≡ number) ⊎ ((65536 < number) × (65536 < clipped))
 
--- the seat of the replica of a name, or the refusal of a name that is none's
-pub record IsSeatOf (world : World) (name : Option (List ℕ)) (found : Result Seat Refusal) : Type 0 where
-  pub refusal : result_err found ≡ unknown_replica world name
-  pub seat : IfOk found (λ seat. replica_at world name ≡ Some (number_of seat))
+-- a number of replicas
+pub record IsCount (count : ℕ) : Type 0 where
+  pub some : 0 < count
+  pub few : count ≤ 8
 
--- the seat at which a statement is played, or the first refusal that it meets
-pub record IsChecked (world : World) (sent : Sent) (found : Result Seat Refusal) : Type 0 where
-  pub refusal : result_err found ≡ first_of (refusals world (At sent))
-  pub seat : IfOk found (λ seat. replica_at world sent.replica ≡ Some (number_of seat))
+-- ---- CREATE
+
+-- a schema's refusal that a CREATE with columns can meet
+abbrev pub IsSaid : SchemaError → Type 0
+IsSaid schemas.NoColumns = ⊥
+IsSaid schemas.Memory = ⊥
+IsSaid refusal = Unit {0}
+
+-- a CREATE makes its table, or is refused
+abbrev pub TurnsCreate : World → List ℕ → List Column → List (List ℕ) → Option ℕ → Line → World → Type 0
+TurnsCreate old table columns key granularity line new =
+    MatchOption (first_of (create_refusals old table (schema_refusal columns key (granularity_of granularity) default_window)))
+    (Creates old table (shape_of columns key (granularity_of granularity) default_window) line new) (λ refusal. Refuses old refusal line new)
+
+-- ---- INSERT
+
+-- the rows that are offered
+pub record Offers (schema : Shape) (insert : Insert) (rows : List Row) : Type 0 where
+  pub known : names_refusal schema.columns insert.columns ≡ None
+  pub offered : AreOffered schema.columns (all_names schema.columns insert.columns) insert.rows rows
+  pub fit : All (λ row. fits schema.columns row ≡ true) rows
+
+-- the first row that is none
+pub record OffersBadRow (schema : Shape) (insert : Insert) (refusal : Refusal) : Type 0 where
+  pub known : names_refusal schema.columns insert.columns ≡ None
+  pub row : ℕ
+  pub is : refusal ≡ BadRow row
+  pub refused : IsRefused schema.columns (all_names schema.columns insert.columns) insert.rows (offers.BadRow row)
+
+-- why no rows are offered
+abbrev pub OffersNone : Shape → Insert → Refusal → Type 0
+OffersNone schema insert refusal =
+    (refused_names (names_refusal schema.columns insert.columns) ≡ Some refusal) ⊎ OffersBadRow schema insert refusal
+
+-- ---- what is sent to a replica
+
+-- nothing changes, and this is the reply
+abbrev pub Declines : TableState → Line → TableState → Refusal → Type 0
+Declines t line u refusal = (line ≡ lines.Refused refusal) × (u ≡ t)
+
+-- an act does what it says in its table at a replica, or is refused
+abbrev pub TurnsAct : TableState → ℕ → Act → Line → TableState → Type 0
+TurnsAct t r act line u = MatchOption (act_refusal t.schema act) (Acts t r act line u) (Declines t line u)
+
+-- a query is answered, or refused
+abbrev pub TurnsQuery : TableState → Query → (Line → TableState → Type 0) → Line → TableState → Type 0
+TurnsQuery t query Answers line u = MatchOption (refused_query (query_refusal t.schema query)) (Answers line u) (Declines t line u)
+
+-- what is sent to a replica is done in its table, or refused
+abbrev pub TurnsSent : World → Sent → Line → World → Type 0
+TurnsSent old sent line new = MatchOption (first_of (sent_refusals old sent)) (PerformsSent old sent line new) (λ refusal. Refuses old refusal line new)
+
+-- the act comes to this in the table at a place
+pub record ActsAt (old : World) (place replica : ℕ) (act : Act) (line : Line) (new : World) : Type 0 where
+  pub table : Table
+  pub there : slice_get old.tables place ≡ Some table
+  pub after : TableState
+  pub turns : TurnsAct table.state replica act line after
+  pub rest : new ≡ record old { tables = slice_set old.tables place (record table { state = after }) }

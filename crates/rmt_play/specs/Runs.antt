@@ -1,20 +1,25 @@
 -- A whole run: the words, the script, and what is written.
-use Rattle.std.specs.Prelude.{◌≡◌, ◌⊎◌, ℕ, List, [], ◌∷◌, count_by, codes, Bool, false, MatchOption}
+use Rattle.std.specs.Prelude.{◌≡◌, ◌⊎◌, ℕ, List, [], ◌∷◌, ◌++◌, count_by, codes, Bool, false, MatchOption}
 use Rattle.std.specs.declared.option.Option.{Option}
 use Rattle.std.specs.Str.{bytes_eq}
 use Rattle.std.specs.Io.KnownBytes.{Appends}
 use Rattle.rmt_outside.specs.Told.{AppendsFront}
-use Rattle.rmt_pieces.specs.declared.parsed.Parsed.TheVariants as parsed
-use Rattle.rmt_pieces.specs.Script.{ReadsAt}
-use Rattle.rmt_play.specs.declared.line.Line.{Line}
+use Rattle.rmt_sql.specs.declared.parsed.Parsed.TheVariants as parsed
+use Rattle.rmt_sql.specs.Script.{ReadsAt}
+use Rattle.rmt_reply.specs.declared.line.Line.{Line}
+use Rattle.rmt_reply.specs.Printed.{printed}
 use Rattle.rmt_play.specs.World.{World}
-use Rattle.rmt_play.specs.Plays.{Played}
-use Rattle.rmt_play.specs.Printed.{output, is_refused}
+use Rattle.rmt_play.specs.Plays.{Played, is_refused}
 
 -- the words are exactly `play`
 abbrev pub has_form : List (List ℕ) → Bool
 has_form (word ∷ []) = bytes_eq word (codes "play")
 has_form _ = false
+
+-- the replies that are given the newest first, printed in their order
+abbrev pub output : List Line → List ℕ
+output [] = []
+output (line ∷ lines) = output lines ++ printed line
 
 -- The script is what the source gives, where that is told.
 pub record GivesScript (left : Option (List ℕ)) (P : List ℕ → Type 0) : Type 0 where

@@ -1,95 +1,173 @@
-//! What a SELECT answers over the active parts of a replica.
-ghost use Rattle.std.specs.Prelude.{◌≡◌, map, IfOk};
-ghost use Rattle.std.specs.List.{All};
-ghost use Rattle.std.specs.Arc.{arc_value};
-ghost use Rattle.rmt_granules.specs.Granules.{PartView};
-ghost use Rattle.rmt_query.specs.Answers.{answer_of, data_in};
-ghost use Rattle.rmt_replica.specs.Parts.{part_names};
-ghost use Rattle.rmt_replicas.specs.Seats.{seat_index};
-ghost use Rattle.rmt_play.specs.Plays.{item_of as item_for, query_of as query_for};
-ghost use Rattle.rmt_play.specs.Asked.{IsAsked};
+//! What is asked of a replica's active parts.
+ghost use Rattle.std.specs.Prelude.{◌≡◌, ◌<◌, length, slice_get, IfOk, IfErr};
+ghost use Rattle.std.specs.declared.option.Option.TheVariants.{Some, None};
+ghost use Rattle.rmt_expr.specs.Queries.{IsCheckedQuery, query_refusal};
+ghost use Rattle.rmt_partset.specs.Snapshots.{names_in};
+ghost use Rattle.rmt_play.specs.Acts.{granules_of as granules_for, Syncs, Reads, Explains};
+ghost use Rattle.rmt_play.specs.Checks.{refused_query};
+ghost use Rattle.rmt_play.specs.Asked.{IsAsked, IsExplained};
+ghost use Rattle.rmt_play.specs.Inside.{TurnsQuery};
 
-use crate::rows::Rows;
 use rmt_entries::Names;
-use rmt_granules::PartData;
-use rmt_pieces::{Total, Totals};
-use rmt_query::answer;
-use rmt_replica::Snapshot;
-use rmt_replicas::{Seat, Table};
-use rmt_values::{CheckedItem, CheckedItems, CheckedQuery, Places};
+use rmt_expr::{CheckError, check_query};
+use rmt_names::PartName;
+use rmt_partset::NamedPart;
+use rmt_query::{answer, explain};
+use rmt_replicas::Table;
+use rmt_reply::{Granules, Line, Refusal, Rows};
+use rmt_values::{CheckedQuery, Query, Schema};
 use std::alloc::{AllocError, Global};
-use std::sync::Arc;
 
 /// The parts that were read, and the answer over their rows.
 #[derive(Drop)]
-pub(crate) struct Asked {
-    pub(crate) parts: Names,
-    pub(crate) rows: Rows,
+struct Asked {
+    parts: Names,
+    rows: Rows,
 }
 
-/// The item of a query that asks for a total.
-fn item_of(total: Total) -> CheckedItem
-    ensures { result ≡ item_for total }
+/// The query with places in place of names, or why it is refused.
+fn checked(
+    alloc: Global,
+    query: &Query,
+    schema: &Schema,
+) -> Result<Result<CheckedQuery, Refusal>, AllocError>
+    ensures ok { IfOk result (λ found. IfOk found (IsCheckedQuery schema.now query.now)) }
+    ensures known { IfOk result (λ found. IfOk found (λ _. query_refusal schema.now query.now ≡ None)) }
+    ensures refused { IfOk result (λ found. IfErr found (λ e.
+        refused_query (query_refusal schema.now query.now) ≡ Some e)) }
 {
-    match total {
-        Total::Count => CheckedItem::Count,
-        Total::Sum => CheckedItem::Sum(0),
+    match check_query(alloc, query, schema) {
+        Ok(checked) => Ok(Ok(checked)),
+        Err(CheckError::UnknownColumn(name)) => Ok(Err(Refusal::UnknownColumn(name))),
+        Err(CheckError::WrongType(name)) => Ok(Err(Refusal::WrongType(name))),
+        Err(CheckError::Memory) => Err(AllocError),
     }
 }
 
-/// The query that asks for totals over all rows.
-fn query_of(alloc: Global, totals: &[Total]) -> Result<CheckedQuery, AllocError>
-    ensures { IfOk result (λ query. query ≡ query_for totals.now) }
+/// The names of parts.
+fn names_of(alloc: Global, parts: &[NamedPart]) -> Result<Names, AllocError>
+    ensures { IfOk result (λ names. names ≡ names_in parts.now) }
 {
-    let mut items = Vec::with_capacity(alloc, totals.len())?;
-    'totals: for total in totals {
-        items.push(item_of(*total))?;
-    }
-    Ok(CheckedQuery {
-        items: CheckedItems::new(items),
-        filter: None,
-        group: Places::new(Vec::new(alloc)),
-    })
-}
-
-/// The names of the parts of a snapshot.
-fn names_of(alloc: Global, snapshot: &Snapshot) -> Result<Names, AllocError>
-    ensures { IfOk result (λ names. names ≡ part_names snapshot.now) }
-{
-    let mut names = Vec::with_capacity(alloc, snapshot.len())?;
-    'parts: for i in 0..snapshot.len() {
-        names.push(*snapshot.name(i))?;
+    let mut names = Vec::with_capacity(alloc, parts.len())?;
+    'parts: for part in parts {
+        names.push(*part.name())?;
     }
     Ok(Names::new(names))
 }
 
-/// The rows of the parts of a snapshot, part by part.
-fn data_of(alloc: Global, snapshot: &Snapshot) -> Result<Vec<Arc<PartData, Global>>, AllocError>
-    ensures { IfOk result (λ parts. map (arc_value {X = PartView}) parts.items ≡ map (λ p. p.rows) snapshot.now) }
+/// A part with its counts of granules, which stand at a place: the chosen ones, and all.
+fn with_counts(part: &NamedPart, counts: &[(usize, usize)], i: usize) -> (PartName, usize, usize)
+    requires { i < length counts.now }
+    ensures { (n : _) → slice_get counts.now i ≡ Some n → result ≡ (part.now.name, n.0, n.1) }
 {
-    let mut parts = Vec::with_capacity(alloc, snapshot.len())?;
-    'parts: for i in 0..snapshot.len() {
-        parts.push(Arc::try_clone(snapshot.rows(i))?)?;
-    }
-    Ok(parts)
+    (*part.name(), counts[i].0, counts[i].1)
 }
 
-/// What totals a replica's active parts have.
-pub(crate) fn ask(
+/// Parts with their counts of granules.
+fn granules_of(
+    alloc: Global,
+    parts: &[NamedPart],
+    counts: &[(usize, usize)],
+) -> Result<Granules, AllocError>
+    ensures { IfOk result (λ all. all ≡ granules_for (names_in parts.now) counts.now) }
+{
+    let len = parts.len().min(counts.len());
+    let mut all = Vec::with_capacity(alloc, len)?;
+    'parts: for i in 0..len {
+        all.push(with_counts(&parts[i], counts, i))?;
+    }
+    Ok(Granules::new(all))
+}
+
+/// What a query answers over a replica's active parts.
+fn ask(
     alloc: Global,
     table: &Table,
-    seat: Seat,
-    totals: &Totals,
+    replica: usize,
+    query: &CheckedQuery,
 ) -> Result<Asked, AllocError>
-    ensures { IfOk result (λ a. IsAsked table.now (seat_index seat) totals.now a.parts a.rows) }
+    requires { replica < length table.now.known }
+    ensures { IfOk result (λ a. IsAsked table.now replica query.now a.parts a.rows) }
 {
-    let snapshot = table.read(alloc, seat)?;
-    let parts = names_of(alloc, &snapshot)?;
-    let rows = data_of(alloc, &snapshot)?;
-    let query = query_of(alloc, totals.as_slice())?;
-    let tuples = answer(alloc, &rows, &query, table.schema())?;
+    let snapshot = table.read(alloc, replica)?;
+    let parts = names_of(alloc, snapshot.parts())?;
+    let tuples = answer(alloc, &snapshot, query, table.schema())?;
     Ok(Asked {
         parts,
         rows: Rows::new(tuples),
     })
+}
+
+/// How many granules of a replica's active parts a query reads.
+fn count(
+    alloc: Global,
+    table: &Table,
+    replica: usize,
+    query: &CheckedQuery,
+) -> Result<Granules, AllocError>
+    requires { replica < length table.now.known }
+    ensures { IfOk result (IsExplained table.now replica query.now) }
+{
+    let snapshot = table.read(alloc, replica)?;
+    let counts = explain(alloc, &snapshot, query, table.schema())?;
+    granules_of(alloc, snapshot.parts(), &counts)
+}
+
+/// Brings the replica up to date and answers a query.
+pub(crate) fn sync_in(
+    alloc: Global,
+    table: Table,
+    replica: usize,
+    query: &Query,
+) -> Result<(Table, Line), AllocError>
+    requires { replica < length table.known }
+    ensures { IfOk result (λ x. TurnsQuery table query.now (Syncs table replica query.now) x.1 x.0) }
+{
+    match checked(alloc, query, table.schema())? {
+        Ok(query) => {
+            let table = table.sync(replica)?;
+            let asked = ask(alloc, &table, replica, &query)?;
+            Ok((table, Line::Rows(asked.rows)))
+        }
+        Err(refusal) => Ok((table, Line::Refused(refusal))),
+    }
+}
+
+/// Answers a query over what the replica has.
+pub(crate) fn read_in(
+    alloc: Global,
+    table: Table,
+    replica: usize,
+    query: &Query,
+) -> Result<(Table, Line), AllocError>
+    requires { replica < length table.known }
+    ensures { IfOk result (λ x. TurnsQuery table query.now (Reads table replica query.now) x.1 x.0) }
+{
+    match checked(alloc, query, table.schema())? {
+        Ok(query) => {
+            let asked = ask(alloc, &table, replica, &query)?;
+            let (parts, rows) = (asked.parts, asked.rows);
+            Ok((table, Line::Read { parts, rows }))
+        }
+        Err(refusal) => Ok((table, Line::Refused(refusal))),
+    }
+}
+
+/// Tells how many granules a query reads of what the replica has.
+pub(crate) fn explain_in(
+    alloc: Global,
+    table: Table,
+    replica: usize,
+    query: &Query,
+) -> Result<(Table, Line), AllocError>
+    requires { replica < length table.known }
+    ensures { IfOk result (λ x. TurnsQuery table query.now (Explains table replica query.now) x.1 x.0) }
+{
+    match checked(alloc, query, table.schema())? {
+        Ok(query) => {
+            let granules = count(alloc, &table, replica, &query)?;
+            Ok((table, Line::Granules(granules)))
+        }
+        Err(refusal) => Ok((table, Line::Refused(refusal))),
+    }
 }

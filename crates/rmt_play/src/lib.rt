@@ -1,16 +1,16 @@
 //! Plays scripts: what each statement replies, what it changes, and the top call of the program.
 #![tactic(auto)]
 
+mod acting;
 mod asking;
+mod creating;
 mod end;
 mod ending;
-mod line;
-mod making;
+mod forms;
+mod inserting;
 mod named_table;
 mod player;
-mod printing;
-mod refusal;
-mod rows;
+mod replicas;
 mod script;
 mod status;
 #[cfg(test)]
@@ -19,8 +19,5 @@ mod top;
 mod words;
 
 pub use end::End;
-pub use line::Line;
-pub use refusal::Refusal;
-pub use rows::Rows;
 pub use status::Status;
 pub use top::run;

@@ -11,7 +11,6 @@ pub(crate) struct NamedTable {
 
 impl Model for NamedTable {
     ghost use Rattle.rmt_play.specs.World.{Table as TableOf};
-    ghost use Rattle.rmt_play.specs.Inside.{IsPlayed};
     ghost use Rattle.std.specs.Coded.{codes};
     ghost use Rattle.rmt_values.specs.contracts.checked.Checked as filter;
 
@@ -20,6 +19,4 @@ impl Model for NamedTable {
     ghost coded = { Prim.hlevel (codes, filter.the_row.coded) };
 
     ghost view = { λ t. record { name = t.name; state = t.table } };
-
-    ghost invariant = { λ t. IsPlayed t.table };
 }

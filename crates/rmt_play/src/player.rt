@@ -1,44 +1,50 @@
-ghost use Rattle.std.specs.Prelude.{◌≡◌, ◌↔◌, [], IfOk, IsTrue, IsSome};
-ghost use Rattle.std.specs.Option.{option_map};
-ghost use Rattle.rmt_pieces.specs.declared.statement.Statement.TheVariants.{At};
-ghost use Rattle.rmt_replicas.specs.Seats.{seat_index};
-ghost use Rattle.rmt_play.specs.World.{start};
-ghost use Rattle.rmt_play.specs.Plays.{table_of, replica_of as replica_named, unknown_table as table_refusal, Creates, Acts, InTable, TurnsStatement, table_named};
-ghost use Rattle.rmt_play.specs.Inside.{number_of, CreatesFirst, IsSeatOf, IsChecked};
+ghost use Rattle.std.specs.Prelude.{◌≡◌, ◌<◌, ◌∷◌, suc, [], true, false, length, IfOk, IfErr};
+ghost use Rattle.std.specs.declared.option.Option.TheVariants.{Some};
+ghost use Rattle.rmt_play.specs.World.{start as start_of_all};
+ghost use Rattle.rmt_play.specs.Checks.{
+  first_of,
+  is_empty,
+  is_played as statement_test,
+  is_played_act as act_test,
+  refused_schema,
+  refused_columns,
+  too_many_tables,
+  replica_at,
+  unknown_replica,
+  table_named,
+};
+ghost use Rattle.rmt_play.specs.Plays.{Counts, Creates, TurnsStatement};
+ghost use Rattle.rmt_play.specs.Inside.{ActsAt, IsCount, IsFound, IsSaid, TurnsCreate, TurnsSent};
 
-use crate::asking::ask;
-use crate::line::Line;
-use crate::making::{new_table, rows_of};
+use crate::acting::act_in;
+use crate::creating::new_schema;
+use crate::forms::{is_played_act, table_of};
 use crate::named_table::NamedTable;
-use crate::refusal::Refusal;
-use rmt_pieces::{Act, Mode, Sent, Statement};
-use rmt_replicas::Seat;
-use rmt_values::Name;
+use crate::replicas::replica_named;
+use rmt_replicas::Table;
+use rmt_reply::{Line, Refusal};
+use rmt_sql::{Act, Columns, Sent, Statement};
+use rmt_values::{Limit, Name, Names, Schema, SchemaError};
 use std::alloc::{AllocError, Global};
 use std::marker::Model;
+use std::sync::Arc;
 
-/// The seat of the replica of this name.
-fn seat_named(name: &Name) -> Option<Seat>
-    ensures { option_map number_of result ≡ replica_named 2 name.now }
-{
-    if name.is(b"r2") {
-        return Some(Seat::Second);
-    }
-    if name.is(b"r1") {
-        return Some(Seat::First);
-    }
-    None
-}
+/// The most tables of a script.
+const MOST_TABLES: usize = 4;
 
-/// A table at two replicas. Contracts see the world that the statements so far have made.
+/// The most replicas.
+const MOST_REPLICAS: u8 = 8;
+
+/// The replicas, and the tables at them. Contracts see the world that the statements so far have made.
 #[derive(Drop)]
 pub(crate) struct Player {
-    table: Option<NamedTable>,
+    replicas: u8,
+    tables: Vec<NamedTable>,
 }
 
 impl Model for Player {
     ghost use Rattle.rmt_play.specs.World.{World};
-    ghost use Rattle.rmt_play.specs.Inside.{world_of};
+    ghost use Rattle.rmt_play.specs.Inside.{IsPlayed};
     ghost use Rattle.std.specs.Coded.{codes};
     ghost use Rattle.rmt_values.specs.contracts.checked.Checked as filter;
 
@@ -46,141 +52,208 @@ impl Model for Player {
 
     ghost coded = { Prim.hlevel (codes, filter.the_row.coded) };
 
-    ghost view = { λ p. world_of p.table };
+    ghost view = { λ p. record { replicas = p.replicas; tables = p.tables.items } };
+
+    ghost invariant = { λ p. IsPlayed (record { replicas = p.replicas; tables = p.tables.items }) };
 }
 
-/// Does an act in its table at a replica.
-fn act_in(
-    alloc: Global,
-    named: NamedTable,
-    seat: Seat,
-    act: Act,
-) -> Result<(NamedTable, Line), AllocError>
-    ensures { IfOk result (λ x. Acts named (seat_index seat) act x.1 x.0) }
+/// The place of the table of this name.
+fn place_of(tables: &[NamedTable], name: &Name) -> Option<usize>
+    ensures { IsFound tables.now name.now result }
 {
-    let NamedTable { name, table } = named;
-    match act {
-        Act::Insert { rows, .. } => {
-            let rows = rows_of(alloc, rows.as_slice())?;
-            let (table, part) = table.insert(alloc, seat, rows)?;
-            Ok((NamedTable { name, table }, Line::Part(part)))
-        }
-        Act::Select {
-            totals,
-            mode: Mode::Sync,
-            ..
-        } => {
-            let table = table.sync(seat)?;
-            let asked = ask(alloc, &table, seat, &totals)?;
-            Ok((NamedTable { name, table }, Line::Rows(asked.rows)))
-        }
-        Act::Select {
-            totals,
-            mode: Mode::Plain,
-            ..
-        } => {
-            let asked = ask(alloc, &table, seat, &totals)?;
-            let (parts, rows) = (asked.parts, asked.rows);
-            Ok((NamedTable { name, table }, Line::Read { parts, rows }))
+    'tables: for i in 0..tables.len() {
+        let named = &tables[i];
+        if named.name.is(name.as_bytes()) {
+            return Some(i);
         }
     }
+    None
 }
 
 impl Player {
-    /// One with no table.
-    pub(crate) fn new() -> Player
-        ensures { result ≡ start }
+    /// One with two replicas and no table.
+    pub(crate) fn new(alloc: Global) -> Player
+        ensures { result ≡ start_of_all }
     {
-        Player { table: None }
-    }
-
-    /// Whether the table has this name.
-    fn has(&self, table: &Name) -> bool
-        ensures { IsTrue result ↔ IsSome (table_of self.now.tables table.now) }
-    {
-        match &self.table {
-            Some(named) => named.name.is(table.as_bytes()),
-            None => false,
+        Player {
+            replicas: 2,
+            tables: Vec::new(alloc),
         }
     }
 
-    /// The refusal of a table that isn't there.
-    fn unknown_table(&self, table: &Name) -> Result<Option<Refusal>, AllocError>
-        ensures { IfOk result (λ r. r ≡ table_refusal self.now table.now) }
+    /// Sets how many replicas there are. There is no table yet.
+    fn count(&mut self, count: u8) -> Line
+        requires empty { is_empty self.old.tables ≡ true }
+        requires range { IsCount count }
+        ensures { Counts self.old count result self.new }
     {
-        if self.has(table) {
-            return Ok(None);
-        }
-        Ok(Some(Refusal::UnknownTable(table.copy()?)))
+        self.replicas = count;
+        Line::Okay
     }
 
-    /// The seat of a replica, the first one where none is named, or the refusal of one that isn't there.
-    fn seat(&self, name: &Option<Name>) -> Result<Result<Seat, Refusal>, AllocError>
-        ensures { IfOk result (IsSeatOf self.now name.now) }
+    /// The refusal of one more table, where there are as many as there may be.
+    fn full(&self) -> Option<Refusal>
+        ensures { result ≡ too_many_tables self.now.tables }
     {
-        let _ = &self.table;
+        let value = self.tables.len();
+        if value < MOST_TABLES {
+            return None;
+        }
+        Some(Refusal::LimitReached {
+            limit: Limit::Tables,
+            value: value as u64,
+        })
+    }
+
+    /// Why no table is made of a schema that is refused.
+    fn refusal_of(&self, error: SchemaError) -> Refusal
+        requires { IsSaid error }
+        ensures { first_of (refused_schema (Some error) ∷ too_many_tables self.now.tables ∷ refused_columns (Some error) ∷ [])
+            ≡ Some result }
+    {
+        match error {
+            SchemaError::UnknownColumn(name) => Refusal::UnknownColumn(name),
+            SchemaError::DoubleColumn(name) => Refusal::DoubleColumn(name),
+            SchemaError::WrongType(name) => Refusal::WrongType(name),
+            SchemaError::LimitReached { limit, value } => match self.full() {
+                Some(refusal) => refusal,
+                None => Refusal::LimitReached { limit, value },
+            },
+            SchemaError::NoColumns | SchemaError::Memory => unreachable!(),
+        }
+    }
+
+    /// Adds a table without rows.
+    fn add(&mut self, alloc: Global, name: &Name, schema: Schema) -> Result<Line, AllocError>
+        ensures { IfOk result (λ line. Creates self.old name.now schema line self.new) }
+    {
+        let schema = Arc::new(alloc, schema)?;
+        let table = Table::new(alloc, schema, self.replicas)?;
+        let name = name.copy()?;
+        self.tables.push(NamedTable { name, table })?;
+        Ok(Line::Okay)
+    }
+
+    /// Makes a table, or refuses to.
+    fn create(
+        &mut self,
+        alloc: Global,
+        table: &Name,
+        columns: &Columns,
+        key: &Names,
+        granularity: Option<u128>,
+    ) -> Result<Line, AllocError>
+        requires { is_empty columns.now ≡ false }
+        ensures { IfOk result (λ line. TurnsCreate self.old table.now columns.now key.now granularity line self.new) }
+    {
+        if place_of(&self.tables, table).is_some() {
+            return Ok(Line::Refused(Refusal::TableExists(table.copy()?)));
+        }
+        match new_schema(alloc, columns, key, granularity)? {
+            Err(error) => Ok(Line::Refused(self.refusal_of(error))),
+            Ok(schema) => match self.full() {
+                Some(refusal) => Ok(Line::Refused(refusal)),
+                None => self.add(alloc, table, schema),
+            },
+        }
+    }
+
+    /// The place of the replica of this name, counted from 0, the first one where none is named, or the refusal of one that
+    /// isn't there.
+    fn replica(&self, name: &Option<Name>) -> Result<Result<usize, Refusal>, AllocError>
+        ensures at { IfOk result (λ found. IfOk found (λ r. replica_at self.now name.now ≡ Some (suc r))) }
+        ensures there { IfOk result (λ found. IfOk found (λ r. r < self.now.replicas)) }
+        ensures refused { IfOk result (λ found. IfErr found (λ e. unknown_replica self.now name.now ≡ Some e)) }
+    {
+        let count = self.replicas;
         let Some(name) = name else {
-            return Ok(Ok(Seat::First));
+            return Ok(Ok(0));
         };
-        match seat_named(name) {
-            Some(seat) => Ok(Ok(seat)),
+        match replica_named(name, count) {
+            Some(number) => Ok(Ok(usize::from(number) - 1)),
             None => Ok(Err(Refusal::UnknownReplica(name.copy()?))),
         }
     }
 
-    /// The seat at which the statement is played, or the first refusal that it meets.
-    fn check(&self, sent: &Sent) -> Result<Result<Seat, Refusal>, AllocError>
-        ensures { IfOk result (IsChecked self.now sent.now) }
+    /// Does an act in the table at a place, or refuses it. At an error no memory was left, and the table is gone.
+    fn act(
+        &mut self,
+        alloc: Global,
+        place: usize,
+        replica: usize,
+        act: &Act,
+    ) -> Result<Line, AllocError>
+        requires place { place < length self.old.tables }
+        requires replica { replica < self.old.replicas }
+        requires played { act_test act.now ≡ true }
+        ensures { IfOk result (λ line. ActsAt self.old place replica act.now line self.new) }
     {
-        let table = match &sent.act {
-            Act::Insert { table, .. } => table,
-            Act::Select { table, .. } => table,
-        };
-        if let Some(refusal) = self.unknown_table(table)? {
-            return Ok(Err(refusal));
-        }
-        let seat = self.seat(&sent.replica)?;
-        Ok(seat)
-    }
-
-    /// Makes the table. It is the first one.
-    fn create(&mut self, alloc: Global, table: Name) -> Result<Line, AllocError>
-        requires { self.old.tables ≡ [] }
-        ensures { IfOk result (λ line. Creates self.old table line self.new) }
-    {
-        self.table = Some(new_table(alloc, table)?);
-        Ok(Line::Okay)
-    }
-
-    /// Does what a statement says in its table, which there is.
-    fn act(&mut self, alloc: Global, seat: Seat, act: Act) -> Result<Line, AllocError>
-        requires { IsSome (table_of self.old.tables (table_named act)) }
-        ensures { IfOk result (λ line. InTable self.old (table_named act) (λ t u. Acts t (seat_index seat) act line u) self.new) }
-    {
-        let named = self.table.take().unwrap();
-        let (named, line) = act_in(alloc, named, seat, act)?;
-        self.table = Some(named);
+        let NamedTable { name, table } = self.tables.remove(place);
+        let (table, line) = act_in(alloc, table, replica, act)?;
+        self.tables.insert(place, NamedTable { name, table })?;
         Ok(line)
     }
 
-    /// Plays a statement that is sent to a replica.
-    fn send(&mut self, alloc: Global, sent: Sent) -> Result<Line, AllocError>
-        ensures { IfOk result (λ line. TurnsStatement self.old (At sent) line self.new) }
+    /// Plays what is sent to a replica.
+    fn send(&mut self, alloc: Global, sent: &Sent) -> Result<Line, AllocError>
+        requires { act_test sent.now.act ≡ true }
+        ensures { IfOk result (λ line. TurnsSent self.old sent.now line self.new) }
     {
-        match self.check(&sent)? {
-            Ok(seat) => self.act(alloc, seat, sent.act),
+        let table = table_of(&sent.act);
+        let Some(place) = place_of(&self.tables, table) else {
+            return Ok(Line::Refused(Refusal::UnknownTable(table.copy()?)));
+        };
+        match self.replica(&sent.replica)? {
+            Ok(replica) => {
+                let line = self.act(alloc, place, replica, &sent.act)?;
+                Ok(line)
+            }
             Err(refusal) => Ok(Line::Refused(refusal)),
         }
     }
 
-    /// Plays a statement. A CREATE comes first.
-    pub(crate) fn play(&mut self, alloc: Global, statement: Statement) -> Result<Line, AllocError>
-        requires { CreatesFirst self.old statement }
-        ensures { IfOk result (λ line. TurnsStatement self.old statement line self.new) }
+    /// Whether the statement is of a form that is played.
+    fn is_played(&self, statement: &Statement) -> bool
+        ensures { result ≡ statement_test self.now statement.now }
     {
         match statement {
-            Statement::Create { table } => self.create(alloc, table),
+            Statement::Replicas { count } => {
+                1 <= *count && *count <= MOST_REPLICAS && self.tables.is_empty()
+            }
+            Statement::Create {
+                columns,
+                partition,
+                window,
+                ..
+            } => !columns.as_slice().is_empty() && partition.is_none() && window.is_none(),
+            Statement::At(sent) => is_played_act(&sent.act),
+            _ => false,
+        }
+    }
+
+    /// Plays a statement that begins at this place of its script.
+    pub(crate) fn play(
+        &mut self,
+        alloc: Global,
+        statement: &Statement,
+        start: usize,
+    ) -> Result<Line, AllocError>
+        ensures { IfOk result (λ line. TurnsStatement self.old statement.now start line self.new) }
+    {
+        if !self.is_played(statement) {
+            return Ok(Line::Refused(Refusal::Syntax { offset: start }));
+        }
+        match statement {
+            Statement::Replicas { count } => Ok(self.count(*count)),
+            Statement::Create {
+                table,
+                columns,
+                key,
+                granularity,
+                ..
+            } => self.create(alloc, table, columns, key, *granularity),
             Statement::At(sent) => self.send(alloc, sent),
+            _ => unreachable!(),
         }
     }
 }

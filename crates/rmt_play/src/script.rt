@@ -1,18 +1,15 @@
-ghost use Rattle.std.specs.Prelude.{◌≡◌, ◌≤◌, ◌<◌, ◌+◌, ◌-◌, ◌^◌, length, IfOk, MatchOption, if◌then◌else◌};
-ghost use Rattle.rmt_pieces.specs.declared.parsed.Parsed.TheVariants as parsed;
-ghost use Rattle.rmt_pieces.specs.Script.{ReadsAt};
-ghost use Rattle.rmt_play.specs.World.{start};
-ghost use Rattle.rmt_play.specs.Plays.{Step};
-ghost use Rattle.rmt_play.specs.Printed.{is_refused as refused_test};
+ghost use Rattle.std.specs.Prelude.{◌≡◌, ◌≤◌, ◌<◌, ◌+◌, ◌-◌, ◌^◌, length, IfOk, IfSome, MatchOption, if◌then◌else◌};
+ghost use Rattle.rmt_sql.specs.declared.parsed.Parsed.TheVariants as parsed;
+ghost use Rattle.rmt_sql.specs.Script.{ReadsAt};
+ghost use Rattle.rmt_play.specs.Plays.{Step, is_refused as refused_test};
+ghost use Rattle.rmt_reply.specs.Printed.{printed};
 ghost use Rattle.rmt_play.specs.Endings.{IsTurn, IsEnding};
 
 use crate::ending::{Ending, Turned};
-use crate::line::Line;
 use crate::player::Player;
-use crate::printing::print;
-use crate::refusal::Refusal;
 use rmt_outside::{Sink, write_all_of};
-use rmt_pieces::{Parsed, next_statement};
+use rmt_reply::{Line, Refusal, print_line};
+use rmt_sql::{Parsed, next_statement};
 use std::alloc::{AllocError, Global};
 
 /// Whether the reply is a refusal.
@@ -37,21 +34,34 @@ fn next_line(
     script: &[u8],
     at: usize,
 ) -> Result<Option<(Line, usize)>, AllocError>
-    requires within { at ≤ length script.now }
-    requires first { at ≡ 0 → player.old ≡ start }
-    ensures { IfOk result (λ next. MatchOption next (ReadsAt script.now at parsed.End)
+    requires { at ≤ length script.now }
+    ensures step { IfOk result (λ next. MatchOption next (ReadsAt script.now at parsed.End)
         (λ x. Step script.now at player.old x.0 x.1 player.new)) }
+    ensures further { IfOk result (λ next. IfSome next (λ x. (at < x.1) × (x.1 ≤ length script.now))) }
 {
     match next_statement(alloc, script, at)? {
         Parsed::End => Ok(None),
-        Parsed::Statement { statement, end } => {
-            let line = player.play(alloc, statement)?;
+        Parsed::Statement {
+            statement,
+            start,
+            end,
+        } => {
+            let line = player.play(alloc, &statement, start)?;
             Ok(Some((line, end)))
         }
         Parsed::Syntax { offset, end } => {
             Ok(Some((Line::Refused(Refusal::Syntax { offset }), end)))
         }
     }
+}
+
+/// A reply as it is printed.
+fn told(alloc: Global, line: &Line) -> Result<Vec<u8>, AllocError>
+    ensures { IfOk result (λ out. out.items ≡ printed line.now) }
+{
+    let mut out = Vec::new(alloc);
+    print_line(alloc, &mut out, line)?;
+    Ok(out)
 }
 
 /// Plays the next statement, and writes its reply.
@@ -62,8 +72,7 @@ fn turn<K: Sink>(
     at: usize,
     sink: &mut K,
 ) -> Turned
-    requires within { at ≤ length script.now }
-    requires first { at ≡ 0 → player.old ≡ start }
+    requires { at ≤ length script.now }
     ensures turn { IsTurn script.now at player.old player.new (K.written sink.old) (K.written sink.new)
         (K.faults sink.old) (K.faults sink.new) result }
     ensures later { K.faults sink.old ≤ K.faults sink.new }
@@ -73,10 +82,9 @@ fn turn<K: Sink>(
         Ok(None) => return Turned::AtEnd,
         Err(_) => return Turned::Memory,
     };
-    let mut out = Vec::new(alloc);
-    if print(alloc, &mut out, &line).is_err() {
+    let Ok(out) = told(alloc, &line) else {
         return Turned::Memory;
-    }
+    };
     match write_all_of(sink, &out) {
         Ok(()) => Turned::On {
             end,
@@ -92,7 +100,7 @@ pub(crate) fn play<K: Sink>(alloc: Global, script: &[u8], sink: &mut K) -> Endin
         (K.faults sink.old) (K.faults sink.new) result }
     ensures later { K.faults sink.old ≤ K.faults sink.new }
 {
-    let mut player = Player::new();
+    let mut player = Player::new(alloc);
     let mut at = 0;
     let mut refused = 0;
     'statements: loop {

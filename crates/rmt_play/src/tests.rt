@@ -39,7 +39,6 @@ fn played(alloc: Global, script: &str, failing: Vec<u64>) -> Result<(Status, Pag
 
 #[test]
 fn scripts_write_their_replies(rt: HostRuntime) -> Result<(), Fail> {
-    let create = "CREATE TABLE t (c UInt64) ENGINE = ReplicatedMergeTree ORDER BY c;";
     let cases = [
         ("", "", 0, 0),
         (FIRST, FIRST_OUTPUT, 0, 0),
@@ -49,20 +48,21 @@ fn scripts_write_their_replies(rt: HostRuntime) -> Result<(), Fail> {
             2,
             1,
         ),
-        (" ;; \t\r\n;", "", 0, 0),
+        (" ;; \t\r\n; -- nothing", "", 0, 0),
         // Keywords in any case, everything else exact; words and numbers need no white space between them.
         (
-            "create table T(c UInt64)engine=ReplicatedMergeTree order by c;INSERT into T values(1)(2),( 3 );select COUNT(),Sum(c)from T sync",
+            "create table T(c UInt64)engine=ReplicatedMergeTree order by c;INSERT into T values(1)(2),( 3 );\
+                select COUNT(),Sum(c)from T sync",
             "ok\npart all_0_0_0\nrows 1\n3,6\n",
             0,
             0,
         ),
-        // A piece that is no statement is refused where it begins, and reading goes on behind it.
+        // The first token that can't follow; reading goes on behind the next `;`.
         (
-            " \n insert t; CREATE TABLE t (c UInt64) ENGINE = ReplicatedMergeTree ORDER BY c;",
-            "refused 1 Syntax 3\nrefused 1 Syntax 13\n",
+            " \n insert t; CREATE TABLE t (c UInt64) ENGINE = ReplicatedMergeTree ORDER BY c; ",
+            "refused 1 Syntax 10\nok\n",
             2,
-            2,
+            1,
         ),
         (
             "@r9 SELECT count(), sum(c) FROM t SYNC;",
@@ -70,6 +70,13 @@ fn scripts_write_their_replies(rt: HostRuntime) -> Result<(), Fail> {
             2,
             1,
         ),
+        (
+            "SELECT count() FROM t WHERE c = 1000000000000000000000000000000000000000;",
+            "refused 1 Syntax 32\n",
+            2,
+            1,
+        ),
+        ("SELECT count(", "refused 1 Syntax 13\n", 2, 1),
         // A SELECT reads what its replica has; with SYNC it has all.
         (
             "CREATE TABLE t (c UInt64) ENGINE = ReplicatedMergeTree ORDER BY c; INSERT INTO t VALUES (7),(8); \
@@ -87,25 +94,104 @@ fn scripts_write_their_replies(rt: HostRuntime) -> Result<(), Fail> {
             0,
             0,
         ),
+        (
+            "CREATE TABLE t (c UInt64) ENGINE = ReplicatedMergeTree ORDER BY c; INSERT INTO t VALUES (2),(1); \
+                SELECT * FROM t WHERE NOT c = 2 SYNC; SELECT min(c), max(c) FROM t WHERE c > 5 SYNC; \
+                SELECT count(*) FROM t SYNC;",
+            "ok\npart all_0_0_0\nrows 1\n1\nrows 1\n0,0\nrows 1\n2\n",
+            0,
+            0,
+        ),
+        (
+            "CREATE TABLE t (c UInt64) ENGINE = ReplicatedMergeTree ORDER BY c; INSERT INTO t VALUES (1); \
+                @r2 SELECT count() FROM t; @r2 SELECT count() FROM t SYNC; @r2 SELECT c FROM t;",
+            "ok\npart all_0_0_0\nparts\nrows 1\n0\nrows 1\n1\nparts all_0_0_0\nrows 1\n1\n",
+            0,
+            0,
+        ),
+        // Two of three granules may have a 1.
+        (
+            "CREATE TABLE t (c UInt64) ENGINE = ReplicatedMergeTree ORDER BY c SETTINGS index_granularity = 2; \
+                INSERT INTO t VALUES (1),(1),(1),(1),(5); \
+                EXPLAIN SELECT count() FROM t WHERE c = 1; SELECT count() FROM t WHERE c = 1;",
+            "ok\npart all_0_0_0\ngranules all_0_0_0 2/3\ngranules total 2/3\nparts all_0_0_0\nrows 1\n4\n",
+            0,
+            0,
+        ),
+        (
+            "CREATE TABLE a (c UInt64) ENGINE = ReplicatedMergeTree ORDER BY c; \
+                CREATE TABLE b (c UInt64) ENGINE = ReplicatedMergeTree ORDER BY c; \
+                CREATE TABLE c (c UInt64) ENGINE = ReplicatedMergeTree ORDER BY c; \
+                CREATE TABLE d (c UInt64) ENGINE = ReplicatedMergeTree ORDER BY c; \
+                CREATE TABLE e (c UInt64) ENGINE = ReplicatedMergeTree ORDER BY c;",
+            "ok\nok\nok\nok\nrefused 18 LimitReached tables 4\n",
+            2,
+            1,
+        ),
+        (
+            "CREATE TABLE t (c UInt64) ENGINE = ReplicatedMergeTree ORDER BY c; @r3 INSERT INTO t VALUES (1); \
+                @r2 INSERT INTO t VALUES (18446744073709551615); INSERT INTO t VALUES (18446744073709551616); \
+                INSERT INTO t VALUES (18446744073709551615); @r1 SELECT count(), sum(c) FROM t SYNC; \
+                @ r2 SELECT count(), sum(c) FROM t SYNC; @ r2 SELECT count(), sum(c) FROM u SYNC",
+            "ok\nrefused 4 UnknownReplica r3\npart all_0_0_0\nrefused 7 BadRow 1\npart all_1_1_0\n\
+                rows 1\n2,36893488147419103230\nrows 1\n2,36893488147419103230\nrefused 2 UnknownTable u\n",
+            2,
+            3,
+        ),
+        // One replica; no rows make no block; REPLICAS stands first or nowhere.
+        (
+            "REPLICAS 1; CREATE TABLE t (c UInt64) ENGINE = ReplicatedMergeTree ORDER BY c; @r2 SELECT c FROM t; @r1 INSERT INTO t FORMAT CSV\n\
+                \n;\nSELECT c FROM t SYNC; REPLICAS 2;",
+            "ok\nok\nrefused 4 UnknownReplica r2\nnothing\nrows 0\n\
+                refused 1 Syntax 154\n",
+            2,
+            2,
+        ),
+        // Forms that nothing plays so far are refused at their first token.
+        (
+            "CREATE TABLE t (c UInt64) ENGINE = ReplicatedMergeTree PARTITION BY c ORDER BY c; KILL r1; \
+                CREATE TABLE t (c UInt64) ENGINE = ReplicatedMergeTree ORDER BY tuple() SETTINGS replicated_deduplication_window = 1; \
+                CREATE TABLE t (c UInt64) ENGINE = ReplicatedMergeTree ORDER BY c; \
+                INSERT INTO t SETTINGS insert_quorum = 2 VALUES (1); ALTER TABLE t DELETE WHERE c = 1",
+            "refused 1 Syntax 0\nrefused 1 Syntax 82\nrefused 1 Syntax 91\nok\n\
+                refused 1 Syntax 276\nrefused 1 Syntax 329\n",
+            2,
+            5,
+        ),
+        // Strings, signed numbers, data with quotes, groups, and refusals of each kind.
+        (
+            "REPLICAS 3; CREATE TABLE s (k String, g Int64, n UInt64) ENGINE = ReplicatedMergeTree ORDER BY (g, k) \
+                SETTINGS index_granularity = 2; @r2 INSERT INTO s FORMAT CSV\n\
+                \"a,b\",-1,18446744073709551615\n\
+                \"say \"\"x\"\"\",2,18446744073709551615\n\
+                plain,-1,5\n,2,7\n;\n\
+                @r3 INSERT INTO s (n, k) VALUES (1, 'it''s'); @r3 SELECT k, g, n FROM s; \
+                SELECT g, k, count(), sum(n) FROM s GROUP BY g, k SYNC; SELECT sum(n), min(k), max(g) FROM s SYNC; \
+                SELECT nope FROM s; SELECT k, sum(n) FROM s; SELECT sum(k) FROM s; \
+                INSERT INTO s VALUES ('x', 1, 2), ('y', 'z', 3); INSERT INTO s (k, k) VALUES ('x', 'y'); \
+                @r4 SELECT * FROM s; CREATE TABLE s (a UInt64) ENGINE = ReplicatedMergeTree ORDER BY a; \
+                CREATE TABLE u (a UInt64, a Int64) ENGINE = ReplicatedMergeTree ORDER BY a; \
+                CREATE TABLE u (a UInt64) ENGINE = ReplicatedMergeTree ORDER BY b; \
+                CREATE TABLE u (a UInt64) ENGINE = ReplicatedMergeTree ORDER BY a SETTINGS index_granularity = 0; \
+                EXPLAIN SELECT count() FROM s WHERE g < 0; SHOW PARTS FROM s; @r2 OPTIMIZE TABLE s FINAL; \
+                SELECT count() FROM s SYNC;",
+            "ok\nok\npart all_0_0_0\npart all_1_1_0\nparts all_1_1_0\nrows 1\nit's,0,1\n\
+                rows 5\n-1,\"a,b\",1,18446744073709551615\n-1,plain,1,5\n0,it's,1,1\n2,,1,7\n\
+                2,\"say \"\"x\"\"\",1,18446744073709551615\nrows 1\n36893488147419103243,,2\n\
+                refused 5 UnknownColumn nope\nrefused 6 WrongType k\nrefused 6 WrongType k\n\
+                refused 7 BadRow 2\nrefused 20 DoubleColumn k\nrefused 4 UnknownReplica r4\n\
+                refused 3 TableExists s\nrefused 20 DoubleColumn a\nrefused 5 UnknownColumn b\n\
+                refused 6 WrongType index_granularity\n\
+                granules all_0_0_0 1/2\ngranules all_1_1_0 1/1\ngranules total 2/3\n\
+                refused 1 Syntax 946\nrefused 1 Syntax 965\nrows 1\n5\n",
+            2,
+            12,
+        ),
     ];
     for (script, output, code, refused) in cases {
         let (status, page) = played(rt.alloc(), script, Vec::new(rt.alloc()))?;
-        assert_eq!(rt; status, Status { code, refused }, "of {script}");
         assert_eq!(rt; page.written(), output.as_bytes(), "of {script}");
-    }
-    let more = [(
-        "@r3 INSERT INTO t VALUES (1); @r2 INSERT INTO t VALUES (18446744073709551615); \
-            INSERT INTO t VALUES (18446744073709551616); INSERT INTO t VALUES (18446744073709551615); \
-            @r1 SELECT count(), sum(c) FROM t SYNC; @r2 SELECT count(), sum(c) FROM t SYNC; @ r2 SELECT count(), sum(c) FROM u SYNC",
-        "ok\nrefused 4 UnknownReplica r3\npart all_0_0_0\nrefused 1 Syntax 145\npart all_1_1_0\n\
-            rows 1\n2,36893488147419103230\nrows 1\n2,36893488147419103230\nrefused 2 UnknownTable u\n",
-        3,
-    )];
-    for (script, output, refused) in more {
-        let script = format!(in rt.alloc(); "{create}{script}")?;
-        let (status, page) = played(rt.alloc(), script.as_str(), Vec::new(rt.alloc()))?;
-        assert_eq!(rt; status, Status { code: 2, refused });
-        assert_eq!(rt; page.written(), output.as_bytes());
+        assert_eq!(rt; status, Status { code, refused }, "of {script}");
     }
     Ok(())
 }

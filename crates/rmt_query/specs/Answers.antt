@@ -3,9 +3,6 @@
 -- program's own.
 use Rattle.std.specs.Prelude.{ℕ, cond, ◌||◌, Bool, true, false, List, [], ◌∷◌, ◌++◌, map}
 use Rattle.std.specs.List.{filter}
-use Rattle.std.specs.Arc.{arc_value}
-use Rattle.std.specs.declared.sync.Arc.{Arc}
-use Rattle.std.specs.declared.alloc.Global.{Global}
 use Rattle.std.specs.Cmp.Lexicographic.{slice_cmp}
 use Rattle.std.specs.declared.option.Option.{Option}
 use Rattle.std.specs.declared.option.Option.TheVariants.{Some, None}
@@ -18,18 +15,8 @@ use Rattle.rmt_values.specs.declared.checked_query.CheckedQuery.{CheckedQuery}
 use Rattle.rmt_values.specs.Rows.{Shape, cell_cmp, key_of}
 use Rattle.rmt_values.specs.Order.{in_order, folded}
 use Rattle.rmt_values.specs.Filters.{holds}
-use Rattle.rmt_granules.specs.Granules.{PartView}
 use Rattle.rmt_query.specs.Cells.{one, joined, zero_of, tuple_cmp}
 use Rattle.rmt_query.specs.Groups.{enter}
-
--- what parts hold
-abbrev pub data_in : List (Arc PartView Global) → List PartView
-data_in parts = map (λ (p : Arc PartView Global). arc_value p) parts
-
--- the rows of parts, one part after the other
-abbrev pub all_rows : List PartView → List (List Value)
-all_rows [] = []
-all_rows (p ∷ ps) = p.rows ++ all_rows ps
 
 -- whether a row counts; without a filter, all do
 abbrev pub keeps : Option Checked → List Value → Bool

@@ -7,6 +7,8 @@ mod explaining;
 mod laws;
 mod reading;
 mod runs;
+#[cfg(test)]
+mod tests;
 mod tuple;
 
 pub use answers::answer;

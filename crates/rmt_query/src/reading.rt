@@ -2,30 +2,29 @@
 ghost use Rattle.std.specs.Prelude.{◌≡◌, ◌<◌, ◌≤◌, ◌++◌, ℕ, [], true, map, length, slice_index_or, ◌∷◌, ◌*◌, IfOk, OnOk};
 ghost use Rattle.std.specs.Option.{option_to_list};
 ghost use Rattle.std.specs.List.{All};
-ghost use Rattle.std.specs.Arc.{arc_value};
-ghost use Rattle.rmt_granules.specs.Granules.{PartView};
-ghost use Rattle.rmt_query.specs.Answers.{all_rows, data_in, keeps as counts, kept};
+ghost use Rattle.rmt_partset.specs.Snapshots.{all_rows, data_in};
+ghost use Rattle.rmt_query.specs.Answers.{keeps as counts, kept};
 
 use rmt_expr::holds;
 use rmt_granules::PartData;
 use rmt_keyrange::{range_of, select};
+use rmt_partset::NamedPart;
 use rmt_values::{Checked, Row, Schema};
 use std::alloc::{AllocError, Global};
-use std::sync::Arc;
 
 /// The rows of parts that count, one part after the other.
 pub fn kept_rows(
     alloc: Global,
-    parts: &[Arc<PartData, Global>],
+    parts: &[NamedPart],
     filter: &Option<Checked>,
     schema: &Schema,
 ) -> Result<Vec<Row>, AllocError>
-    requires { All (λ part. (arc_value {X = PartView} part).key ≡ schema.now.key) parts.now }
+    requires { All (λ part. part.rows.key ≡ schema.now.key) parts.now }
     ensures { IfOk result (λ rows. rows.items ≡ kept filter.now (all_rows (data_in parts.now))) }
 {
     let mut rows = Vec::new(alloc);
     'parts: for part in parts {
-        add_kept(&mut rows, part, filter, schema)?;
+        add_kept(&mut rows, part.data(), filter, schema)?;
     }
     Ok(rows)
 }

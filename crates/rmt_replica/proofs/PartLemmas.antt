@@ -12,7 +12,8 @@ use Rattle.rmt_model.specs.Live.{placed, in_drop}
 use Rattle.rmt_model.proofs.Lists.{Has-append, Has-right}
 use Rattle.rmt_nameset.specs.declared.range.Range.{Range}
 use Rattle.rmt_nameset.specs.NameSets.{IsRange, CoversAt, cut, put}
-use Rattle.rmt_replica.specs.Parts.{BlockPart, part_names, Installs, TakesParts, IsCovering, IsFirstInactive}
+use Rattle.rmt_partset.specs.Snapshots.{names_in}
+use Rattle.rmt_replica.specs.Parts.{BlockPart, part_names, shown, Installs, TakesParts, IsCovering, IsFirstInactive}
 
 map-append : {A B : Type 0} (f : A → B) (xs ys : List A) → map f (xs ++ ys) ≡ map f xs ++ map f ys
 map-append f [] ys = refl
@@ -112,3 +113,8 @@ split-at (y ∷ xs) (suc i) x e = ap (λ zs. y ∷ zs) (split-at xs i x e)
 
 pub first-inactive : (active names : List Name) (i : ℕ) (a : Name) → slice_get names i ≡ Some a → Each (Has active) (take i names) → (Has active a → ⊥) → IsFirstInactive active names a
 first-inactive active names i a e k n = record { front = take i names; behind = drop (suc i) names; parts = split-at names i a e; before = k; inactive = n }
+
+-- a query reads the names of the parts
+pub names-shown : (parts : List BlockPart) → names_in (shown parts) ≡ part_names parts
+names-shown [] = refl
+names-shown (p ∷ parts) = ap (λ (names : List Name). p.name ∷ names) (names-shown parts)

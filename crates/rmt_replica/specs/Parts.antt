@@ -7,6 +7,7 @@ use Rattle.rmt_values.specs.declared.value.Value.{Value}
 use Rattle.rmt_values.specs.Rows.{Shape, in_key_order}
 use Rattle.rmt_granules.specs.Granules.{PartView}
 use Rattle.rmt_granules.specs.Making.{data_of}
+use Rattle.rmt_partset.specs.Snapshots.{NamedData}
 use Rattle.rmt_names.specs.Names.{Name, Covers}
 use Rattle.rmt_entries.specs.Entries.{result_name}
 use Rattle.rmt_entries.specs.declared.entry.Entry.{Entry}
@@ -51,6 +52,10 @@ part_blocks parts = map (λ p. p.block) parts
 
 abbrev pub part_ids : List BlockPart → List BlockId
 part_ids parts = map (λ p. id_of p.block) parts
+
+-- what a query reads of parts: their names and their rows
+abbrev pub shown : List BlockPart → List NamedData
+shown parts = map (λ p. record { name = p.name; rows = p.rows }) parts
 
 -- the part is in place of those that it covers, and all others stay
 pub record Installs (old : List BlockPart) (part : BlockPart) (new : List BlockPart) : Type 0 where

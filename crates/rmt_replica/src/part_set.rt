@@ -1,14 +1,16 @@
-ghost use Rattle.std.specs.Prelude.{◌≡◌, ◌≤◌, ◌<◌, [], map, MatchOption, IsTrue, OnOk, OnErr, vec_len, vec_capacity};
+ghost use Rattle.std.specs.Prelude.{◌≡◌, ◌≤◌, ◌<◌, [], map, MatchOption, IsTrue, IfOk, OnOk, OnErr, vec_len, vec_capacity};
 ghost use Rattle.std.specs.Arc.{arc_value};
 ghost use Rattle.rmt_names.specs.Names.{Name, Covers, Overlap};
 ghost use Rattle.rmt_model.specs.Words.{Has, Each};
 ghost use Rattle.rmt_model.specs.Fair.{CoveredBy};
 ghost use Rattle.rmt_nameset.specs.NameSets.{IsRange, cut, put};
-ghost use Rattle.rmt_replica.specs.Parts.{BlockPart, Installs, TakesParts, IsCovering, IsFirstInactive, part_names};
+ghost use Rattle.rmt_replica.specs.Parts.{BlockPart, Installs, TakesParts, IsCovering, IsFirstInactive, part_names, shown};
 
 use crate::part::Part;
+use crate::showing::named_parts;
 use rmt_names::{PartName, PartitionId};
 use rmt_nameset::{NameSet, Range};
+use rmt_partset::Snapshot;
 use std::alloc::{AllocError, Global};
 use std::marker::Model;
 use std::sync::Arc;
@@ -68,11 +70,13 @@ impl PartSet {
         }
     }
 
-    /// The parts.
-    pub(crate) fn as_slice(&self) -> &[Arc<Part, Global>]
-        ensures { map arc_value result.now ≡ self.now }
+    /// What a query reads of the parts.
+    pub(crate) fn snapshot(&self, alloc: Global) -> Result<Snapshot, AllocError>
+        ensures { IfOk result (λ s. s ≡ shown self.now) }
     {
-        &self.parts
+        let _names = self.names.as_slice();
+        let parts = named_parts(alloc, &self.parts)?;
+        Ok(Snapshot::of(parts))
     }
 
     /// Puts a part in place of those that it covers. At an error no memory was left, and the parts are as they were.

@@ -8,7 +8,7 @@ ghost use Rattle.rmt_history.specs.Copies.{MakesAt, History};
 ghost use Rattle.rmt_queue.specs.Marks.{done_at};
 ghost use Rattle.rmt_replica.specs.declared.replica_error.ReplicaError.TheVariants as errors;
 ghost use Rattle.std.specs.declared.result.Result.TheVariants.{Err};
-ghost use Rattle.rmt_replica.specs.Parts.{IsCovering, Installs, TakesParts, part_names};
+ghost use Rattle.rmt_replica.specs.Parts.{IsCovering, Installs, TakesParts, part_names, shown};
 ghost use Rattle.rmt_replica.specs.Staged.{staged_at, with_staged, without};
 ghost use Rattle.rmt_replica.specs.Replicas.{IsStandingReplica, IsDrained};
 ghost use Rattle.rmt_replica.specs.Answers.{IsState, IsStateWithout, CanSettle, CanInstall, Waits, IsOfTable, IsAnswer, IsChange, IsReady, Lacks, IsWhy, settled, released};
@@ -23,7 +23,6 @@ use crate::block_number::BlockNumber;
 use crate::part::Part;
 use crate::part_set::PartSet;
 use crate::replica_error::ReplicaError;
-use crate::snapshot::Snapshot;
 use crate::staging::Staging;
 use crate::state::State;
 use crate::supply::Supply;
@@ -32,6 +31,7 @@ use rmt_block::Block;
 use rmt_entries::{Entry, result_of};
 use rmt_history::LogCopy;
 use rmt_names::{PartName, PartitionId, block_name, covers};
+use rmt_partset::Snapshot;
 use rmt_queue::Queue;
 use rmt_row::Seen;
 use rmt_values::{ReplicaId, Schema};
@@ -194,15 +194,15 @@ impl Replica {
         self.staged.get(BlockNumber { partition, number })
     }
 
-    /// The active parts at this moment.
+    /// The active parts at this moment, as a query reads them.
     pub fn snapshot(&self, alloc: Global) -> Result<Snapshot, ReplicaError>
-        ensures ok { IfOk result (λ s. s ≡ self.now.parts) }
+        ensures ok { IfOk result (λ s. s ≡ shown self.now.parts) }
         ensures down { (result ≡ Err errors.Down) ↔ (self.now.up ≡ false) }
     {
         if !self.up {
             return Err(ReplicaError::Down);
         }
-        Ok(Snapshot::of(alloc, self.parts.as_slice())?)
+        Ok(self.parts.snapshot(alloc)?)
     }
 
     /// How the entry at a place stands.

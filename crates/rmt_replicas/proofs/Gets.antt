@@ -1,14 +1,11 @@
 -- Logs of Gets alone.
-use Rattle.std.proofs.Common.{◌≡◌, ℕ, zero, suc, ◌+◌, ◌-◌, ◌<◌, ◌≤◌, ◌⊎◌, inl, inr, Bool, true, false, cond, List, [], ◌∷◌, ◌++◌, length, map, refl, sym, ap, subst, arith, ◌∙◌, nat_eq}
+use Rattle.std.proofs.Common.{◌≡◌, ℕ, zero, suc, ◌<◌, ◌⊎◌, inl, inr, Bool, true, false, cond, List, [], ◌∷◌, ◌++◌, length, map, refl, sym, ap, subst, arith, ◌∙◌, nat_eq}
 use Rattle.std.proofs.lemmas.Bool.Decides.{nat_tests}
 use Rattle.std.specs.Prelude.{replicate, slice_set, MatchOption, IsSome}
-use Rattle.std.specs.Arc.{arc_value}
-use Rattle.std.specs.declared.sync.Arc.{Arc}
-use Rattle.std.specs.declared.alloc.Global.{Global}
 use Rattle.std.specs.declared.option.Option.{Option}
 use Rattle.std.specs.declared.option.Option.TheVariants.{Some, None}
 use Rattle.rmt_values.specs.Rows.{Shape}
-use Rattle.rmt_names.specs.Names.{Name, Covers, block_name}
+use Rattle.rmt_names.specs.Names.{Name, block_name}
 use Rattle.rmt_entries.specs.Entries.{result_name}
 use Rattle.rmt_entries.specs.declared.entry.Entry.{Entry}
 use Rattle.rmt_entries.specs.declared.entry.Entry.TheVariants.{Get, Merge, Mutate, Mutation, DropRange}
@@ -23,9 +20,7 @@ use Rattle.rmt_history.specs.Copies.{MakesAt}
 use Rattle.rmt_queue.specs.Marks.{done_at}
 use Rattle.rmt_replica.specs.Parts.{BlockPart, IsBlockPart}
 use Rattle.rmt_replica.specs.Replicas.{ReplicaView, IsOfCopy, IsStandingReplica}
-use Rattle.rmt_replica.specs.declared.supply.Supply.TheVariants.{Fetched}
-use Rattle.rmt_replica.proofs.MarkLemmas.{length-set-is}
-use Rattle.rmt_replicas.specs.Following.{AreGets, OneHasDone, Supplies, DoesGet, CatchesUp, Pulls, Drains}
+use Rattle.rmt_replicas.specs.Following.{AreGets}
 
 -- a front of a log of Gets is one
 pub gets-front : (xs log : List Entry) → AreGets (xs ++ log) → AreGets log
@@ -136,86 +131,6 @@ set-more (x ∷ xs) zero zero e = refl
 set-more (x ∷ xs) zero (suc j) e = e
 set-more (x ∷ xs) (suc i) zero e = e
 set-more (x ∷ xs) (suc i) (suc j) e = set-more xs i j e
-
--- what a replica that has the log can be supplied with by another one
-pub supplied-by : (r other : ReplicaView) (log : List Entry) (i : ℕ) (part : Arc BlockPart Global) → IsStandingReplica other → GoesOn other.log log → AreGets log → i < length log → r.log ≡ log
-    → Has other.parts (arc_value part) → Covers (arc_value part).name (block_name None i) → Supplies r i (Fetched part)
-supplied-by r other log i part s g gets l e h c =
-    let of_copy = subst (λ (x : List Entry). IsOfCopy x (arc_value part)) (sym e) (part-on other log (arc_value part) s g h) in
-    record {
-      name = block_name None i;
-      makes = subst (λ (x : List Entry). MakesAt x i (block_name None i)) (sym e) (makes-number log i gets l);
-      serves = record { part = arc_value part; given = refl; covers = c; within = part-within r.log (arc_value part) of_copy };
-      of_table = λ _. of_copy;
-    }
-
-pub caught-up : (old other : ReplicaView) (i : ℕ) (part : Arc BlockPart Global) (new : ReplicaView) → i < length old.done → Has other.parts (arc_value part) → DoesGet old i (Fetched part) new → CatchesUp old other i new
-caught-up old other i part new l h d = record {
-  copy = d.copy;
-  done = ap (λ (ds : List Bool). done_at ds i) d.done ∙ set-here old.done i l;
-  more = λ j e. ap (λ (ds : List Bool). done_at ds j) d.done ∙ set-more old.done i j e;
-  marks = ap (λ (ds : List Bool). length ds) d.done ∙ length-set-is old.done i;
-  parts = λ p k. elim (d.parts p k) [ inl q ↦ inl (subst (Has other.parts) (some-one (arc_value part) p q) h) | inr m ↦ inr m ];
-  schema_is = d.schema_is;
-  up = d.up;
-}
-  where
-    some-one : (x y : BlockPart) → Some x ≡ Some y → x ≡ y
-    some-one x y e = cc
-
--- a replica that is drained up to a place
-pub record DrainedTo (old other : ReplicaView) (log : List Entry) (i : ℕ) (r : ReplicaView) : Type 0 where
-  pub copy : r.log ≡ log
-  pub below : (j : ℕ) → j < i → done_at r.done j ≡ true
-  pub marks : length r.done ≡ length log
-  pub one : OneHasDone log r other
-  pub parts : (p : BlockPart) → Has r.parts p → Has other.parts p ⊎ Has old.parts p
-  pub schema_is : r.schema ≡ old.schema
-  pub up : r.up ≡ old.up
-
-pub drained-on : (old other : ReplicaView) (log : List Entry) (i : ℕ) (r new : ReplicaView) → DrainedTo old other log i r → CatchesUp r other i new → DrainedTo old other log (i + 1) new
-drained-on old other log i r new d c = record {
-  copy = c.copy ∙ d.copy;
-  below = λ j l. below j (nat_eq j i) refl l;
-  marks = c.marks ∙ d.marks;
-  one = λ j l. elim (d.one j l) [ inl e ↦ inl (c.more j e) | inr e ↦ inr e ];
-  parts = λ p h. elim (c.parts p h) [ inl k ↦ inl k | inr k ↦ d.parts p k ];
-  schema_is = c.schema_is ∙ d.schema_is;
-  up = c.up ∙ d.up;
-}
-  where
-    below : (j : ℕ) (b : Bool) → nat_eq j i ≡ b → j < i + 1 → done_at new.done j ≡ true
-    below j true e l = let q : j ≡ i = grind (arith, nat_tests) in ap (done_at new.done) q ∙ c.done
-    below j false e l = c.more j (d.below j (grind (arith, nat_tests)))
-
-pub drained-start : (old other r : ReplicaView) (log : List Entry) (first : ℕ) → Pulls old log r → IsStandingReplica r → OneHasDone log old other → ((j : ℕ) → j < first → done_at r.done j ≡ true) → DrainedTo old other log first r
-drained-start old other r log first p s o f = record {
-  copy = p.copy;
-  below = f;
-  marks = s.marks ∙ ap (λ (x : List Entry). length x) p.copy;
-  one = λ j l. elim (o j l) [ inl e ↦ inl (ap (λ (ds : List Bool). done_at ds j) p.done ∙ front-true old.done (replicate (length log - length old.done) false) j e) | inr e ↦ inr e ];
-  parts = λ x h. inr (subst (λ (ps : List BlockPart). Has ps x) p.parts h);
-  schema_is = p.schema_is;
-  up = p.up;
-}
-  where
-    front-true : (xs ys : List Bool) (j : ℕ) → done_at xs j ≡ true → done_at (xs ++ ys) j ≡ true
-    front-true [] ys j e = absurd (cc)
-    front-true (x ∷ xs) ys zero e = e
-    front-true (x ∷ xs) ys (suc j) e = front-true xs ys j e
-
-pub drained-end : (old other : ReplicaView) (log : List Entry) (i : ℕ) (r : ReplicaView) → DrainedTo old other log i r → length log ≤ i → Drains old other log r
-drained-end old other log i r d l = record {
-  copy = d.copy;
-  done = all-set r.done (length log) d.marks (λ j m. d.below j (omega (arith, l, m)));
-  parts = d.parts;
-  schema_is = d.schema_is;
-  up = d.up;
-}
-
-pub other-done : {P : Type 0} {b : Bool} → (b ≡ true) ⊎ P → b ≡ false → P
-other-done (inl e) f = absurd (cc)
-other-done (inr p) f = p
 
 used-below : (log : List Entry) (p : Option ℕ) (n : ℕ) → AreGets log → Used log p n → n < length log
 used-below [] p n g u = absurd u

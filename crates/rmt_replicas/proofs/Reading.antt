@@ -1,9 +1,12 @@
 -- What the active parts of a replica hold.
-use Rattle.std.proofs.Common.{◌≡◌, ℕ, zero, suc, ◌+◌, ◌-◌, ◌<◌, ◌≤◌, ◌&&◌, ◌||◌, Bool, true, false, cond, List, [], ◌∷◌, ◌++◌, length, refl, sym, ap, subst, arith, ◌∙◌, nat_eq, nat_lt, nat_le}
+use Rattle.std.proofs.Common.{◌≡◌, ℕ, zero, suc, ◌+◌, ◌-◌, ◌<◌, ◌≤◌, ◌&&◌, ◌||◌, Bool, true, false, cond, List, [], ◌∷◌, ◌++◌, length, map, refl, sym, ap, subst, arith, ◌∙◌, nat_eq, nat_lt, nat_le}
 use Rattle.std.proofs.lemmas.Bool.Decides.{nat_tests}
 use Rattle.std.proofs.lemmas.List.{append-nil}
 use Rattle.std.specs.List.{filter_map, cons_option}
+use Rattle.std.specs.List.{All}
 use Rattle.rmt_granules.specs.Granules.{PartView}
+use Rattle.rmt_granules.specs.Making.{data_of}
+use Rattle.rmt_partset.specs.Snapshots.{NamedData, names_in, data_in, all_rows}
 use Rattle.std.specs.Option.{option_and_then}
 use Rattle.std.specs.declared.option.Option.{Option}
 use Rattle.std.specs.declared.option.Option.TheVariants.{Some, None}
@@ -22,11 +25,12 @@ use Rattle.rmt_model.proofs.Drained.{fair-live}
 use Rattle.rmt_model.proofs.Headline.{reads-plain-rows}
 use Rattle.rmt_model.proofs.Standing.{fair-more}
 use Rattle.rmt_queue.specs.Marks.{done_at}
-use Rattle.rmt_replica.specs.Parts.{BlockPart, part_names}
+use Rattle.rmt_replica.specs.Parts.{BlockPart, part_names, shown}
 use Rattle.rmt_replica.specs.Replicas.{ReplicaView, IsStandingReplica}
 use Rattle.rmt_replica.proofs.MarkLemmas.{past-false}
+use Rattle.rmt_replica.proofs.PartLemmas.{names-shown}
 use Rattle.rmt_replicas.specs.Following.{AreGets}
-use Rattle.rmt_replicas.specs.Tables.{Accepted, TableState, rows_by_number, contents, part_rows, IsReading, AreOf, accepted, block_at, Holds, IsReplicaAt}
+use Rattle.rmt_replicas.specs.Tables.{Accepted, TableState, rows_by_number, IsReading, AreOf, accepted, block_at, Holds, IsReplicaAt}
 use Rattle.rmt_replicas.proofs.Gets.{gets-lawful}
 use Rattle.rmt_replicas.proofs.Pulled.{length-both}
 use Rattle.rmt_replicas.proofs.TableSteps.{same-length, block-below}
@@ -103,16 +107,17 @@ content-one schema log bs n b g o e =
     within : n < length log
     within = let a = block-below bs n b e in let c = same-length log bs o in omega (arith, a, c)
 
-part-holds : (schema : Shape) (log : List Entry) (bs : List BlockView) (p : BlockPart) → AreGets log → AreOf log bs → Holds schema bs p → p.rows.rows ≡ content schema log (rows_by_number (accepted bs)) p.name
+part-holds : (schema : Shape) (log : List Entry) (bs : List BlockView) (p : BlockPart) → AreGets log → AreOf log bs → Holds schema bs p → p.rows ≡ data_of schema (content schema log (rows_by_number (accepted bs)) p.name)
 part-holds schema log bs p g o h =
-    ap (λ (d : PartView). d.rows) h.is.rows
-    ∙ (sym (content-one schema log bs h.number h.block g o h.there) ∙ ap (content schema log (rows_by_number (accepted bs))) (sym h.is.named))
+    h.is.rows
+    ∙ ap (data_of schema) (sym (content-one schema log bs h.number h.block g o h.there) ∙ ap (content schema log (rows_by_number (accepted bs))) (sym h.is.named))
 
-parts-hold : (schema : Shape) (log : List Entry) (bs : List BlockView) (parts : List BlockPart) → AreGets log → AreOf log bs → Each (Holds schema bs) parts → part_rows parts ≡ contents schema log (rows_by_number (accepted bs)) (part_names parts)
+parts-hold : (schema : Shape) (log : List Entry) (bs : List BlockView) (parts : List BlockPart) → AreGets log → AreOf log bs → Each (Holds schema bs) parts
+    → data_in (shown parts) ≡ map (λ (a : Name). data_of schema (content schema log (rows_by_number (accepted bs)) a)) (names_in (shown parts))
 parts-hold schema log bs [] g o h = refl
 parts-hold schema log bs (p ∷ parts) g o h =
-    ap (λ (xs : List Row). xs ++ part_rows parts) (part-holds schema log bs p g o h.0)
-    ∙ ap (λ (xs : List Row). content schema log (rows_by_number (accepted bs)) p.name ++ xs) (parts-hold schema log bs parts g o h.1)
+    ap (λ (d : PartView). d ∷ data_in (shown parts)) (part-holds schema log bs p g o h.0)
+    ∙ ap (λ (ds : List PartView). data_of schema (content schema log (rows_by_number (accepted bs)) p.name) ∷ ds) (parts-hold schema log bs parts g o h.1)
 
 -- ---- fair names of a front of the log are fair for the log
 
@@ -121,33 +126,47 @@ fair-on [] log marked names f s = s
 fair-on (e ∷ gained) log marked names f s =
     fair-more e (gained ++ log) marked names (f (length (gained ++ log)) (let k = length-both gained log in omega (arith, k))) (fair-on gained log marked names f s)
 
-read-all : (schema : Shape) (log : List Entry) (blocks : Blocks) (names : List Name) → AreGets log → snapshot schema log blocks names ≡ contents schema log blocks names
+read-all : (schema : Shape) (log : List Entry) (blocks : Blocks) (names : List Name) → AreGets log → snapshot schema log blocks names ≡ all_rows (map (λ (a : Name). data_of schema (content schema log blocks a)) names)
 read-all schema log blocks [] g = refl
 read-all schema log blocks (a ∷ names) g =
     ap (λ (xs : List Row). xs ++ snapshot schema log blocks names) (kept-all log a.partition (λ k. nat_lt (data_version a) k) (content schema log blocks a) g)
     ∙ ap (λ (xs : List Row). content schema log blocks a ++ xs) (read-all schema log blocks names g)
 
+-- the key of each part is the schema's
+keys-of : (schema : Shape) (of : Name → List Row) (parts : List NamedData) (names : List Name) → data_in parts ≡ map (λ (a : Name). data_of schema (of a)) names → All (λ (p : NamedData). p.rows.key ≡ schema.key) parts
+keys-of schema of [] names e k d l = absurd (omega (arith, l))
+keys-of schema of (p ∷ parts) [] e k d l = absurd (cc)
+keys-of schema of (p ∷ parts) (a ∷ names) e zero d l =
+    let h : p.rows ≡ data_of schema (of a) = cc in
+    ap (λ (v : PartView). v.key) h
+keys-of schema of (p ∷ parts) (a ∷ names) e (suc k) d l =
+    let t : data_in parts ≡ map (λ (b : Name). data_of schema (of b)) names = cc in
+    keys-of schema of parts names t k d (omega (arith, l))
+
+pub read-keys : (t : TableState) (r : ℕ) (parts : List NamedData) → IsReading t r parts → All (λ (p : NamedData). p.rows.key ≡ t.schema.key) parts
+read-keys t r parts k = keys-of t.schema (content t.schema t.log (rows_by_number t.blocks)) parts (names_in parts) k.holds
+
 -- what is read of a replica of a table
-pub reading : (t : TableState) (r : ℕ) (x : ReplicaView) → IsReplicaAt t r x → IsStandingReplica x → IsReading t r x.parts
+pub reading : (t : TableState) (r : ℕ) (x : ReplicaView) → IsReplicaAt t r x → IsStandingReplica x → IsReading t r (shown x.parts)
 reading t r x k s = record {
-  fair = subst (λ (ds : List Bool). AreFair t.log (done_at ds) (part_names x.parts)) (sym k.known) fair;
-  holds = subst (λ (bs : List Accepted). part_rows x.parts ≡ contents t.schema t.log (rows_by_number bs) (part_names x.parts)) (sym k.blocks) held;
-  keys = Each-all (λ p. p.rows.key ≡ t.schema.key) x.parts (λ p h. ap (λ (d : PartView). d.key) (Each-at (Holds t.schema k.bs) x.parts p k.follows.blocks h).is.rows);
+  fair = subst (λ (ds : List Bool). AreFair t.log (done_at ds) (names_in (shown x.parts))) (sym k.known) fair;
+  holds = subst (λ (bs : List Accepted). data_in (shown x.parts) ≡ map (λ (a : Name). data_of t.schema (content t.schema t.log (rows_by_number bs) a)) (names_in (shown x.parts))) (sym k.blocks) held;
   whole = λ all. whole (subst (λ (ds : List Bool). AllMarked t.log (done_at ds)) k.known all);
 }
   where
-    fair : AreFair t.log (done_at x.done) (part_names x.parts)
-    fair = subst (λ (l : List Entry). AreFair l (done_at x.done) (part_names x.parts)) (sym k.follows.front.is)
-        (fair-on k.follows.front.gained x.log (done_at x.done) (part_names x.parts) (λ i l. past-false x.done i (let m = s.marks in omega (arith, m, l))) s.fair)
+    fair : AreFair t.log (done_at x.done) (names_in (shown x.parts))
+    fair = subst (AreFair t.log (done_at x.done)) (sym (names-shown x.parts)) (subst (λ (l : List Entry). AreFair l (done_at x.done) (part_names x.parts)) (sym k.follows.front.is)
+        (fair-on k.follows.front.gained x.log (done_at x.done) (part_names x.parts) (λ i l. past-false x.done i (let m = s.marks in omega (arith, m, l))) s.fair))
 
-    held : part_rows x.parts ≡ contents t.schema t.log (rows_by_number (accepted k.bs)) (part_names x.parts)
+    held : data_in (shown x.parts) ≡ map (λ (a : Name). data_of t.schema (content t.schema t.log (rows_by_number (accepted k.bs)) a)) (names_in (shown x.parts))
     held = parts-hold t.schema t.log k.bs x.parts k.gets k.of_blocks k.follows.blocks
 
-    whole : AllMarked t.log (done_at x.done) → SameBag (part_rows x.parts) (rows t.log (rows_by_number t.blocks))
+    whole : AllMarked t.log (done_at x.done) → SameBag (all_rows (data_in (shown x.parts))) (rows t.log (rows_by_number t.blocks))
     whole all =
         let lawful = gets-lawful t.schema t.log k.gets in
-        let names = fair-live t.schema t.log (done_at x.done) (part_names x.parts) lawful fair all in
+        let names = fair-live t.schema t.log (done_at x.done) (names_in (shown x.parts)) lawful fair all in
         let blocks = rows_by_number (accepted k.bs) in
-        let same = held ∙ (ap (contents t.schema t.log blocks) names ∙ sym (read-all t.schema t.log blocks (live t.log) k.gets)) in
-        subst (λ (bs : List Accepted). SameBag (part_rows x.parts) (rows t.log (rows_by_number bs))) (sym k.blocks)
+        let of = λ (a : Name). data_of t.schema (content t.schema t.log blocks a) in
+        let same = ap all_rows (held ∙ ap (map of) names) ∙ sym (read-all t.schema t.log blocks (live t.log) k.gets) in
+        subst (λ (bs : List Accepted). SameBag (all_rows (data_in (shown x.parts))) (rows t.log (rows_by_number bs))) (sym k.blocks)
         (subst (λ (xs : List Row). SameBag xs (rows t.log blocks)) (sym same) (reads-plain-rows t.schema t.log lawful blocks))

@@ -1,20 +1,22 @@
 -- A table's log of inserted blocks, and a replica that follows it.
 -- ClickHouse documentation, Data Replication: a replica pulls the entries of the log, and fetches parts from other replicas.
-use Rattle.std.specs.Prelude.{◌≡◌, ◌⊎◌, ℕ, ◌<◌, ◌-◌, true, List, [], ◌∷◌, length, replicate, slice_set}
+use Rattle.std.specs.Prelude.{◌≡◌, ◌⊎◌, ℕ, ◌<◌, ◌+◌, ◌-◌, true, List, [], ◌∷◌, length, replicate, slice_get, slice_set}
 use Rattle.std.specs.declared.option.Option.TheVariants.{Some, None}
 use Rattle.rmt_values.specs.Rows.{Shape}
-use Rattle.rmt_names.specs.Names.{Name, block_name}
+use Rattle.rmt_names.specs.Names.{Name, Covers, block_name}
 use Rattle.rmt_entries.specs.declared.entry.Entry.{Entry}
 use Rattle.rmt_entries.specs.declared.entry.Entry.TheVariants.{Get, Merge, Mutate, Mutation, DropRange}
 use Rattle.rmt_block.specs.Blocks.{BlockView}
 use Rattle.rmt_model.specs.Words.{Has}
+use Rattle.rmt_model.specs.Lawful.{entry_at}
+use Rattle.rmt_model.specs.Parts.{GoesOn}
 use Rattle.rmt_history.specs.Copies.{MakesAt}
 use Rattle.rmt_queue.specs.Marks.{done_at, grown}
 use Rattle.rmt_replica.specs.declared.supply.Supply.{Supply}
 use Rattle.rmt_replica.specs.Supplies.{supplied}
 use Rattle.rmt_entries.specs.Entries.{result_name}
 use Rattle.rmt_replica.specs.Parts.{BlockPart, IsGetOf, rows_in}
-use Rattle.rmt_replica.specs.Replicas.{ReplicaView}
+use Rattle.rmt_replica.specs.Replicas.{ReplicaView, IsOfCopy, IsStandingReplica}
 use Rattle.rmt_replica.specs.Answers.{Serves, IsOfTable}
 
 -- each entry is the Get of the block that its place is the number of, in a table of one partition
@@ -49,27 +51,81 @@ pub record DoesGet (old : ReplicaView) (i : ℕ) (supply : Supply) (new : Replic
   pub schema_is : new.schema ≡ old.schema
   pub up : new.up ≡ old.up
 
--- one of the two replicas has done each entry of the log
-abbrev pub OneHasDone : List Entry → ReplicaView → ReplicaView → Type 0
-OneHasDone log r other = (i : ℕ) → i < length log → (done_at r.done i ≡ true) ⊎ (done_at other.done i ≡ true)
+-- the replica that accepted the block of an entry, counted from 1; 0 where it is no Get
+abbrev pub source_of : Entry → ℕ
+source_of (Get p n digest source need) = source
+source_of (Merge new sources count) = 0
+source_of (Mutate old new upto count mcount) = 0
+source_of (Mutation id numbers command) = 0
+source_of (DropRange p n) = 0
 
--- the entry is done; nothing is undone; a part that is new is one of the other replica's
-pub record CatchesUp (old other : ReplicaView) (i : ℕ) (new : ReplicaView) : Type 0 where
-  pub copy : new.log ≡ old.log
-  pub done : done_at new.done i ≡ true
-  pub more : (j : ℕ) → done_at old.done j ≡ true → done_at new.done j ≡ true
-  pub marks : length new.done ≡ length old.done
-  pub parts : (p : BlockPart) → Has new.parts p → Has other.parts p ⊎ Has old.parts p
-  pub schema_is : new.schema ≡ old.schema
-  pub up : new.up ≡ old.up
+-- the entry at this place is a Get whose source is the replica at a place of the list, which has done it
+pub record HasSource (log : List Entry) (replicas : List ReplicaView) (i : ℕ) : Type 0 where
+  pub entry : Entry
+  pub place : ℕ
+  pub replica : ReplicaView
+  pub stands : entry_at log i ≡ Some entry
+  pub source : source_of entry ≡ place + 1
+  pub there : slice_get replicas place ≡ Some replica
+  pub done : done_at replica.done i ≡ true
 
--- the whole log is done; a part that is new is one of the other replica's
-pub record Drains (old other : ReplicaView) (log : List Entry) (new : ReplicaView) : Type 0 where
+-- each entry has its source among the replicas
+abbrev pub HaveSources : List Entry → List ReplicaView → Type 0
+HaveSources log replicas = (i : ℕ) → i < length log → HasSource log replicas i
+
+-- the replica is up and has a front of the log
+pub record Lags (log : List Entry) (r : ReplicaView) : Type 0 where
+  pub is_up : r.up ≡ true
+  pub front : GoesOn r.log log
+
+-- one of the replicas has the part
+pub record IsHeld (replicas : List ReplicaView) (part : BlockPart) : Type 0 where
+  pub holder : ReplicaView
+  pub among : Has replicas holder
+  pub is_in : Has holder.parts part
+
+-- the replica, which stands, has this part, and it covers what the entry makes
+pub record IsPartAt (r : ReplicaView) (i : ℕ) (part : BlockPart) : Type 0 where
+  pub is_in : Has r.parts part
+  pub covers : Covers part.name (block_name None i)
+  pub standing : IsStandingReplica r
+
+-- one of the replicas has this part, which was made in the log and covers what the entry makes
+pub record IsFetched (replicas : List ReplicaView) (log : List Entry) (i : ℕ) (part : BlockPart) : Type 0 where
+  pub held : IsHeld replicas part
+  pub of_copy : IsOfCopy log part
+  pub covers : Covers part.name (block_name None i)
+
+-- no replica changes but the one at a place of the list, which has the log; a part that is new there is one that a replica
+-- of the list had
+pub record ChangesAt (olds : List ReplicaView) (r : ℕ) (log : List Entry) (news : List ReplicaView) : Type 0 where
+  pub old : ReplicaView
+  pub new : ReplicaView
+  pub was : slice_get olds r ≡ Some old
+  pub others : news ≡ slice_set olds r new
   pub copy : new.log ≡ log
-  pub done : new.done ≡ replicate (length log) true
-  pub parts : (p : BlockPart) → Has new.parts p → Has other.parts p ⊎ Has old.parts p
+  pub parts : (p : BlockPart) → Has new.parts p → IsHeld olds p
   pub schema_is : new.schema ≡ old.schema
   pub up : new.up ≡ old.up
+
+-- the entry is done at the replica; nothing is undone
+pub record CatchesUp (olds : List ReplicaView) (r : ℕ) (log : List Entry) (i : ℕ) (news : List ReplicaView) : Type 0 where
+  pub change : ChangesAt olds r log news
+  pub done : done_at change.new.done i ≡ true
+  pub more : (j : ℕ) → done_at change.old.done j ≡ true → done_at change.new.done j ≡ true
+  pub marks : length change.new.done ≡ length change.old.done
+
+-- the first entries are done at the replica, which has the log; nothing is undone
+pub record DrainsTo (olds : List ReplicaView) (r : ℕ) (log : List Entry) (i : ℕ) (news : List ReplicaView) : Type 0 where
+  pub change : ChangesAt olds r log news
+  pub below : (j : ℕ) → j < i → done_at change.new.done j ≡ true
+  pub more : (j : ℕ) → done_at change.old.done j ≡ true → done_at change.new.done j ≡ true
+  pub marks : length change.new.done ≡ length log
+
+-- the whole log is done at the replica
+pub record Drains (olds : List ReplicaView) (r : ℕ) (log : List Entry) (news : List ReplicaView) : Type 0 where
+  pub change : ChangesAt olds r log news
+  pub done : change.new.done ≡ replicate (length log) true
 
 -- the newest entry of the log is the Get of this block, numbered by its place
 pub record IsNewest (log : List Entry) (b : BlockView) : Type 0 where

@@ -1,7 +1,7 @@
--- A table at two replicas: its log, the blocks that were accepted, and which places of the log are known at each replica.
+-- A table at its replicas: its log, the blocks that were accepted, and which places of the log are known at each replica.
 -- ClickHouse documentation, Data Replication: a block that a replica accepts becomes an entry of the table's log; other
 -- replicas have it once they have worked through that entry.
-use Rattle.std.specs.Prelude.{◌≡◌, ℕ, ◌+◌, ◌&&◌, Bool, true, cond, nat_eq, List, [], ◌∷◌, ◌++◌, length, replicate, slice_get, slice_set, slice_index_or}
+use Rattle.std.specs.Prelude.{◌≡◌, ℕ, ◌+◌, ◌&&◌, Bool, true, cond, nat_eq, List, [], ◌∷◌, length, map, ◌<◌, ◌≤◌, replicate, slice_get, slice_set, slice_index_or}
 use Rattle.std.specs.List.{All}
 use Rattle.std.specs.declared.option.Option.{Option}
 use Rattle.std.specs.declared.option.Option.TheVariants.{Some, None}
@@ -12,15 +12,18 @@ use Rattle.rmt_entries.specs.declared.entry.Entry.TheVariants.{Get}
 use Rattle.rmt_block.specs.Blocks.{BlockView, kinds_of, block_of}
 use Rattle.rmt_model.specs.Content.{Row, Blocks, content, rows}
 use Rattle.rmt_model.specs.Fair.{AreFair, AllMarked}
+use Rattle.rmt_granules.specs.Granules.{PartView}
+use Rattle.rmt_granules.specs.Making.{data_of}
+use Rattle.rmt_partset.specs.Snapshots.{NamedData, names_in, data_in, all_rows}
 use Rattle.rmt_values.specs.Order.{SameBag}
 use Rattle.rmt_model.specs.Words.{Each}
 use Rattle.rmt_model.specs.Parts.{GoesOn}
 use Rattle.rmt_row.specs.Token.{Token}
 use Rattle.rmt_history.specs.Copies.{entries}
 use Rattle.rmt_queue.specs.Marks.{grown, done_at}
-use Rattle.rmt_replica.specs.Parts.{BlockPart, IsGetOf, part_names}
+use Rattle.rmt_replica.specs.Parts.{BlockPart, IsGetOf}
 use Rattle.rmt_replica.specs.Replicas.{ReplicaView}
-use Rattle.rmt_replicas.specs.Following.{AreGets, OneHasDone, IsPartOfBlock}
+use Rattle.rmt_replicas.specs.Following.{AreGets, HaveSources, IsPartOfBlock}
 
 -- a block that was accepted: its number in the one partition, and its rows
 pub record Accepted : Type 0 where
@@ -52,11 +55,10 @@ learned marks place = slice_set (grown marks (place + 1)) place true
 abbrev pub next_number : TableState → ℕ
 next_number t = length t.blocks
 
--- the token and the block are the next ones of the table
-pub record ComesNext (t : TableState) (token : Token Entry) (b : BlockView) : Type 0 where
-  pub source : ℕ
+-- the token and the block are the next ones of the table, accepted at the replica
+pub record ComesNext (t : TableState) (r : ℕ) (token : Token Entry) (b : BlockView) : Type 0 where
   pub place : token.place ≡ length t.log
-  pub get : token.value ≡ Get None (length t.log) b.digest source 0
+  pub get : token.value ≡ Get None (length t.log) b.digest (r + 1) 0
   pub partition : b.partition ≡ None
   pub fit : All (λ row. fits t.schema.columns row ≡ true) b.rows
 
@@ -81,23 +83,16 @@ pub record Accepts (old : TableState) (r : ℕ) (rows : List Row) (name : Name) 
 abbrev pub synced : TableState → ℕ → TableState
 synced t r = record t { known = slice_set t.known r (replicate (length t.log) true) }
 
--- the rows of parts with these names, one part after the other
-abbrev pub contents : Shape → List Entry → Blocks → List Name → List Row
-contents schema log blocks [] = []
-contents schema log blocks (a ∷ names) = content schema log blocks a ++ contents schema log blocks names
-
--- the rows of parts, one part after the other
-abbrev pub part_rows : List BlockPart → List Row
-part_rows [] = []
-part_rows (p ∷ parts) = p.rows.rows ++ part_rows parts
+-- the part of this name: the content of the name, in granules
+abbrev pub data_at : TableState → Name → PartView
+data_at t a = data_of t.schema (content t.schema t.log (rows_by_number t.blocks) a)
 
 -- parts that are read at a replica: their names are fair for what is known there, and they have what these names hold;
--- where all is known, that is the plain rows
-pub record IsReading (t : TableState) (r : ℕ) (parts : List BlockPart) : Type 0 where
-  pub fair : AreFair t.log (done_at (known_at t r)) (part_names parts)
-  pub holds : part_rows parts ≡ contents t.schema t.log (rows_by_number t.blocks) (part_names parts)
-  pub keys : Each (λ p. p.rows.key ≡ t.schema.key) parts
-  pub whole : AllMarked t.log (done_at (known_at t r)) → SameBag (part_rows parts) (rows t.log (rows_by_number t.blocks))
+-- where all is known, their rows are the plain rows
+pub record IsReading (t : TableState) (r : ℕ) (parts : List NamedData) : Type 0 where
+  pub fair : AreFair t.log (done_at (known_at t r)) (names_in parts)
+  pub holds : data_in parts ≡ map (data_at t) (names_in parts)
+  pub whole : AllMarked t.log (done_at (known_at t r)) → SameBag (all_rows (data_in parts)) (rows t.log (rows_by_number t.blocks))
 
 -- ---- what a table keeps. No public clause cites the rest
 
@@ -132,24 +127,38 @@ pub record Follows (schema : Shape) (log : List Entry) (bs : List BlockView) (r 
   pub front : GoesOn r.log log
   pub blocks : Each (Holds schema bs) r.parts
 
--- the log has the Gets of the blocks; each replica follows it, and one of the two has done each entry
-pub record IsTable (schema : Shape) (tokens : List (Token Entry)) (bs : List BlockView) (first second : ReplicaView) : Type 0 where
+-- the log has the Gets of the blocks; each replica follows it, and each entry is done at its source
+pub record IsTable (schema : Shape) (tokens : List (Token Entry)) (bs : List BlockView) (replicas : List ReplicaView) : Type 0 where
   pub numbered : (i : ℕ) (t : Token Entry) → slice_get tokens i ≡ Some t → t.place ≡ i
   pub gets : AreGets (entries tokens)
   pub of_blocks : AreOf (entries tokens) bs
   pub fit : Each (λ b. All (λ row. fits schema.columns row ≡ true) b.rows) bs
-  pub first_follows : Follows schema (entries tokens) bs first
-  pub second_follows : Follows schema (entries tokens) bs second
-  pub one : OneHasDone (entries tokens) first second
+  pub follow : Each (Follows schema (entries tokens) bs) replicas
+  pub sources : HaveSources (entries tokens) replicas
+  pub some : 0 < length replicas
+  pub few : length replicas ≤ 8
 
 -- a table, put together from what it keeps
-abbrev pub table_of : Shape → List (Token Entry) → List BlockView → ReplicaView → ReplicaView → TableState
-table_of schema tokens bs first second = record {
+abbrev pub table_of : Shape → List (Token Entry) → List BlockView → List ReplicaView → TableState
+table_of schema tokens bs replicas = record {
   schema = schema;
   log = entries tokens;
   blocks = accepted bs;
-  known = first.done ∷ second.done ∷ [];
+  known = map (λ r. r.done) replicas;
 }
+
+-- a replica that is up and has nothing
+pub record IsNew (schema : Shape) (r : ReplicaView) : Type 0 where
+  pub schema_is : r.schema ≡ schema
+  pub is_up : r.up ≡ true
+  pub log : r.log ≡ []
+  pub done : r.done ≡ []
+  pub parts : r.parts ≡ []
+
+-- so many of these
+pub record AreNew (schema : Shape) (count : ℕ) (replicas : List ReplicaView) : Type 0 where
+  pub count_is : length replicas ≡ count
+  pub each : Each (IsNew schema) replicas
 
 -- a replica of the table, with the blocks that its parts are of
 pub record IsReplicaAt (t : TableState) (r : ℕ) (x : ReplicaView) : Type 0 where

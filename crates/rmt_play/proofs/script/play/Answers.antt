@@ -1,9 +1,6 @@
 use Rattle.std.proofs.Common.{arith}
-use Rattle.rmt_play.proofs.Playing.{so_far_on, so_far_first, so_far_short}
+use Rattle.rmt_play.proofs.Playing.{so_far_on, so_far_short}
 use Rattle.rmt_play.proofs.script.play.Goals as goal
-
-pub turn-requires-clause-first : goal.turn-requires-clause-first
-turn-requires-clause-first g c = so_far_first c.args.script.now c.statements.at c.statements.player _ _ c.statements.refused c.statements.invariant.so_far
 
 pub statements-preserved : goal.statements-preserved
 statements-preserved g c =

@@ -1,62 +1,40 @@
-use Rattle.std.proofs.Common.{◌≡◌, ◌<◌, ◌∙◌, arith, length, slice_get, sym, subst, ap}
-use Rattle.std.proofs.lemmas.Grind.{common_steps}
-use Rattle.std.proofs.lemmas.Option.{gets}
-use Rattle.std.specs.Prelude.{ℕ, List, MatchOption}
-use Rattle.rmt_row.specs.Token.{Token}
-use Rattle.std.specs.Arc.{arc_value}
-use Rattle.std.specs.declared.option.Option.{Option}
-use Rattle.std.specs.declared.option.Option.TheVariants.{Some, None}
-use Rattle.rmt_names.specs.Names.{Name, Covers, block_name}
-use Rattle.rmt_entries.specs.Entries.{result_name}
+use Rattle.std.proofs.Common.{◌<◌, ◌∙◌, arith, length, slice_index_or, sym, subst, ap}
+use Rattle.std.specs.Prelude.{List}
+use Rattle.std.proofs.lemmas.Option.{same_Some}
 use Rattle.rmt_entries.specs.declared.entry.Entry.{Entry}
-use Rattle.rmt_model.specs.Words.{Has}
-use Rattle.rmt_model.proofs.Drops.{some-same}
 use Rattle.rmt_history.specs.Copies.{entries}
-use Rattle.rmt_history.proofs.Copied.{token_at, length-entries}
-use Rattle.rmt_replica.specs.Parts.{IsCovering, part_names}
-use Rattle.rmt_replicas.specs.Following.{AreGets}
-use Rattle.rmt_replicas.proofs.Gets.{gets-front, makes-number, has-part, is-some, is-some-of, other-done, supplied-by, caught-up}
+use Rattle.rmt_history.proofs.Copied.{length-entries}
+use Rattle.rmt_replica.specs.Replicas.{IsStandingReplica}
+use Rattle.rmt_replicas.proofs.Places.{read-or}
+use Rattle.rmt_replicas.proofs.Drained.{supplied-by, caught-up, caught-none}
 use Rattle.rmt_replicas.proofs.draining.catch_up.Goals as goal
 
--- the entry at the place makes the part of its number
-abbrev Named : List (Token Entry) → ℕ → Option Name → Type 0
-Named log i result = result ≡ Some (block_name None i)
+pub returns-then-done : goal.returns-then-done
+returns-then-done c =
+    let r = slice_index_or c.args.replicas.now c.args.replica c.index-replicas-replica.result in
+    let there = read-or c.args.replicas.now c.args.replica c.index-replicas-replica.result c.requires.there in
+    caught-none c.args.replicas.now c.args.replica c.args.i (entries c.args.log.now) r there (c.requires.copy r there) (sym c.done.ensures.done ∙ c.if-done.true)
 
-named : (log : List (Token Entry)) (i : ℕ) (t : Token Entry) (e : Entry) (result : Option Name) → AreGets (entries log) → i < length log → slice_get log i ≡ Some t → e ≡ t.value → result ≡ result_name e → Named log i result
-named log i t e result g l q v r =
-    let m = makes-number (entries log) i g (subst (λ n. i < n) (sym (length-entries log)) l) in
-    let same = some-same t.value m.entry (sym (token_at log i t q) ∙ m.stands) in
-    r ∙ (ap result_name (v ∙ same) ∙ m.makes)
-
-pub unwrap-name-requires : goal.unwrap-name-requires
-unwrap-name-requires c =
-    let there : slice_get c.args.log.now c.args.i ≡ Some c.index-log-i.result = grind (arith, common_steps, gets) in
-    is-some c.result_of.result (block_name None c.args.i) (named c.args.log.now c.args.i c.index-log-i.result c.value.result.now c.result_of.result c.requires.gets c.requires.place there c.value.ensures c.result_of.ensures)
-
-pub unwrap-requires : goal.unwrap-requires
-unwrap-requires c =
-    let there : slice_get c.args.log.now c.args.i ≡ Some c.index-log-i.result = grind (arith, common_steps, gets) in
-    let name = some-same c.unwrap-name.result (block_name None c.args.i) (sym c.unwrap-name.ensures ∙ named c.args.log.now c.args.i c.index-log-i.result c.value.result.now c.result_of.result c.requires.gets c.requires.place there c.value.ensures c.result_of.ensures) in
-    let theirs = gets-front c.requires.front.gained c.args.other.now.log (subst AreGets c.requires.front.is c.requires.gets) in
-    let done = other-done (c.requires.done c.args.i (subst (λ n. c.args.i < n) (sym (length-entries c.args.log.now)) c.requires.place)) (sym c.done.ensures.done ∙ c.if-done.false) in
-    let k = has-part c.args.other.now c.args.i c.copy-standing.ensures.standing theirs done in
-    is-some-of c.covering.result _ _ c.covering.ensures (λ n. n k.name k.is_in (subst (Covers k.name) (sym name) k.covers))
+pub do_get-requires-clause-place : goal.do_get-requires-clause-place
+do_get-requires-clause-place c =
+    let r = slice_index_or c.args.replicas.now c.args.replica c.index-replicas-replica-2.result in
+    let there = read-or c.args.replicas.now c.args.replica c.index-replicas-replica-2.result c.requires.there in
+    let n = ap (λ (l : List Entry). length l) (c.requires.copy r there) ∙ length-entries c.args.log.now in
+    subst (λ k. c.args.i < k) (sym n) c.requires.place
 
 pub do_get-requires-clause-supplies : goal.do_get-requires-clause-supplies
 do_get-requires-clause-supplies c =
-    let there : slice_get c.args.log.now c.args.i ≡ Some c.index-log-i.result = grind (arith, common_steps, gets) in
-    let name = some-same c.unwrap-name.result (block_name None c.args.i) (sym c.unwrap-name.ensures ∙ named c.args.log.now c.args.i c.index-log-i.result c.value.result.now c.result_of.result c.requires.gets c.requires.place there c.value.ensures c.result_of.ensures) in
-    let covering = subst (λ o. MatchOption o ((a : Name) → Has (part_names c.args.other.now.parts) a → Covers a c.unwrap-name.result → ⊥) (λ part. IsCovering c.args.other.now.parts c.unwrap-name.result (arc_value part.now))) c.unwrap.ensures c.covering.ensures in
-    let same : arc_value c.in_ok-part.part ≡ arc_value c.unwrap.result.now = c.in_ok-part.ensures in
-    let is = subst (IsCovering c.args.other.now.parts c.unwrap-name.result) (sym same) covering in
-    supplied-by c.args.replica.now c.args.other.now (entries c.args.log.now) c.args.i c.in_ok-part.part c.copy-standing.ensures.standing c.requires.front c.requires.gets (subst (λ n. c.args.i < n) (sym (length-entries c.args.log.now)) c.requires.place) c.requires.copy is.is_in (subst (Covers (arc_value c.in_ok-part.part).name) name is.covers)
+    let r = slice_index_or c.args.replicas.now c.args.replica c.index-replicas-replica-2.result in
+    let there = read-or c.args.replicas.now c.args.replica c.index-replicas-replica-2.result c.requires.there in
+    supplied-by r c.args.replicas.now (entries c.args.log.now) c.args.i c.in_ok-part.part c.requires.gets (subst (λ k. c.args.i < k) (sym (length-entries c.args.log.now)) c.requires.place) (c.requires.copy r there) c.in_ok-part.ensures
 
 pub returns : goal.returns
 returns c =
-    let covering = subst (λ o. MatchOption o ((a : Name) → Has (part_names c.args.other.now.parts) a → Covers a c.unwrap-name.result → ⊥) (λ part. IsCovering c.args.other.now.parts c.unwrap-name.result (arc_value part.now))) c.unwrap.ensures c.covering.ensures in
-    let same : arc_value c.in_ok-part.part ≡ arc_value c.unwrap.result.now = c.in_ok-part.ensures in
-    let is = subst (IsCovering c.args.other.now.parts c.unwrap-name.result) (sym same) covering in
-    let marks = c.done.ensures.standing.marks in
-    let copy = ap (λ (l : List Entry). length l) c.requires.copy ∙ length-entries c.args.log.now in
+    let r = slice_index_or c.args.replicas.now c.args.replica c.index-replicas-replica-2.result in
+    let there = read-or c.args.replicas.now c.args.replica c.index-replicas-replica-2.result c.requires.there in
+    let first = slice_index_or c.args.replicas.now c.args.replica c.index-replicas-replica.result in
+    let same = same_Some first r (sym (read-or c.args.replicas.now c.args.replica c.index-replicas-replica.result c.requires.there) ∙ there) in
+    let marks = (subst IsStandingReplica same c.done.ensures.standing).marks in
+    let copy = ap (λ (l : List Entry). length l) (c.requires.copy r there) ∙ length-entries c.args.log.now in
     let place = c.requires.place in
-    caught-up c.args.replica.now c.args.other.now c.args.i c.in_ok-part.part c.do_get.new.replica (omega (arith, marks, copy, place)) is.is_in c.in_ok-do_get.ensures
+    caught-up c.args.replicas.now c.args.replica c.args.i (entries c.args.log.now) r c.do_get.new.replica c.in_ok-part.part there (c.requires.copy r there) (omega (arith, marks, copy, place)) c.in_ok-part.ensures c.in_ok-do_get.ensures

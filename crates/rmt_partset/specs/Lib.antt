@@ -1,0 +1,2 @@
+pub use Rattle.rmt_granules.specs.Granules
+pub mod Snapshots

@@ -1,0 +1,10 @@
+//! The parts that a query reads.
+#![tactic(auto)]
+
+mod named_part;
+mod snapshot;
+#[cfg(test)]
+mod tests;
+
+pub use named_part::NamedPart;
+pub use snapshot::Snapshot;

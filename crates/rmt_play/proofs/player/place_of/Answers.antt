@@ -1,0 +1,39 @@
+use Rattle.std.proofs.Common.{◌≡◌, ◌∙◌, ◌<◌, ◌+◌, ℕ, Bool, true, false, List, refl, ap, sym, subst, arith, nat_eq}
+use Rattle.std.proofs.lemmas.Bool.Decides.{nat_tests}
+use Rattle.std.proofs.lemmas.Grind.{common_steps}
+use Rattle.std.proofs.lemmas.Option.{gets}
+use Rattle.std.specs.Prelude.{slice_get}
+use Rattle.std.specs.Str.{bytes_eq}
+use Rattle.std.specs.declared.option.Option.TheVariants.{Some}
+use Rattle.rmt_model.proofs.Drops.{some-same}
+use Rattle.rmt_play.specs.World.{Table}
+use Rattle.rmt_play.proofs.TableLemmas.{place-is, none-is}
+use Rattle.rmt_play.proofs.player.place_of.Goals as goal
+
+pub returns-then-is : goal.returns-then-is
+returns-then-is c =
+    let there : slice_get c.args.tables.now c.tables.i ≡ Some c.index-tables-i.result = grind (arith, common_steps, gets) in
+    let named : c.is.result ≡ bytes_eq c.index-tables-i.result.name c.args.name.now =
+    c.is.ensures ∙ (ap (λ (n : List ℕ). bytes_eq c.named.inside.name n) c.as_bytes.ensures ∙ ap (λ (t : Table). bytes_eq t.name c.args.name.now) c.named.view_is) in
+    place-is c.args.tables.now c.args.name.now c.tables.i c.tables.invariant c.index-tables-i.result there (sym named ∙ c.if-is.true)
+
+pub tables-preserved : goal.tables-preserved
+tables-preserved c j t l e = go (nat_eq j c.tables.i) refl
+  where
+    there : slice_get c.args.tables.now c.tables.i ≡ Some c.index-tables-i.result
+    there = grind (arith, common_steps, gets)
+
+    named : c.is.result ≡ bytes_eq c.index-tables-i.result.name c.args.name.now
+    named = c.is.ensures ∙ (ap (λ (n : List ℕ). bytes_eq c.named.inside.name n) c.as_bytes.ensures ∙ ap (λ (t : Table). bytes_eq t.name c.args.name.now) c.named.view_is)
+
+    go : (b : Bool) → nat_eq j c.tables.i ≡ b → bytes_eq t.name c.args.name.now ≡ false
+    go true q =
+        let here : j ≡ c.tables.i = grind (arith, nat_tests) in
+        let same = some-same t c.index-tables-i.result (sym e ∙ (ap (slice_get c.args.tables.now) here ∙ there)) in
+        ap (λ (u : Table). bytes_eq u.name c.args.name.now) same ∙ (sym named ∙ c.if-is.false)
+    go false q =
+        let other : j < c.tables.i = grind (arith, nat_tests) in
+        c.tables.invariant j t other e
+
+pub returns : goal.returns
+returns c = none-is c.args.tables.now c.args.name.now (λ j t l e. c.tables.invariant j t (let end = c.tables-test.false in omega (arith, l, end)) e)

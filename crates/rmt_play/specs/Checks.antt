@@ -1,0 +1,207 @@
+-- Why a statement is refused. Each refusal has its test, and a statement meets the first in the order of the checks.
+-- ClickHouse documentation: CREATE TABLE, INSERT INTO, SELECT, EXPLAIN. The refusals and their order are this program's own.
+use Rattle.std.specs.Prelude.{ℕ, zero, suc, cond, not, nat_le, ◌&&◌, Bool, true, false, List, [], ◌∷◌, ◌++◌, length, codes}
+use Rattle.std.specs.Option.{option_and_then}
+use Rattle.std.specs.declared.option.Option.{Option}
+use Rattle.std.specs.declared.option.Option.TheVariants.{Some, None}
+use Rattle.std.specs.Str.{bytes_eq}
+use Rattle.std.specs.Fmt.{decimal}
+use Rattle.rmt_values.specs.declared.column.Column.{Column}
+use Rattle.rmt_values.specs.declared.limit.Limit.TheVariants as limits
+use Rattle.rmt_values.specs.declared.query.Query.{Query}
+use Rattle.rmt_values.specs.declared.schema_error.SchemaError.{SchemaError}
+use Rattle.rmt_values.specs.declared.schema_error.SchemaError.TheVariants as schemas
+use Rattle.rmt_values.specs.Rows.{Shape}
+use Rattle.rmt_values.specs.Schemas.{schema_refusal}
+use Rattle.rmt_expr.specs.declared.check_error.CheckError.{CheckError}
+use Rattle.rmt_expr.specs.declared.check_error.CheckError.TheVariants as checks
+use Rattle.rmt_expr.specs.Queries.{query_refusal}
+use Rattle.rmt_sql.specs.declared.act.Act.{Act}
+use Rattle.rmt_sql.specs.declared.act.Act.TheVariants as acts
+use Rattle.rmt_sql.specs.declared.insert.Insert.{Insert}
+use Rattle.rmt_sql.specs.declared.mode.Mode.{Mode}
+use Rattle.rmt_sql.specs.declared.mode.Mode.TheVariants as modes
+use Rattle.rmt_sql.specs.declared.sent.Sent.{Sent}
+use Rattle.rmt_sql.specs.declared.statement.Statement.{Statement}
+use Rattle.rmt_sql.specs.declared.statement.Statement.TheVariants as statements
+use Rattle.rmt_data.specs.declared.rows_error.RowsError.{RowsError}
+use Rattle.rmt_data.specs.declared.rows_error.RowsError.TheVariants as offers
+use Rattle.rmt_data.specs.Offers.{names_refusal}
+use Rattle.rmt_reply.specs.declared.refusal.Refusal.{Refusal}
+use Rattle.rmt_reply.specs.declared.refusal.Refusal.TheVariants.{Syntax, UnknownTable, TableExists, UnknownReplica, UnknownColumn, WrongType, LimitReached, DoubleColumn}
+use Rattle.rmt_play.specs.World.{Table, World}
+
+-- the first of the refusals that are met
+abbrev pub first_of : List (Option Refusal) → Option Refusal
+first_of [] = None
+first_of (None ∷ rest) = first_of rest
+first_of (Some refusal ∷ rest) = Some refusal
+
+-- ---- forms that nothing plays so far
+
+abbrev pub is_absent : {X : Type 0} → Option X → Bool
+is_absent None = true
+is_absent (Some x) = false
+
+abbrev pub is_empty : {X : Type 0} → List X → Bool
+is_empty [] = true
+is_empty (x ∷ xs) = false
+
+-- a SELECT without settings
+abbrev pub is_played_mode : Mode → Bool
+is_played_mode modes.Plain = true
+is_played_mode modes.Sync = true
+is_played_mode (modes.Sequential n) = false
+
+-- an INSERT or a SELECT without settings, or an EXPLAIN
+abbrev pub is_played_act : Act → Bool
+is_played_act (acts.Insert insert) = is_absent insert.quorum
+is_played_act (acts.Select table query mode) = is_played_mode mode
+is_played_act (acts.Explain table query) = true
+is_played_act act = false
+
+-- REPLICAS with 1 to 8 replicas and before all tables; CREATE without partitions and with the default window; and what is
+-- sent to a replica
+abbrev pub is_played : World → Statement → Bool
+is_played world (statements.Replicas count) = (nat_le 1 count && nat_le count 8) && is_empty world.tables
+is_played world (statements.Create table columns partition key granularity window) = (not (is_empty columns) && is_absent partition) && is_absent window
+is_played world (statements.At sent) = is_played_act sent.act
+is_played world statement = false
+
+-- a form that nothing plays, at its first token
+abbrev pub unplayed : World → Statement → ℕ → Option Refusal
+unplayed world statement start = cond (is_played world statement) None (Some (Syntax start))
+
+-- ---- names
+
+-- the table of this name
+abbrev pub table_of : List Table → List ℕ → Option Table
+table_of [] name = None
+table_of (t ∷ others) name = cond (bytes_eq t.name name) (Some t) (table_of others name)
+
+abbrev pub refused_without : Option Table → List ℕ → Option Refusal
+refused_without None name = Some (UnknownTable name)
+refused_without (Some t) name = None
+
+-- no table of this name was created
+abbrev pub unknown_table : World → List ℕ → Option Refusal
+unknown_table world name = refused_without (table_of world.tables name) name
+
+abbrev pub refused_with : Option Table → List ℕ → Option Refusal
+refused_with None name = None
+refused_with (Some t) name = Some (TableExists name)
+
+-- a table of this name was created
+abbrev pub table_exists : World → List ℕ → Option Refusal
+table_exists world name = refused_with (table_of world.tables name) name
+
+-- the replicas are called r1, r2 and so on
+abbrev pub replica_name : ℕ → List ℕ
+replica_name number = codes "r" ++ decimal number
+
+-- the number of the replica of this name, among so many
+abbrev pub replica_of : ℕ → List ℕ → Option ℕ
+replica_of zero name = None
+replica_of (suc n) name = cond (bytes_eq name (replica_name (suc n))) (Some (suc n)) (replica_of n name)
+
+-- the replica that a statement is sent to: the first, where none is named
+abbrev pub replica_at : World → Option (List ℕ) → Option ℕ
+replica_at world None = Some 1
+replica_at world (Some name) = replica_of world.replicas name
+
+abbrev pub refused_name : Option ℕ → Option (List ℕ) → Option Refusal
+refused_name (Some number) name = None
+refused_name None None = None
+refused_name None (Some name) = Some (UnknownReplica name)
+
+-- the name is none of a replica's
+abbrev pub unknown_replica : World → Option (List ℕ) → Option Refusal
+unknown_replica world name = refused_name (replica_at world name) name
+
+-- ---- CREATE
+
+-- the rows of a granule, where a number is given
+abbrev pub granularity_of : Option ℕ → ℕ
+granularity_of None = 8192
+granularity_of (Some n) = n
+
+-- the blocks that the window of insert deduplication keeps
+abbrev pub default_window : ℕ
+default_window = 100
+
+-- a schema's refusal, apart from that of too many columns; a CREATE without columns has no form
+abbrev pub refused_schema : Option SchemaError → Option Refusal
+refused_schema (Some (schemas.UnknownColumn name)) = Some (UnknownColumn name)
+refused_schema (Some (schemas.DoubleColumn name)) = Some (DoubleColumn name)
+refused_schema (Some (schemas.WrongType name)) = Some (WrongType name)
+refused_schema refusal = None
+
+-- there is room for four tables
+abbrev pub too_many_tables : List Table → Option Refusal
+too_many_tables tables = cond (nat_le 4 (length tables)) (Some (LimitReached limits.Tables (length tables))) None
+
+-- too many columns
+abbrev pub refused_columns : Option SchemaError → Option Refusal
+refused_columns (Some (schemas.LimitReached limit value)) = Some (LimitReached limit value)
+refused_columns refusal = None
+
+-- why a CREATE is refused whose schema has this refusal
+abbrev pub create_refusals : World → List ℕ → Option SchemaError → List (Option Refusal)
+create_refusals world table refusal =
+    table_exists world table ∷ refused_schema refusal ∷ too_many_tables world.tables ∷ refused_columns refusal ∷ []
+
+-- ---- what is sent to a replica
+
+abbrev pub table_named : Act → List ℕ
+table_named (acts.Insert insert) = insert.table
+table_named (acts.Select table query mode) = table
+table_named (acts.Explain table query) = table
+table_named (acts.Mutate table command) = table
+table_named (acts.DropPartition table partition) = table
+table_named (acts.Optimize table partition) = table
+table_named (acts.ShowParts table) = table
+table_named (acts.CheckTable table) = table
+table_named (acts.WaitMutation table id) = table
+table_named (acts.SyncReplica table) = table
+table_named (acts.RestartReplica table) = table
+table_named (acts.StopFetches table) = table
+table_named (acts.StartFetches table) = table
+
+-- the refusal of the columns that an INSERT names
+abbrev pub refused_names : Option RowsError → Option Refusal
+refused_names (Some (offers.UnknownColumn name)) = Some (UnknownColumn name)
+refused_names (Some (offers.DoubleColumn name)) = Some (DoubleColumn name)
+refused_names refusal = None
+
+-- the refusal of a query
+abbrev pub refused_query : Option CheckError → Option Refusal
+refused_query (Some (checks.UnknownColumn name)) = Some (UnknownColumn name)
+refused_query (Some (checks.WrongType name)) = Some (WrongType name)
+refused_query refusal = None
+
+-- why an act is refused over a schema
+abbrev pub act_refusal : Shape → Act → Option Refusal
+act_refusal schema (acts.Insert insert) = refused_names (names_refusal schema.columns insert.columns)
+act_refusal schema (acts.Select table query mode) = refused_query (query_refusal schema query)
+act_refusal schema (acts.Explain table query) = refused_query (query_refusal schema query)
+act_refusal schema act = None
+
+-- why an act is refused over the table that it names, where there is one
+abbrev pub refused_act : Option Table → Act → Option Refusal
+refused_act None act = None
+refused_act (Some t) act = act_refusal t.state.schema act
+
+abbrev pub sent_refusals : World → Sent → List (Option Refusal)
+sent_refusals world sent =
+    unknown_table world (table_named sent.act) ∷ unknown_replica world sent.replica ∷ refused_act (table_of world.tables (table_named sent.act)) sent.act ∷ []
+
+-- the refusals of a statement that is played, in their order
+abbrev pub refusals : World → Statement → List (Option Refusal)
+refusals world (statements.Create table columns partition key granularity window) =
+    create_refusals world table (schema_refusal columns key (granularity_of granularity) default_window)
+refusals world (statements.At sent) = sent_refusals world sent
+refusals world statement = []
+
+-- the refusal of a statement that begins at this place
+abbrev pub refusal_of : World → Statement → ℕ → Option Refusal
+refusal_of world statement start = first_of (unplayed world statement start ∷ refusals world statement)

@@ -1,0 +1,86 @@
+//! Counts of granules as they are printed.
+ghost use Rattle.std.specs.Prelude.{◌≡◌, ◌++◌, OnOk, map};
+ghost use Rattle.std.specs.List.{flat_map};
+ghost use Rattle.rmt_reply.specs.Printed.{ended, granules_line, granules_text, ratio_text, sum_of};
+
+use crate::granules::Granules;
+use crate::texts::{number, part, text};
+use rmt_names::PartName;
+use std::alloc::{AllocError, Global};
+
+/// Adds how many are chosen of how many, and ends the line.
+fn ratio(alloc: Global, out: &mut Vec<u8>, chosen: u128, all: u128) -> Result<(), AllocError>
+    ensures { OnOk result (out.new.items ≡ out.old.items ++ ended (ratio_text chosen all)) }
+{
+    number(alloc, out, chosen)?;
+    text(out, b"/")?;
+    number(alloc, out, all)?;
+    text(out, b"\n")?;
+    Ok(())
+}
+
+/// Adds the line of one part.
+fn counted(
+    alloc: Global,
+    out: &mut Vec<u8>,
+    one: &(PartName, usize, usize),
+) -> Result<(), AllocError>
+    ensures { OnOk result (out.new.items ≡ out.old.items ++ granules_line one.now) }
+{
+    text(out, b"granules ")?;
+    part(alloc, out, &one.0)?;
+    text(out, b" ")?;
+    ratio(alloc, out, one.1 as u128, one.2 as u128)?;
+    Ok(())
+}
+
+/// Adds the lines of parts.
+fn each(
+    alloc: Global,
+    out: &mut Vec<u8>,
+    parts: &[(PartName, usize, usize)],
+) -> Result<(), AllocError>
+    ensures { OnOk result (out.new.items ≡ out.old.items ++ flat_map granules_line parts.now) }
+{
+    'parts: for one in parts {
+        counted(alloc, out, one)?;
+    }
+    Ok(())
+}
+
+/// How many granules are chosen in all parts.
+fn chosen_in(parts: &[(PartName, usize, usize)]) -> u128
+    ensures { result ≡ sum_of (map (λ g. g.1) parts.now) }
+{
+    let mut chosen = 0;
+    'parts: for one in parts {
+        chosen += one.1 as u128;
+    }
+    chosen
+}
+
+/// How many granules all parts have.
+fn all_in(parts: &[(PartName, usize, usize)]) -> u128
+    ensures { result ≡ sum_of (map (λ g. g.2) parts.now) }
+{
+    let mut all = 0;
+    'parts: for one in parts {
+        all += one.2 as u128;
+    }
+    all
+}
+
+/// Adds the granules of each part, and their total.
+pub(crate) fn explained(
+    alloc: Global,
+    out: &mut Vec<u8>,
+    granules: &Granules,
+) -> Result<(), AllocError>
+    ensures { OnOk result (out.new.items ≡ out.old.items ++ granules_text granules.now) }
+{
+    let parts = granules.as_slice();
+    each(alloc, out, parts)?;
+    text(out, b"granules total ")?;
+    ratio(alloc, out, chosen_in(parts), all_in(parts))?;
+    Ok(())
+}
