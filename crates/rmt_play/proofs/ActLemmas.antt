@@ -16,7 +16,7 @@ use Rattle.rmt_partset.specs.Snapshots.{NamedData, names_in, data_in, all_rows}
 use Rattle.rmt_query.specs.Answers.{answer_of}
 use Rattle.rmt_query.specs.Explained.{AreCounted}
 use Rattle.rmt_query.proofs.BagLaws.{one-answer}
-use Rattle.rmt_replicas.specs.Tables.{TableState, IsReading, data_at, rows_by_number, known_at, synced}
+use Rattle.rmt_replicas.specs.Tables.{TableState, data_at, rows_by_number, known_at, synced}
 use Rattle.rmt_sql.specs.declared.act.Act.{Act}
 use Rattle.rmt_sql.specs.declared.act.Act.TheVariants as acts
 use Rattle.rmt_sql.specs.declared.mode.Mode.TheVariants as modes

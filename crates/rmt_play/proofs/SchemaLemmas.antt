@@ -1,5 +1,5 @@
 -- Which refusals a schema has.
-use Rattle.std.proofs.Common.{◌≡◌, ◌∙◌, ℕ, ◌<◌, ◌≤◌, ◌⊎◌, inl, inr, ◌&&◌, Bool, true, false, cond, List, [], ◌∷◌, length, refl, ap, sym, subst, arith}
+use Rattle.std.proofs.Common.{◌≡◌, ◌∙◌, ℕ, ◌<◌, inl, inr, ◌&&◌, Bool, true, false, cond, List, [], ◌∷◌, length, refl, ap, sym, subst, arith}
 use Rattle.std.proofs.lemmas.Bool.Decides.{nat_tests}
 use Rattle.std.specs.Prelude.{nat_le, codes}
 use Rattle.std.specs.Option.{option_or, option_map}
@@ -9,7 +9,6 @@ use Rattle.rmt_values.specs.declared.column.Column.{Column}
 use Rattle.rmt_values.specs.declared.limit.Limit.TheVariants as limits
 use Rattle.rmt_values.specs.declared.schema_error.SchemaError.{SchemaError}
 use Rattle.rmt_values.specs.declared.schema_error.SchemaError.TheVariants.{UnknownColumn, DoubleColumn, WrongType, LimitReached}
-use Rattle.rmt_values.specs.Rows.{Shape}
 use Rattle.rmt_values.specs.Schemas.{schema_refusal, shape_of, no_columns, first_unknown, first_double, names_of, wrong_setting, too_many}
 use Rattle.rmt_play.specs.Checks.{is_empty}
 use Rattle.rmt_play.specs.Inside.{IsSaid, IsClipped}

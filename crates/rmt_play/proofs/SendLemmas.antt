@@ -1,6 +1,6 @@
 -- What becomes of a world as an act is done in one of its tables.
 use Rattle.std.proofs.Common.{◌≡◌, ◌∙◌, ℕ, suc, List, [], ◌∷◌, refl, ap, sym, subst}
-use Rattle.std.specs.Prelude.{slice_get, slice_set, MatchOption}
+use Rattle.std.specs.Prelude.{slice_set, MatchOption}
 use Rattle.std.specs.declared.option.Option.{Option}
 use Rattle.std.specs.declared.option.Option.TheVariants.{Some, None}
 use Rattle.rmt_sql.specs.declared.sent.Sent.{Sent}

@@ -1,7 +1,7 @@
 -- What acts do to their table at a replica, and what they reply.
 -- ClickHouse documentation: INSERT INTO, SELECT, EXPLAIN; Data Replication, on what a replica has.
 use Rattle.std.specs.Prelude.{◌≡◌, ◌⊎◌, ℕ, List, [], ◌∷◌, map}
-use Rattle.std.specs.declared.option.Option.TheVariants.{Some, None}
+use Rattle.std.specs.declared.option.Option.TheVariants.{None}
 use Rattle.rmt_values.specs.declared.query.Query.{Query}
 use Rattle.rmt_values.specs.declared.checked_query.CheckedQuery.{CheckedQuery}
 use Rattle.rmt_expr.specs.Queries.{IsCheckedQuery}

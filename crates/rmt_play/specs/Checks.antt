@@ -1,14 +1,11 @@
 -- Why a statement is refused. Each refusal has its test, and a statement meets the first in the order of the checks.
 -- ClickHouse documentation: CREATE TABLE, INSERT INTO, SELECT, EXPLAIN. The refusals and their order are this program's own.
 use Rattle.std.specs.Prelude.{ℕ, zero, suc, cond, not, nat_le, ◌&&◌, Bool, true, false, List, [], ◌∷◌, ◌++◌, length, codes}
-use Rattle.std.specs.Option.{option_and_then}
 use Rattle.std.specs.declared.option.Option.{Option}
 use Rattle.std.specs.declared.option.Option.TheVariants.{Some, None}
 use Rattle.std.specs.Str.{bytes_eq}
 use Rattle.std.specs.Fmt.{decimal}
-use Rattle.rmt_values.specs.declared.column.Column.{Column}
 use Rattle.rmt_values.specs.declared.limit.Limit.TheVariants as limits
-use Rattle.rmt_values.specs.declared.query.Query.{Query}
 use Rattle.rmt_values.specs.declared.schema_error.SchemaError.{SchemaError}
 use Rattle.rmt_values.specs.declared.schema_error.SchemaError.TheVariants as schemas
 use Rattle.rmt_values.specs.Rows.{Shape}
@@ -18,7 +15,6 @@ use Rattle.rmt_expr.specs.declared.check_error.CheckError.TheVariants as checks
 use Rattle.rmt_expr.specs.Queries.{query_refusal}
 use Rattle.rmt_sql.specs.declared.act.Act.{Act}
 use Rattle.rmt_sql.specs.declared.act.Act.TheVariants as acts
-use Rattle.rmt_sql.specs.declared.insert.Insert.{Insert}
 use Rattle.rmt_sql.specs.declared.mode.Mode.{Mode}
 use Rattle.rmt_sql.specs.declared.mode.Mode.TheVariants as modes
 use Rattle.rmt_sql.specs.declared.sent.Sent.{Sent}

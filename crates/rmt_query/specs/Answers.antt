@@ -1,7 +1,7 @@
 -- What a query answers over rows.
 -- ClickHouse documentation: SELECT, WHERE, GROUP BY, aggregate functions. That an answer is in ascending order is this
 -- program's own.
-use Rattle.std.specs.Prelude.{ℕ, cond, ◌||◌, Bool, true, false, List, [], ◌∷◌, ◌++◌, map}
+use Rattle.std.specs.Prelude.{ℕ, cond, ◌||◌, Bool, true, false, List, [], ◌∷◌, map}
 use Rattle.std.specs.List.{filter}
 use Rattle.std.specs.Cmp.Lexicographic.{slice_cmp}
 use Rattle.std.specs.declared.option.Option.{Option}

@@ -11,7 +11,8 @@ use rmt_granules::{all_fit, from_unsorted_rows};
 use rmt_names::block_name;
 use rmt_partset::{NamedPart, Snapshot};
 use rmt_values::{
-    Blob, Cell, Checked, CheckedItem, CheckedItems, CheckedQuery, Cmp, Column, Kind, Name, Places, Row, Schema, Value,
+    Blob, Cell, Checked, CheckedItem, CheckedItems, CheckedQuery, Cmp, Column, Kind, Name, Places,
+    Row, Schema, Value,
 };
 use std::alloc::{AllocError, Global};
 use std::sync::Arc;

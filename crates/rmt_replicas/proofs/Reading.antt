@@ -20,7 +20,6 @@ use Rattle.rmt_model.specs.Words.{Each}
 use Rattle.rmt_model.specs.Live.{live}
 use Rattle.rmt_model.specs.Content.{Row, Blocks, changed, has_block, block_rows, joined, content, rows, snapshot}
 use Rattle.rmt_model.specs.Fair.{AreFair, AllMarked}
-use Rattle.rmt_model.proofs.Lists.{Each-at, Each-all}
 use Rattle.rmt_model.proofs.Drained.{fair-live}
 use Rattle.rmt_model.proofs.Headline.{reads-plain-rows}
 use Rattle.rmt_model.proofs.Standing.{fair-more}

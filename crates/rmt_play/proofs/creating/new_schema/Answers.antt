@@ -1,4 +1,4 @@
-use Rattle.std.proofs.Common.{◌≡◌, ◌∙◌, ℕ, false, List, inl, inr, ap, sym, subst}
+use Rattle.std.proofs.Common.{◌∙◌, ℕ, false, List, inl, inr, ap, sym, subst}
 use Rattle.std.specs.Prelude.{IsTrue}
 use Rattle.rmt_values.specs.declared.column.Column.{Column}
 use Rattle.rmt_values.specs.Schemas.{schema_refusal}

@@ -1,4 +1,4 @@
-use Rattle.std.proofs.Common.{◌≡◌, ◌∙◌, ℕ, List, ◌∷◌, ap, sym, arith}
+use Rattle.std.proofs.Common.{◌∙◌, ℕ, List, ◌∷◌, ap, sym, arith}
 use Rattle.std.specs.Str.{bytes_eq}
 use Rattle.std.proofs.lemmas.Fmt.{decimal_digit}
 use Rattle.rmt_play.proofs.replicas.is_name_of.Goals as goal

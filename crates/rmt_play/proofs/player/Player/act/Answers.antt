@@ -1,5 +1,4 @@
-use Rattle.std.proofs.Common.{◌≡◌, ◌∙◌, ◌<◌, ℕ, List, length, ap, sym, subst}
-use Rattle.std.specs.Prelude.{slice_get, slice_set}
+use Rattle.std.proofs.Common.{◌≡◌, ◌∙◌, ◌<◌, List, length, ap, sym, subst}
 use Rattle.std.specs.List.{insert}
 use Rattle.std.specs.declared.option.Option.TheVariants.{Some}
 use Rattle.rmt_model.specs.Words.{Each}

@@ -1,4 +1,4 @@
-use Rattle.std.proofs.Common.{◌≡◌, ◌∙◌, ℕ, Bool, List, [], length, ap, sym, subst}
+use Rattle.std.proofs.Common.{◌≡◌, ◌∙◌, Bool, List, [], length, ap, sym, subst}
 use Rattle.rmt_model.specs.Words.{Each}
 use Rattle.rmt_replicas.specs.Tables.{TableState}
 use Rattle.rmt_play.specs.World.{Table}

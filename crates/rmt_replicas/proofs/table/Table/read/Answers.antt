@@ -1,4 +1,4 @@
-use Rattle.std.proofs.Common.{◌≡◌, sym, subst}
+use Rattle.std.proofs.Common.{sym, subst}
 use Rattle.std.specs.Prelude.{List}
 use Rattle.rmt_partset.specs.Snapshots.{NamedData}
 use Rattle.rmt_replicas.specs.Tables.{IsReading}
