@@ -128,6 +128,7 @@ impl Replica {
     pub fn first_pending(&self) -> usize
         ensures bound { result ≤ length self.now.log }
         ensures below { (i : ℕ) → i < result → done_at self.now.done i ≡ true }
+        ensures pending { result < length self.now.log → done_at self.now.done result ≡ false }
     {
         match self.queue.lowest() {
             Some(lowest) => lowest.min(self.copy.len()),
