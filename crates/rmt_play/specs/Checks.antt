@@ -35,10 +35,12 @@ first_of (Some refusal ∷ rest) = Some refusal
 
 -- ---- forms that nothing plays so far
 
+-- there is nothing
 abbrev pub is_absent : {X : Type 0} → Option X → Bool
 is_absent None = true
 is_absent (Some x) = false
 
+-- the list has no element
 abbrev pub is_empty : {X : Type 0} → List X → Bool
 is_empty [] = true
 is_empty (x ∷ xs) = false
@@ -75,6 +77,7 @@ abbrev pub table_of : List Table → List ℕ → Option Table
 table_of [] name = None
 table_of (t ∷ others) name = cond (bytes_eq t.name name) (Some t) (table_of others name)
 
+-- the refusal of a name that no table has
 abbrev pub refused_without : Option Table → List ℕ → Option Refusal
 refused_without None name = Some (UnknownTable name)
 refused_without (Some t) name = None
@@ -83,6 +86,7 @@ refused_without (Some t) name = None
 abbrev pub unknown_table : World → List ℕ → Option Refusal
 unknown_table world name = refused_without (table_of world.tables name) name
 
+-- the refusal of a name that a table has
 abbrev pub refused_with : Option Table → List ℕ → Option Refusal
 refused_with None name = None
 refused_with (Some t) name = Some (TableExists name)
@@ -105,6 +109,7 @@ abbrev pub replica_at : World → Option (List ℕ) → Option ℕ
 replica_at world None = Some 1
 replica_at world (Some name) = replica_of world.replicas name
 
+-- the refusal of a replica's name that has no number
 abbrev pub refused_name : Option ℕ → Option (List ℕ) → Option Refusal
 refused_name (Some number) name = None
 refused_name None None = None
@@ -148,6 +153,7 @@ create_refusals world table refusal =
 
 -- ---- what is sent to a replica
 
+-- the table that an act names
 abbrev pub table_named : Act → List ℕ
 table_named (acts.Insert insert) = insert.table
 table_named (acts.Select table query mode) = table
@@ -187,6 +193,7 @@ abbrev pub refused_act : Option Table → Act → Option Refusal
 refused_act None act = None
 refused_act (Some t) act = act_refusal t.state.schema act
 
+-- the refusals of what is sent to a replica, in their order
 abbrev pub sent_refusals : World → Sent → List (Option Refusal)
 sent_refusals world sent =
     unknown_table world (table_named sent.act) ∷ unknown_replica world sent.replica ∷ refused_act (table_of world.tables (table_named sent.act)) sent.act ∷ []

@@ -55,6 +55,7 @@ pub record PerformsSent (old : World) (sent : Sent) (line : Line) (new : World) 
   pub at : replica_at old sent.replica ≡ Some (suc replica)
   pub acts : InTable old (table_named sent.act) (λ t u. Acts t replica sent.act line u) new
 
+-- what a statement does that meets no refusal; the others aren't played
 abbrev pub Performs : World → Statement → Line → World → Type 0
 Performs old (statements.Replicas count) line new = Counts old count line new
 Performs old (statements.Create table columns partition key granularity window) line new =
@@ -75,6 +76,7 @@ Turns old (parsed.Statement statement first end) line new = TurnsStatement old s
 Turns old (parsed.Syntax offset end) line new = Refuses old (Syntax offset) line new
 Turns old parsed.End line new = ⊥
 
+-- what was read ends at this place
 abbrev pub EndsAt : Parsed → ℕ → Type 0
 EndsAt (parsed.Statement statement first end) at = at ≡ end
 EndsAt (parsed.Syntax offset end) at = at ≡ end
@@ -93,6 +95,7 @@ Played script [] at world = (at ≡ 0) × (world ≡ start)
 Played script (line ∷ lines) at world =
     (from : ℕ) × (before : World) × Played script lines from before × Step script from before line at world
 
+-- the reply is a refusal
 abbrev pub is_refused : Line → Bool
 is_refused (lines.Refused refusal) = true
 is_refused line = false
