@@ -7,7 +7,8 @@ use Rattle.std.specs.Str.{bytes_eq}
 use Rattle.std.specs.declared.option.Option.TheVariants.{Some, None}
 use Rattle.rmt_model.specs.Words.{Each}
 use Rattle.rmt_play.specs.World.{Table}
-use Rattle.rmt_play.specs.Checks.{table_of, replica_name, replica_of}
+use Rattle.rmt_reply.specs.Printed.{replica_text}
+use Rattle.rmt_play.specs.Checks.{table_of, replica_of}
 use Rattle.rmt_play.specs.Plays.{with_table}
 use Rattle.rmt_play.specs.Inside.{IsPlaceOf}
 
@@ -41,11 +42,6 @@ none-is (u ∷ tables) name all =
     let other : bytes_eq u.name name ≡ false = all 0 u (omega arith) refl in
     ap (λ (b : Bool). cond b (Some u) (table_of tables name)) other ∙ none-is tables name (λ j t l e. all (suc j) t (omega (arith, l)) e)
 
-pub below-length : {A : Type 0} (xs : List A) (i : ℕ) (x : A) → slice_get xs i ≡ Some x → i < length xs
-below-length [] i x e = absurd (cc)
-below-length (y ∷ xs) zero x e = omega arith
-below-length (y ∷ xs) (suc i) x e = let k = below-length xs i x e in omega (arith, k)
-
 -- an element that is in its place
 pub set-same : {A : Type 0} (xs : List A) (i : ℕ) (x : A) → slice_get xs i ≡ Some x → slice_set xs i x ≡ xs
 set-same [] i x e = absurd (cc)
@@ -71,7 +67,7 @@ Each-last P (y ∷ xs) x e p = (e.0, Each-last P xs x e.1 p)
 -- a replica that has a name has a number
 pub number-within : (count : ℕ) (name : List ℕ) (n : ℕ) → replica_of count name ≡ Some n → (0 < n) × (n ≤ count)
 number-within zero name n e = absurd (cc)
-number-within (suc count) name n e = go (bytes_eq name (replica_name (suc count))) e (number-within count name n)
+number-within (suc count) name n e = go (bytes_eq name (replica_text (suc count))) e (number-within count name n)
   where
     go : (b : Bool) → cond b (Some (suc count)) (replica_of count name) ≡ Some n → (replica_of count name ≡ Some n → (0 < n) × (n ≤ count)) → (0 < n) × (n ≤ suc count)
     go true q f = let same : suc count ≡ n = cc in (omega (arith, same), omega (arith, same))

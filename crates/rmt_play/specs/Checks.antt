@@ -1,10 +1,9 @@
 -- Why a statement is refused. Each refusal has its test, and a statement meets the first in the order of the checks.
 -- ClickHouse documentation: CREATE TABLE, INSERT INTO, SELECT, EXPLAIN. The refusals and their order are this program's own.
-use Rattle.std.specs.Prelude.{ℕ, zero, suc, cond, not, nat_le, ◌&&◌, Bool, true, false, List, [], ◌∷◌, ◌++◌, length, codes}
+use Rattle.std.specs.Prelude.{ℕ, zero, suc, cond, not, nat_le, ◌&&◌, Bool, true, false, List, [], ◌∷◌, length}
 use Rattle.std.specs.declared.option.Option.{Option}
 use Rattle.std.specs.declared.option.Option.TheVariants.{Some, None}
 use Rattle.std.specs.Str.{bytes_eq}
-use Rattle.std.specs.Fmt.{decimal}
 use Rattle.rmt_values.specs.declared.limit.Limit.TheVariants as limits
 use Rattle.rmt_values.specs.declared.schema_error.SchemaError.{SchemaError}
 use Rattle.rmt_values.specs.declared.schema_error.SchemaError.TheVariants as schemas
@@ -25,6 +24,7 @@ use Rattle.rmt_data.specs.declared.rows_error.RowsError.TheVariants as offers
 use Rattle.rmt_data.specs.Offers.{names_refusal}
 use Rattle.rmt_reply.specs.declared.refusal.Refusal.{Refusal}
 use Rattle.rmt_reply.specs.declared.refusal.Refusal.TheVariants.{Syntax, UnknownTable, TableExists, UnknownReplica, UnknownColumn, WrongType, LimitReached, DoubleColumn}
+use Rattle.rmt_reply.specs.Printed.{replica_text}
 use Rattle.rmt_play.specs.World.{Table, World}
 
 -- the first of the refusals that are met
@@ -95,14 +95,10 @@ refused_with (Some t) name = Some (TableExists name)
 abbrev pub table_exists : World → List ℕ → Option Refusal
 table_exists world name = refused_with (table_of world.tables name) name
 
--- the replicas are called r1, r2 and so on
-abbrev pub replica_name : ℕ → List ℕ
-replica_name number = codes "r" ++ decimal number
-
--- the number of the replica of this name, among so many
+-- the number of the replica of this name, among so many; they are called r1, r2 and so on
 abbrev pub replica_of : ℕ → List ℕ → Option ℕ
 replica_of zero name = None
-replica_of (suc n) name = cond (bytes_eq name (replica_name (suc n))) (Some (suc n)) (replica_of n name)
+replica_of (suc n) name = cond (bytes_eq name (replica_text (suc n))) (Some (suc n)) (replica_of n name)
 
 -- the replica that a statement is sent to: the first, where none is named
 abbrev pub replica_at : World → Option (List ℕ) → Option ℕ

@@ -1,14 +1,15 @@
 //! The names of replicas.
 ghost use Rattle.std.specs.Prelude.{◌≡◌, ◌<◌, ◌≤◌, IfSome};
 ghost use Rattle.std.specs.Str.{bytes_eq};
-ghost use Rattle.rmt_play.specs.Checks.{replica_name, replica_of};
+ghost use Rattle.rmt_reply.specs.Printed.{replica_text};
+ghost use Rattle.rmt_play.specs.Checks.{replica_of};
 
 use rmt_values::Name;
 
 /// Whether this is the name of the replica of a number.
 fn is_name_of(name: &Name, number: u8) -> bool
     requires { number ≤ 9 }
-    ensures { result ≡ bytes_eq name.now (replica_name number) }
+    ensures { result ≡ bytes_eq name.now (replica_text number) }
 {
     name.is(&[b'r', b'0' + number])
 }
