@@ -60,7 +60,7 @@ pub fn rows_of(alloc: Global, insert: &Insert, schema: &Schema) -> Result<Vec<Ro
         × IsRefused schema.now.columns (all_names schema.now.columns insert.now.columns) insert.now.rows e))) }
 {
     let columns = schema.columns();
-    if let Some(refusal) = names_refusal(columns, &insert.columns)? {
+    if let Some(refusal) = names_refusal(alloc, columns, &insert.columns)? {
         return Err(refusal);
     }
     match &insert.columns {

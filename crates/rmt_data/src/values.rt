@@ -1,10 +1,8 @@
 //! Literals and fields of data as values of columns.
-ghost use Rattle.std.specs.Prelude.{◌≡◌, ◌≤◌, ◌^◌, IfOk, IfSome, MatchOption, length, true};
-ghost use Rattle.std.specs.List.{prefix_len};
-ghost use Rattle.std.specs.Char.{is_ascii_digit};
-ghost use Rattle.rmt_tokens.specs.Tokens.{value_of};
+ghost use Rattle.std.specs.Prelude.{◌≡◌, IfOk};
 ghost use Rattle.rmt_data.specs.Offers.{number_value as number_value_of, text_value as text_value_of, literal_value as literal_value_of, is_number as number_test, digits_value as digits_value_of, numeral_value as numeral_value_of, field_value as field_value_of, absent as absent_of};
 
+use rmt_tokens::{decimal_value, digits_len};
 use rmt_values::{Blob, Kind, Literal, Value};
 use std::alloc::{AllocError, Global};
 
@@ -74,16 +72,6 @@ pub fn literal_value(
     }
 }
 
-/// How many bytes at the front are digits.
-fn digits_len(bytes: &[u8]) -> usize
-    ensures { result ≡ prefix_len is_ascii_digit bytes.now }
-{
-    bytes
-        .iter()
-        .take_while(|byte| byte.is_ascii_digit())
-        .count()
-}
-
 /// Whether these bytes are 1 to 39 digits.
 fn is_number(bytes: &[u8]) -> bool
     ensures { result ≡ number_test bytes.now }
@@ -94,23 +82,6 @@ fn is_number(bytes: &[u8]) -> bool
     digits_len(bytes) == bytes.len()
 }
 
-/// The value of digits; none where it is 2^128 or more.
-fn value(digits: &[u8]) -> Option<u128>
-    ensures { MatchOption result (2 ^ 128 ≤ value_of digits.now) (λ n. n ≡ value_of digits.now) }
-{
-    let mut value: u128 = 0;
-    'digits: for digit in digits {
-        let Some(tens) = value.checked_mul(10) else {
-            return None;
-        };
-        let Some(sum) = tens.checked_add(u128::from(digit.saturating_sub(b'0'))) else {
-            return None;
-        };
-        value = sum;
-    }
-    Some(value)
-}
-
 /// The value of digits in a column of this type, if they have one there.
 fn digits_value(kind: Kind, minus: bool, digits: &[u8]) -> Option<Value>
     ensures { result ≡ digits_value_of kind minus digits.now }
@@ -118,7 +89,7 @@ fn digits_value(kind: Kind, minus: bool, digits: &[u8]) -> Option<Value>
     if !is_number(digits) {
         return None;
     }
-    match value(digits) {
+    match decimal_value(digits) {
         Some(size) => number_value(kind, minus, size),
         None => None,
     }

@@ -106,10 +106,12 @@ abbrev pub is_aggregate : Item → Bool
 is_aggregate (item.Column n) = false
 is_aggregate i = true
 
+-- one of the items is an aggregate
 abbrev pub has_aggregate : List Item → Bool
 has_aggregate [] = false
 has_aggregate (i ∷ is) = is_aggregate i || has_aggregate is
 
+-- there are no names
 abbrev pub is_none : List (List ℕ) → Bool
 is_none [] = true
 is_none (n ∷ ns) = false

@@ -38,6 +38,7 @@ abbrev pub changed : List Entry → Option ℕ → (ℕ → Bool) → Row → Op
 changed [] p passes row = Some row
 changed (e ∷ log) p passes row = option_and_then (changed_by e p passes) (changed log p passes row)
 
+-- the entry gets the block of this number in this partition
 abbrev pub is_block : Entry → Option ℕ → ℕ → Bool
 is_block (Get q m digest source need) p n = nat_eq (rank q) (rank p) && nat_eq m n
 is_block (Merge new sources count) p n = false
@@ -84,6 +85,7 @@ rows_from log blocks (Mutate old new upto count mcount ∷ rest) = rows_from log
 rows_from log blocks (Mutation id numbers command ∷ rest) = rows_from log blocks rest
 rows_from log blocks (DropRange p n ∷ rest) = rows_from log blocks rest
 
+-- the plain rows that a log makes of blocks
 abbrev pub rows : List Entry → Blocks → List Row
 rows log blocks = rows_from log blocks log
 

@@ -42,6 +42,7 @@ version_among [] p limit = 0
 version_among (x ∷ xs) p limit =
     max (cond (nat_eq (rank x.0) (rank p) && nat_le x.1 limit) x.1 0) (version_among xs p limit)
 
+-- the number that a mutation takes in the partition, where it is at most the limit; 0 for every other entry
 abbrev pub version_at : Entry → Option ℕ → ℕ → ℕ
 version_at (Get q n digest source need) p limit = 0
 version_at (Merge new sources count) p limit = 0
@@ -72,6 +73,7 @@ IsMutationWith (Some (Merge new sources count)) p n = ⊥
 IsMutationWith (Some (Mutate old new upto count mcount)) p n = ⊥
 IsMutationWith (Some (DropRange q m)) p n = ⊥
 
+-- the entry is a mutation
 abbrev pub is_mutation : Entry → Bool
 is_mutation (Mutation id numbers command) = true
 is_mutation (Get p n digest source need) = false
@@ -89,6 +91,7 @@ mutations_through [] i = 0
 mutations_through (e ∷ log) i =
     cond (nat_le (length log) i) (mutation_count (e ∷ log)) (mutations_through log i)
 
+-- the entry gets a block whose number is among the name's
 abbrev pub gets_block_of : Name → Entry → Bool
 gets_block_of a (Get p n digest source need) = nat_eq (rank p) (rank a.partition) && nat_le a.min n && nat_le n a.max
 gets_block_of a (Merge new sources count) = false
@@ -120,6 +123,7 @@ pub record Merges (log : List Entry) (a b : Name) (rest : List Name) (new : Name
   pub name : new ≡ merged_name a (b ∷ rest)
   pub counted : count ≡ block_count log new
 
+-- a merge has two sources or more
 abbrev pub IsMerge : List Entry → Name → List Name → ℕ → Type 0
 IsMerge log new [] count = ⊥
 IsMerge log new (a ∷ []) count = ⊥

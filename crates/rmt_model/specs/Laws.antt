@@ -39,6 +39,7 @@ pub record Supersedes (later earlier : Name) : Type 0 where
   pub covers : Overlap later earlier → Covers later earlier
   pub differ : later ≢ earlier
 
+-- of two made names that overlap, the later covers the earlier, and they differ
 abbrev pub LaterCovers : List Entry → Type 0
 LaterCovers log = Pairwise Supersedes (made log)
 

@@ -49,6 +49,7 @@ abbrev pub made_with : Option Name → List Name → List Name
 made_with None names = names
 made_with (Some a) names = a ∷ names
 
+-- the names that the entries made, the newest first
 abbrev pub made : List Entry → List Name
 made [] = []
 made (e ∷ log) = made_with (result_name e) (made log)

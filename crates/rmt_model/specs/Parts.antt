@@ -35,6 +35,7 @@ abbrev pub blocks_of : List Lodged → Blocks
 blocks_of [] p n = []
 blocks_of (b ∷ rest) p n = cond (nat_eq b.number n) b.rows (blocks_of rest p n)
 
+-- one of the blocks has this number
 abbrev pub HasNumber : List Lodged → ℕ → Type 0
 HasNumber [] n = ⊥
 HasNumber (b ∷ rest) n = (b.number ≡ n) ⊎ HasNumber rest n
@@ -56,6 +57,7 @@ pub record IsPartOf (schema : Shape) (log : List Entry) (part : PartView) : Type
   pub lineage : IsLineage log part.name part.lineage
   pub holds : part.rows ≡ content schema log (blocks_of part.lineage) part.name
 
+-- the names of the parts
 abbrev pub names_of : List PartView → List Name
 names_of [] = []
 names_of (part ∷ parts) = part.name ∷ names_of parts
@@ -68,6 +70,8 @@ pub record ReplicaView : Type 0 where
   pub staged : List (Option ℕ × ℕ)
   pub noted : List Name
 
+-- the copy is lawful, the names are fair, each part holds what the log says of it, and what was noted is covered or
+-- dropped
 pub record IsStandingReplica (schema : Shape) (r : ReplicaView) : Type 0 where
   pub lawful : Lawful schema r.log
   pub fair : AreFair r.log r.done (names_of r.parts)
@@ -81,6 +85,7 @@ pub record HasPart (parts : List PartView) (length_of_copy : ℕ) (a : Name) : T
   pub covers : Covers part.name a
   pub within : part.place < length_of_copy
 
+-- the replica has the block staged or in a part
 abbrev pub IsHolder : ReplicaView → ℕ → Option ℕ → ℕ → Type 0
 IsHolder r length_of_copy p n = Has r.staged (p, n) ⊎ HasPart r.parts length_of_copy (block_name p n)
 
@@ -92,6 +97,8 @@ pub record TableView : Type 0 where
   pub locks : List (Option ℕ × ℕ)
   pub window : List Kept
 
+-- the log is lawful; numbers in use are below the next; locked ones are unused, in no live part and above the drops;
+-- the window is the one of the log
 pub record IsSoundTable (t : TableView) : Type 0 where
   pub lawful : Lawful t.schema t.log
   pub numbers : (p : Option ℕ) (n : ℕ) → Used t.log p n ⊎ Has t.locks (p, n) → (m : ℕ) × Has t.next (p, m) × (n < m)

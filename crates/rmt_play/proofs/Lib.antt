@@ -3,3 +3,4 @@ pub mod TableLemmas
 pub mod ActLemmas
 pub mod SendLemmas
 pub mod SchemaLemmas
+pub mod WordLemmas

@@ -89,6 +89,7 @@ pub record Explains (t : TableState) (r : ℕ) (query : Query) (line : Line) (u 
   pub unchanged : u ≡ t
 
 -- ---- what an act does to its table at a replica, counted from 0; the other acts aren't played
+-- an act comes to this reply and this table
 abbrev pub Acts : TableState → ℕ → Act → Line → TableState → Type 0
 Acts t r (acts.Insert insert) line u = Takes t r insert line u ⊎ MeetsBadRow t insert line u
 Acts t r (acts.Select table query modes.Sync) line u = Syncs t r query line u

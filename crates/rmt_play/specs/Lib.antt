@@ -15,3 +15,4 @@ pub mod Runs
 pub mod Asked
 pub mod Inside
 pub mod Endings
+pub mod Words

@@ -202,10 +202,15 @@ fn words_without_a_form_write_nothing(rt: HostRuntime) -> Result<(), Fail> {
     for list in [
         no_words,
         &["fly"],
-        &["play", "play"],
-        &["Play"],
-        &[""],
         &["play", "--workers", "9"],
+        &["storm", "1"],
+        &["play", "play"],
+        &["--help"],
+        &["play", "--"],
+        &["play", ""],
+        &["Play"],
+        &["help"],
+        &[""],
     ] {
         let mut source = SoundBytes::new(bytes(rt.alloc(), FIRST)?);
         let mut page = Page::new(rt.alloc(), Vec::new(rt.alloc()));

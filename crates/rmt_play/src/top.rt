@@ -10,7 +10,7 @@ use crate::end::End;
 use crate::ending::Ending;
 use crate::script::play;
 use crate::status::Status;
-use crate::words::has_form;
+use crate::words::{has_form, read_words};
 use rmt_outside::{Gate, ReadError, Sink, Source, read_all};
 use std::alloc::Global;
 
@@ -39,7 +39,7 @@ fn status_of(ending: Ending) -> Status
 }
 
 /// Runs the command: plays the script that `source` gives, and writes the replies to `sink`. `words` are the words
-/// behind the program's name; only `play` has a form. The source is read to its end before the first statement is
+/// behind the program's name, read with `clap`; only `play` has a form. The source is read to its end before the first statement is
 /// played. No gate is passed yet.
 pub fn run<S: Source, K: Sink, G: Gate + Sync>(
     alloc: Global,
@@ -80,6 +80,9 @@ pub fn run<S: Source, K: Sink, G: Gate + Sync>(
 {
     if !has_form(words) {
         return (ended(3), End::Nothing);
+    }
+    if read_words(alloc, words).is_err() {
+        return (ended(6), End::Nothing);
     }
     let script = match read_all(alloc, source, LONGEST) {
         Ok(script) => script,

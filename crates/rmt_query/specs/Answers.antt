@@ -27,6 +27,7 @@ keeps (Some f) row = holds f row
 abbrev pub kept : Option Checked → List (List Value) → List (List Value)
 kept condition rows = filter (keeps condition) rows
 
+-- the item is an aggregate
 abbrev pub is_aggregate : CheckedItem → Bool
 is_aggregate (item.Column c) = false
 is_aggregate item.Count = true
@@ -34,10 +35,12 @@ is_aggregate (item.Sum c) = true
 is_aggregate (item.Min c) = true
 is_aggregate (item.Max c) = true
 
+-- one of the items is an aggregate
 abbrev pub has_aggregate : List CheckedItem → Bool
 has_aggregate [] = false
 has_aggregate (i ∷ is) = is_aggregate i || has_aggregate is
 
+-- there are columns to group by
 abbrev pub has_columns : List ℕ → Bool
 has_columns [] = false
 has_columns (c ∷ cs) = true

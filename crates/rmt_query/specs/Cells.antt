@@ -69,9 +69,11 @@ plus (cells.UInt a) (cells.UInt b) = cells.UInt (a + b)
 plus (cells.Sum a) (cells.Sum b) = cells.Sum (a +ℤ b)
 plus a b = b
 
+-- the lesser of two cells, the first where they are equal
 abbrev pub lesser : Cell → Cell → Cell
 lesser a b = cond (is_gt (cell_order a b)) b a
 
+-- the greater of two cells, the first where they are equal
 abbrev pub greater : Cell → Cell → Cell
 greater a b = cond (is_gt (cell_order b a)) b a
 

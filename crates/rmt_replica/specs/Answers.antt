@@ -103,6 +103,8 @@ settled r i = record r { done = slice_set r.done i true; staged = released (entr
 abbrev pub InstallsSupplied : ReplicaView → Supply → List BlockPart → Type 0
 InstallsSupplied r supply parts = MatchOption (supplied supply) ⊥ (λ part. Installs r.parts part parts)
 
+-- the parts after an entry that was done: a drop takes its parts away, and an entry that makes a part installs the one
+-- supplied
 abbrev pub PartsAfter : Option Entry → ReplicaView → Supply → List BlockPart → Type 0
 PartsAfter None r supply parts = ⊥
 PartsAfter (Some (DropRange p n)) r supply parts = TakesParts r.parts p n parts
@@ -116,6 +118,7 @@ pub record IsDoneBy (old : ReplicaView) (i : ℕ) (supply : Supply) (new : Repli
   pub others : new ≡ record (settled old i) { parts = new.parts }
   pub parts : PartsAfter (entry_at old.log i) old supply new.parts
 
+-- what an answer of apply changes
 abbrev pub IsChange : ReplicaView → ℕ → Supply → Result Applied ApplyError → ReplicaView → Type 0
 IsChange old i supply (Err e) new = new ≡ old
 IsChange old i supply (Ok applied.Already) new = new ≡ settled old i

@@ -50,6 +50,7 @@ part_names parts = map (λ p. p.name) parts
 abbrev pub part_blocks : List BlockPart → List BlockView
 part_blocks parts = map (λ p. p.block) parts
 
+-- the ids of the parts' blocks
 abbrev pub part_ids : List BlockPart → List BlockId
 part_ids parts = map (λ p. id_of p.block) parts
 

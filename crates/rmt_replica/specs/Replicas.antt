@@ -58,6 +58,7 @@ replica_of number up copy marks parts staged = record {
   staged = staged;
 }
 
+-- the replica stands, and its marks are those of its copy
 pub record IsReplica (copy : History) (marks : List Bool) (r : ReplicaView) : Type 0 where
   pub marked : HasMarks copy marks
   pub standing : IsStandingReplica r

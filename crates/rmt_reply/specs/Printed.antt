@@ -121,6 +121,7 @@ inserted_text all refused = or_nothing (flat_map piece_text all) refused
 abbrev pub ratio_text : ℕ → ℕ → List ℕ
 ratio_text chosen all = decimal chosen ++ codes "/" ++ decimal all
 
+-- a part's line of EXPLAIN: its name, the chosen granules and all
 abbrev pub granules_line : Name × ℕ × ℕ → List ℕ
 granules_line g = ended (codes "granules " ++ two (text_of g.0) (ratio_text g.1 g.2))
 

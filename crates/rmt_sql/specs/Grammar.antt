@@ -37,15 +37,19 @@ the small = token (keyword small)
 abbrev pub very : List ℕ → Rule (Unit {0})
 very text = token (exactly text)
 
+-- this symbol
 abbrev pub mark : Mark → Rule (Unit {0})
 mark m = token (symbol m)
 
+-- it begins with `(`
 abbrev pub opening : List Class
 opening = Sign marks.Open ∷ []
 
+-- it begins with `,`
 abbrev pub comma : List Class
 comma = Sign marks.Comma ∷ []
 
+-- it begins with this keyword
 abbrev pub word : List ℕ → List Class
 word small = Keyword small ∷ []
 
@@ -66,10 +70,12 @@ pub data Called (A : Type 0) : Type 0 where
   Bare : List ℕ → Called A
   Call : A → Called A
 
+-- a word with what stood in its parentheses, where there were some
 abbrev pub called_of : {A : Type 0} → List ℕ → Option A → Called A
 called_of w None = Bare w
 called_of w (Some a) = Call a
 
+-- what may stand behind a word: parentheses, where it takes some
 abbrev pub behind_word : {A : Type 0} → Bool → Rule A → List ℕ → Rule (Called A)
 behind_word true call w = maybe opening call then λ o. gives (called_of w o)
 behind_word false call w = gives (Bare w)
@@ -85,6 +91,7 @@ literal =
     (token a_text then λ text. gives (literals.Text text))
     (maybe (Sign marks.Minus ∷ []) (mark marks.Minus) then λ minus. token a_number then λ n. gives (literals.Number (is_some minus) n))
 
+-- word { , word }
 unfoldable pub names : Rule (List (List ℕ))
 names = listed (token a_word)
 
@@ -92,11 +99,13 @@ names = listed (token a_word)
 unfoldable pub names_in_parentheses : Rule (List (List ℕ))
 names_in_parentheses = mark marks.Open then λ _. names then λ all. mark marks.Close then λ _. gives all
 
+-- ( )
 abbrev pub tuple_call : {A : Type 0} → A → Rule A
 tuple_call a = mark marks.Open then λ _. mark marks.Close then λ _. gives a
 
 -- ---- filters
 
+-- the token is what a limit refuses
 abbrev pub beyond_in : Token → Option (List ℕ)
 beyond_in Beyond = Some []
 beyond_in _ = None
@@ -109,6 +118,7 @@ column_behind before s = if nat_lt before 256 then a_column s else beyond_in s.t
 unfoldable pub comparison : ℕ → Rule Tree
 comparison before = token (column_behind before) then λ column. token a_comparison then λ cmp. literal then λ value. gives (Test column cmp value)
 
+-- AND unary
 abbrev pub and_unary : (ℕ → Rule Tree) → ℕ → Tree → Rule Tree
 and_unary unary before f = the (codes "and") then λ _. unary (before + tests_in f) then λ g. gives (And f g)
 
@@ -116,6 +126,7 @@ and_unary unary before f = the (codes "and") then λ _. unary (before + tests_in
 abbrev pub conj : (ℕ → Rule Tree) → ℕ → Rule Tree
 conj unary before = unary before then λ first. many always (word (codes "and")) (and_unary unary before) first
 
+-- OR conj
 abbrev pub or_conj : (ℕ → Rule Tree) → ℕ → Tree → Rule Tree
 or_conj unary before f = the (codes "or") then λ _. conj unary (before + tests_in f) then λ g. gives (Or f g)
 
@@ -123,9 +134,11 @@ or_conj unary before f = the (codes "or") then λ _. conj unary (before + tests_
 abbrev pub disj : (ℕ → Rule Tree) → ℕ → Rule Tree
 disj unary before = conj unary before then λ first. many always (word (codes "or")) (or_conj unary before) first
 
+-- NOT unary
 abbrev pub negation : (ℕ → Rule Tree) → ℕ → Rule Tree
 negation unary before = the (codes "not") then λ _. unary before then λ f. gives (Not f)
 
+-- ( filter )
 abbrev pub group : (ℕ → Rule Tree) → ℕ → Rule Tree
 group unary before = mark marks.Open then λ _. disj unary before then λ f. mark marks.Close then λ _. gives f
 
@@ -134,6 +147,7 @@ unfoldable pub unary : ℕ → ℕ → Rule Tree
 unary zero before = comparison before
 unary (suc depth) before = either (word (codes "not")) (negation (unary depth) before) (either opening (group (unary depth) before) (comparison before))
 
+-- a filter, with at most 64 NOTs and parentheses open
 unfoldable pub filter : Rule Tree
 filter = disj (unary 64) 0
 
@@ -143,15 +157,18 @@ where_filter = the (codes "where") then λ _. filter
 
 -- ---- CREATE
 
+-- the type of this name
 abbrev pub kind_of_word : List ℕ → Option Kind
 kind_of_word w =
     if bytes_eq w (codes "UInt64") then Some kinds.UInt64 else (if bytes_eq w (codes "Int64") then Some kinds.Int64 else
     (if bytes_eq w (codes "String") then Some kinds.Text else None))
 
+-- the type that a token names
 abbrev pub kind_in : Token → Option Kind
 kind_in (Word w) = kind_of_word w
 kind_in _ = None
 
+-- UInt64 | Int64 | String
 abbrev pub a_kind : Spot → Option Kind
 a_kind s = kind_in s.token
 
@@ -159,6 +176,7 @@ a_kind s = kind_in s.token
 unfoldable pub column : Rule Column
 column = token a_word then λ name. token a_kind then λ kind. gives (record { name = name; kind = kind })
 
+-- column { , column }
 unfoldable pub columns : Rule (List Column)
 columns = listed column
 
@@ -170,6 +188,7 @@ two_texts = token a_text then λ _. mark marks.Comma then λ _. token a_text the
 unfoldable pub engine_arguments : Rule (Unit {0})
 engine_arguments = mark marks.Open then λ _. maybe (AnyText ∷ []) two_texts then λ _. mark marks.Close then λ _. gives tt
 
+-- words that take parentheses in a partition rule
 abbrev pub takes_rule : List ℕ → Bool
 takes_rule w = bytes_eq w (codes "tuple") || bytes_eq w (codes "intDiv")
 
@@ -179,6 +198,7 @@ division =
     mark marks.Open then λ _. token a_word then λ column. mark marks.Comma then λ _. token a_number then λ divisor. mark marks.Close then λ _.
     gives (Some (column, divisor))
 
+-- what stands in the parentheses of `tuple`, or else of `intDiv`
 abbrev pub rule_call : Bool → Rule (Option (List ℕ × ℕ))
 rule_call true = tuple_call None
 rule_call false = division
@@ -192,6 +212,7 @@ abbrev pub rule_of : Called (Option (List ℕ × ℕ)) → Option (List ℕ × �
 rule_of (Bare column) = Some (column, 1)
 rule_of (Call rule) = rule
 
+-- no rule where none is written
 abbrev pub partition_of : Option (Called (Option (List ℕ × ℕ))) → Option (List ℕ × ℕ)
 partition_of None = None
 partition_of (Some rule) = rule_of rule
@@ -200,6 +221,7 @@ partition_of (Some rule) = rule_of rule
 unfoldable pub partition_by : Rule (Called (Option (List ℕ × ℕ)))
 partition_by = the (codes "partition") then λ _. the (codes "by") then λ _. partition_rule
 
+-- the word is `tuple`
 abbrev pub is_tuple : List ℕ → Bool
 is_tuple w = bytes_eq w (codes "tuple")
 
@@ -207,6 +229,7 @@ is_tuple w = bytes_eq w (codes "tuple")
 unfoldable pub order : Rule (Called (List (List ℕ)))
 order = either opening (names_in_parentheses then λ all. gives (Call all)) (called is_tuple (λ _. tuple_call []))
 
+-- a column alone is a key of one column
 abbrev pub key_of : Called (List (List ℕ)) → List (List ℕ)
 key_of (Bare column) = column ∷ []
 key_of (Call all) = all
@@ -221,17 +244,21 @@ setting_word s w =
     if bytes_eq w (codes "index_granularity") && not (is_some s.granularity) then Some true
     else (if bytes_eq w (codes "replicated_deduplication_window") && not (is_some s.window) then Some false else None)
 
+-- the setting that a token names
 abbrev pub setting_in : Settings → Token → Option Bool
 setting_in s (Word w) = setting_word s w
 setting_in s _ = None
 
+-- a setting that is not set yet
 abbrev pub a_setting : Settings → Spot → Option Bool
 a_setting s t = setting_in s t.token
 
+-- the settings with one more set
 abbrev pub with_setting : Bool → ℕ → Settings → Settings
 with_setting true n s = record { granularity = Some n; window = s.window }
 with_setting false n s = record { granularity = s.granularity; window = Some n }
 
+-- a setting is left to set
 abbrev pub may_set : Settings → Bool
 may_set s = not (is_some s.granularity) || not (is_some s.window)
 
@@ -247,6 +274,7 @@ further_setting s = mark marks.Comma then λ _. setting s
 unfoldable pub settings : Rule Settings
 settings = the (codes "settings") then λ _. setting unset then λ first. many may_set comma further_setting first
 
+-- no setting where none is written
 abbrev pub settings_of : Option Settings → Settings
 settings_of None = unset
 settings_of (Some s) = s
@@ -285,6 +313,7 @@ row = mark marks.Open then λ _. listed literal then λ all. mark marks.Close th
 unfoldable pub further_row : List (List Literal) → Rule (List (List Literal))
 further_row all = maybe comma (mark marks.Comma) then λ _. item row all
 
+-- a further row begins with `,` or `(`
 abbrev pub row_firsts : List Class
 row_firsts = Sign marks.Comma ∷ Sign marks.Open ∷ []
 
@@ -292,6 +321,7 @@ row_firsts = Sign marks.Comma ∷ Sign marks.Open ∷ []
 unfoldable pub rows : Rule (List (List Literal))
 rows = item row [] then λ first. many always row_firsts further_row first
 
+-- the INSERT of what was read
 abbrev pub insertion : List ℕ → Option (List (List ℕ)) → Option ℕ → Offered → SaidAct
 insertion table columns quorum offered = Insert (record { table = table; columns = columns; quorum = quorum; rows = offered })
 
@@ -303,6 +333,7 @@ values table columns quorum = the (codes "values") then λ _. rows then λ all. 
 unfoldable pub csv : List ℕ → Option (List (List ℕ)) → Option ℕ → Rule (SaidAct × ℕ)
 csv table columns quorum = the (codes "format") then λ _. the (codes "csv") then λ _. token some_data then λ bytes. ended (insertion table columns quorum (Csv bytes))
 
+-- VALUES rows | FORMAT CSV data
 unfoldable pub offered : List ℕ → Option (List (List ℕ)) → Option ℕ → Rule (SaidAct × ℕ)
 offered table columns quorum = either (word (codes "values")) (values table columns quorum) (csv table columns quorum)
 
@@ -329,9 +360,11 @@ insert may_set = the (codes "insert") then λ _. the (codes "into") then λ _. l
 
 -- ---- SELECT
 
+-- COUNT, SUM, MIN or MAX, in any case
 abbrev pub is_function : List ℕ → Bool
 is_function w = (is_keyword w (codes "count") || is_keyword w (codes "sum")) || (is_keyword w (codes "min") || is_keyword w (codes "max"))
 
+-- the aggregate of this word over a column
 abbrev pub aggregate : List ℕ → List ℕ → Item
 aggregate w column = if is_keyword w (codes "sum") then items.Sum column else (if is_keyword w (codes "min") then items.Min column else items.Max column)
 
@@ -343,6 +376,7 @@ count_call = mark marks.Open then λ _. maybe (Sign marks.Star ∷ []) (mark mar
 unfoldable pub aggregate_call : List ℕ → Rule Item
 aggregate_call w = mark marks.Open then λ _. token a_word then λ column. mark marks.Close then λ _. gives (aggregate w column)
 
+-- what stands behind COUNT, or else behind another aggregate
 abbrev pub function_call : Bool → List ℕ → Rule Item
 function_call true w = count_call
 function_call false w = aggregate_call w
@@ -351,6 +385,7 @@ function_call false w = aggregate_call w
 unfoldable pub asked : Rule (Called Item)
 asked = called is_function (λ w. function_call (is_keyword w (codes "count")) w)
 
+-- a word alone is a column
 abbrev pub item_of : Called Item → Item
 item_of (Bare column) = items.Column column
 item_of (Call i) = i
@@ -375,10 +410,12 @@ asked_from = either (Sign marks.Star ∷ []) star_from items_from
 unfoldable pub group_by : Rule (List (List ℕ))
 group_by = the (codes "group") then λ _. the (codes "by") then λ _. names
 
+-- no names where none are written
 abbrev pub names_or : Option (List (List ℕ)) → List (List ℕ)
 names_or None = []
 names_or (Some all) = all
 
+-- the query of what was read
 abbrev pub query_of : List (Called Item) → Option Tree → Option (List (List ℕ)) → SaidQuery
 query_of asked filter group = record { items = map item_of asked; filter = filter; group = names_or group }
 
@@ -392,9 +429,11 @@ selected behind =
 unfoldable pub sequential : Rule Mode
 sequential = the (codes "settings") then λ _. very (codes "select_sequential_consistency") then λ _. mark marks.Equal then λ _. token a_number then λ n. gives (modes.Sequential n)
 
+-- SYNC
 unfoldable pub synchronous : Rule Mode
 synchronous = the (codes "sync") then λ _. gives modes.Sync
 
+-- a plain SELECT where nothing is written
 abbrev pub mode_of : Option Mode → Mode
 mode_of None = modes.Plain
 mode_of (Some mode) = mode
@@ -422,11 +461,13 @@ explain = the (codes "explain") then λ _. maybe (Exactly (codes "indexes") ∷ 
 
 -- ---- ALTER, OPTIMIZE
 
+-- plus is true, minus false
 abbrev pub sign_of : Mark → Option Bool
 sign_of marks.Plus = Some true
 sign_of marks.Minus = Some false
 sign_of _ = None
 
+-- the sign that a token is
 abbrev pub sign_in : Token → Option Bool
 sign_in (Symbol m) = sign_of m
 sign_in _ = None
@@ -435,6 +476,7 @@ sign_in _ = None
 abbrev pub a_sign : Spot → Option Bool
 a_sign s = sign_in s.token
 
+-- a column as it is, or with a number added or taken away
 abbrev pub change_of : List ℕ → Option (Bool × ℕ) → Right
 change_of column None = rights.Column column
 change_of column (Some (true, n)) = rights.Plus column (literals.Number false n)
@@ -448,9 +490,11 @@ change = token a_sign then λ plus. token a_number then λ n. gives (plus, n)
 unfoldable pub column_right : Rule Right
 column_right = token a_word then λ column. maybe (Sign marks.Plus ∷ Sign marks.Minus ∷ []) change then λ c. gives (change_of column c)
 
+-- a literal
 unfoldable pub literal_right : Rule Right
 literal_right = literal then λ value. gives (rights.Literal value)
 
+-- what a column is set to: a literal, or a column with or without a change
 unfoldable pub right : Rule Right
 right = either (AnyWord ∷ []) column_right literal_right
 
@@ -458,6 +502,7 @@ right = either (AnyWord ∷ []) column_right literal_right
 unfoldable pub assignment : Rule (List ℕ × Right)
 assignment = token a_word then λ column. mark marks.Equal then λ _. right then λ r. gives (column, r)
 
+-- assignment { , assignment }
 unfoldable pub assignments : Rule (List (List ℕ × Right))
 assignments = listed assignment
 
@@ -531,6 +576,7 @@ stop_fetches = the (codes "stop") then λ _. the (codes "fetches") then λ _. to
 unfoldable pub start_fetches : Rule (SaidAct × ℕ)
 start_fetches = the (codes "start") then λ _. the (codes "fetches") then λ _. token a_word then λ table. ended (StartFetches table)
 
+-- SYNC REPLICA | RESTART REPLICA | STOP FETCHES | START FETCHES
 unfoldable pub system_command : Rule (SaidAct × ℕ)
 system_command = either (word (codes "sync")) sync_replica (either (word (codes "restart")) restart_replica (either (word (codes "stop")) stop_fetches start_fetches))
 
@@ -548,9 +594,11 @@ service =
 unfoldable pub row_act : Bool → Rule (SaidAct × ℕ)
 row_act may_set = either (word (codes "insert")) (insert may_set) (either (word (codes "select")) (select may_set) alter)
 
+-- an act on rows begins with INSERT, SELECT or ALTER
 abbrev pub row_act_firsts : List Class
 row_act_firsts = Keyword (codes "insert") ∷ Keyword (codes "select") ∷ Keyword (codes "alter") ∷ []
 
+-- what a statement does at a replica
 unfoldable pub act : Rule (SaidAct × ℕ)
 act = either row_act_firsts (row_act true) service
 
@@ -566,6 +614,7 @@ sent acts = maybe (Sign marks.At ∷ []) replica then λ name. acts then λ a. g
 unfoldable pub lane_statement : Rule SaidSent
 lane_statement = sent (row_act false) then λ s. gives s.0
 
+-- a statement of a lane begins with `@` or as an act on rows
 abbrev pub lane_firsts : List Class
 lane_firsts = Sign marks.At ∷ row_act_firsts
 
@@ -573,6 +622,7 @@ lane_firsts = Sign marks.At ∷ row_act_firsts
 unfoldable pub lane : Rule (List SaidSent)
 lane = (the (codes "lane") then λ _. token an_end then λ _. gives []) then λ none. many always lane_firsts (item lane_statement) none
 
+-- fewer than 8 lanes stand before
 abbrev pub may_follow : {A : Type 0} → List A → Bool
 may_follow lanes = nat_lt (length lanes) 8
 
@@ -584,9 +634,11 @@ some_lanes = item lane [] then λ first. many may_follow (word (codes "lane")) (
 unfoldable pub lanes : Rule (Said × ℕ)
 lanes = the (codes "lanes") then λ _. token an_end then λ _. some_lanes then λ all. the (codes "end") then λ _. ended (Lanes all)
 
+-- a number of replicas, 1 to 8
 abbrev pub count_of : ℕ → Option ℕ
 count_of n = if nat_le 1 n && nat_le n 8 then Some n else None
 
+-- the number of replicas that a token is
 abbrev pub count_in : Token → Option ℕ
 count_in (Number n) = count_of n
 count_in _ = None

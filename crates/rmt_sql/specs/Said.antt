@@ -28,6 +28,7 @@ pub data Tree : Type 0 where
   Or : Tree → Tree → Tree
   Not : Tree → Tree
 
+-- a filter as a tree
 abbrev pub tree_of : Filter → Tree
 tree_of (written.Test column cmp literal) = Test column cmp literal
 tree_of (written.Both' p f q g) = And (tree_of f) (tree_of g)
@@ -41,15 +42,18 @@ tests_in (And f g) = tests_in f + tests_in g
 tests_in (Or f g) = tests_in f + tests_in g
 tests_in (Not f) = tests_in f
 
+-- what a SELECT asks for, which rows it reads, and the columns that it groups by
 pub record SaidQuery : Type 0 where
   pub items : List Item
   pub filter : Option (Tree)
   pub group : List (List ℕ)
 
+-- the sets of an UPDATE and its filter, or the filter of a DELETE
 pub data SaidCommand : Type 0 where
   Update : List (List ℕ × Right) → Tree → SaidCommand
   Delete : Tree → SaidCommand
 
+-- what is asked of a replica; the first word of each is its table, but for an INSERT, which holds it
 pub data SaidAct : Type 0 where
   Insert : Insertion → SaidAct
   Select : List ℕ → SaidQuery → Mode → SaidAct
@@ -65,10 +69,13 @@ pub data SaidAct : Type 0 where
   StopFetches : List ℕ → SaidAct
   StartFetches : List ℕ → SaidAct
 
+-- an act, and the replica that it is sent to, where one is named
 pub record SaidSent : Type 0 where
   pub replica : Option (List ℕ)
   pub act : SaidAct
 
+-- a statement: a number of replicas; a table with its columns, partition rule, key, granularity and window; a replica;
+-- turns and a seed; lanes; or an act
 pub data Said : Type 0 where
   Replicas : ℕ → Said
   Create : List ℕ → List Column → Option (List ℕ × ℕ) → List (List ℕ) → Option ℕ → Option ℕ → Said
@@ -78,13 +85,16 @@ pub data Said : Type 0 where
   Lanes : List (List SaidSent) → Said
   At : SaidSent → Said
 
+-- what a query says
 abbrev pub said_query : Query → SaidQuery
 said_query q = record { items = q.items; filter = option_map tree_of q.filter; group = q.group }
 
+-- what a command says
 abbrev pub said_command : Mutation → SaidCommand
 said_command (mutations.Update sets filter) = Update sets (tree_of filter)
 said_command (mutations.Delete filter) = Delete (tree_of filter)
 
+-- what an act says
 abbrev pub said_act : Act → SaidAct
 said_act (acts.Insert insert) = Insert insert
 said_act (acts.Select table query mode) = Select table (said_query query) mode
@@ -100,6 +110,7 @@ said_act (acts.RestartReplica table) = RestartReplica table
 said_act (acts.StopFetches table) = StopFetches table
 said_act (acts.StartFetches table) = StartFetches table
 
+-- what is sent, as it says
 abbrev pub said_sent : Sent → SaidSent
 said_sent s = record { replica = s.replica; act = said_act s.act }
 

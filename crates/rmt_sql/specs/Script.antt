@@ -20,6 +20,7 @@ abbrev pub passed : List Spot → List Spot
 passed [] = []
 passed (s ∷ ss) = if is_empty s then passed ss else s ∷ ss
 
+-- a `;` stands next
 abbrev pub empty_next : List Spot → Bool
 empty_next [] = false
 empty_next (s ∷ ss) = is_empty s

@@ -14,15 +14,18 @@ use Rattle.rmt_tokens.specs.Lexing.{tokens}
 use Rattle.rmt_sql.specs.Grammar.{Called, Bare, Call}
 use Rattle.rmt_sql.specs.Script.{empty_next, passed}
 
+-- a partition rule as its form calls it
 abbrev pub called_rule : PartitionRule → Called (Option (List ℕ × ℕ))
 called_rule (rules.Column column) = Bare column
 called_rule rules.Tuple = Call None
 called_rule (rules.Division column divisor) = Call (Some (column, divisor))
 
+-- a sorting key as its form calls it
 abbrev pub called_order : Order → Called (List (List ℕ))
 called_order (orders.Column column) = Bare column
 called_order (orders.Names all) = Call all
 
+-- an item as its form calls it
 abbrev pub called_item : Item → Called Item
 called_item (items.Column column) = Bare column
 called_item items.Count = Call items.Count
@@ -30,6 +33,7 @@ called_item (items.Sum column) = Call (items.Sum column)
 called_item (items.Min column) = Call (items.Min column)
 called_item (items.Max column) = Call (items.Max column)
 
+-- something, where it is so
 abbrev pub some_if : Bool → Option (Unit {0})
 some_if true = Some tt
 some_if false = None

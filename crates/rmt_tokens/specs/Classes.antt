@@ -18,6 +18,7 @@ pub data Class : Type 0 where
   End : Class
   Limit : Class
 
+-- the two marks are the same
 abbrev pub is_same : Mark → Mark → Bool
 is_same marks.Open marks.Open = true
 is_same marks.Close marks.Close = true
@@ -38,6 +39,7 @@ is_same _ _ = false
 abbrev pub is_connective : List ℕ → Bool
 is_connective word = is_keyword word (codes "not") || (is_keyword word (codes "and") || is_keyword word (codes "or"))
 
+-- the token is of this class
 abbrev pub is_of : Class → Token → Bool
 is_of (Keyword small) (Word word) = is_keyword word small
 is_of (Exactly text) (Word word) = bytes_eq word text

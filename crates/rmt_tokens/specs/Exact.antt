@@ -10,6 +10,7 @@ abbrev pub left_of : List Spot → ℕ
 left_of [] = 0
 left_of (s ∷ ss) = s.left
 
+-- the next reader reads on behind the first, unless it met a fault
 infixl 10 ◌>>=◌
 abbrev pub ◌>>=◌ : {A B : Type 0} → Result A (List Spot) → (A → Result B (List Spot)) → Result B (List Spot)
 (Ok x) >>= f = f x
@@ -22,6 +23,7 @@ abbrev pub Stops : List Class → List Spot → Type 0
 Stops on [] = Unit {0}
 Stops on (s ∷ ss) = among on s ≡ false
 
+-- no token goes on
 abbrev pub never : {A : Type 0} → A → List Class
 never a = []
 
@@ -72,10 +74,12 @@ One p [] a = ⊥
 One p (s ∷ []) a = p s ≡ Some a
 One p (s ∷ t ∷ ts) a = ⊥
 
+-- the value of a token that the test gives one, and else a fault at it
 abbrev pub one_of : {A : Type 0} → Option A → Spot → List Spot → Result (A × List Spot) (List Spot)
 one_of (Some a) s ss = Ok (a, ss)
 one_of None s ss = Err (s ∷ ss)
 
+-- reads one token by its test
 abbrev pub one : {A : Type 0} → (Spot → Option A) → List Spot → Result (A × List Spot) (List Spot)
 one p [] = Err []
 one p (s ∷ ss) = one_of (p s) s ss
@@ -102,6 +106,7 @@ Maybe L ts (Some a) = L ts a
 abbrev pub maybe_read : {A : Type 0} → List Class → (List Spot → Result (A × List Spot) (List Spot)) → List Spot → Result (Option A × List Spot) (List Spot)
 maybe_read cs r ts = if next_among cs ts then (r ts >>= λ x. Ok (Some x.0, x.1)) else Ok (None, ts)
 
+-- which tokens go on: those that begin it where it is not there
 abbrev pub on_maybe : {A : Type 0} → List Class → (A → List Class) → Option A → List Class
 on_maybe cs on None = cs
 on_maybe cs on (Some a) = on a
@@ -118,10 +123,12 @@ either_read cs r q ts = if next_among cs ts then r ts else q ts
 abbrev pub further : {A : Type 0} → List Spot → List Spot → Result A (List Spot)
 further e f = if nat_lt (length f) (length e) then Err f else Err e
 
+-- the second reader, behind a fault of the first
 abbrev pub second_try : {A : Type 0} → List Spot → Result A (List Spot) → Result A (List Spot)
 second_try e (Ok x) = Ok x
 second_try e (Err f) = further e f
 
+-- the first reader, and the second where it met a fault
 abbrev pub first_try : {A : Type 0} → Result A (List Spot) → Result A (List Spot) → Result A (List Spot)
 first_try (Ok x) second = Ok x
 first_try (Err e) second = second_try e second
@@ -144,6 +151,7 @@ unfoldable pub many_in : {S : Type 0} → ℕ → (S → Bool) → List Class �
 many_in zero may cs r s ts = Err ts
 many_in (suc n) may cs r s ts = if may s && next_among cs ts then (r s ts >>= λ x. many_in n may cs r x.0 x.1) else Ok (s, ts)
 
+-- which tokens go on: those that begin one more, where one more may come
 abbrev pub on_many : {S : Type 0} → (S → Bool) → List Class → (S → List Class) → S → List Class
 on_many may cs on s = if may s then cs ++ on s else on s
 
@@ -153,6 +161,7 @@ many_read may cs r s ts = many_in (suc (length ts)) may cs r s ts
 
 -- ---- rules: a form with its reader
 
+-- a form, and the reader that reads it
 pub record Rule (A : Type 0) : Type 1 where
   pub form : List Spot → A → Type 0
   pub read : List Spot → Result (A × List Spot) (List Spot)
@@ -161,6 +170,7 @@ pub record Rule (A : Type 0) : Type 1 where
 abbrev pub token : {A : Type 0} → (Spot → Option A) → Rule A
 token p = record { form = One p; read = one p }
 
+-- a rule behind a rule, which may speak of the value of the first
 infixr 5 ◌then◌
 abbrev pub ◌then◌ : {A B : Type 0} → Rule A → (A → Rule B) → Rule B
 r then k = record { form = Then r.form (λ a. (k a).form); read = λ ts. r.read ts >>= λ x. (k x.0).read x.1 }
@@ -185,6 +195,7 @@ longest r q = record { form = Either r.form q.form; read = longest_read r.read q
 abbrev pub many : {S : Type 0} → (S → Bool) → List Class → (S → Rule S) → S → Rule S
 many may cs r s = record { form = Many may (λ m. (r m).form) s; read = many_read may cs (λ m. (r m).read) s }
 
+-- as many as there are
 abbrev pub always : {S : Type 0} → S → Bool
 always s = true
 
@@ -196,11 +207,12 @@ item r all = r then λ a. gives (all ++ a ∷ [])
 abbrev pub IsExact : {A : Type 0} → Rule A → (A → List Class) → Type 0
 IsExact r on = Exact r.form r.read on
 
--- What a function over bytes returned, seen by view, is what reading the tokens gives, unless memory ran out. A fault tells how many bytes are left.
+-- a fault tells how many bytes are left; want of memory may come at any time
 abbrev pub Fails : {Y : Type 0} → ReadError → Result Y (List Spot) → Type 0
 Fails errors.Memory read = Unit {0}
 Fails (errors.Fault left) read = IsErrAnd read (λ rest. left ≡ left_of rest)
 
+-- what a function over bytes returned, seen by view, is what reading the tokens gives, unless memory ran out
 abbrev pub Tells : {X Y : Type 0} → (X → Y) → Result X ReadError → Result Y (List Spot) → Type 0
 Tells view (Ok x) read = read ≡ Ok (view x)
 Tells view (Err e) read = Fails e read

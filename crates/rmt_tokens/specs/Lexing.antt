@@ -11,10 +11,12 @@ use Rattle.rmt_tokens.specs.Exact.{one}
 use Rattle.rmt_tokens.specs.Singles.{of_class}
 use Rattle.rmt_tokens.specs.Tokens.{Token, Word, Number, Symbol, Data, Semicolon, Bad, Spelled, Spot, spot, spots, front_of, text_from, text_token}
 
+-- how many bytes spell the text
 abbrev pub text_spelling : Option Spelled → Option ℕ
 text_spelling None = None
 text_spelling (Some text) = Some text.spelling
 
+-- the text's bytes
 abbrev pub text_bytes : Option Spelled → Option (List ℕ)
 text_bytes None = None
 text_bytes (Some text) = Some text.bytes

@@ -71,6 +71,7 @@ escaped b =
     if b == 39 then Some 39 else (if b == 92 then Some 92 else (if b == 110 then Some 10 else
     (if b == 114 then Some 13 else (if b == 116 then Some 9 else (if b == 48 then Some 0 else None)))))
 
+-- a text goes on with the byte that is escaped, where there is one
 abbrev pub goes_with : Option ℕ → TextStep
 goes_with None = Wrong
 goes_with (Some byte) = Goes Inside (Some byte)
@@ -86,18 +87,22 @@ pub record Spelled : Type 0 where
   pub bytes : List ℕ
   pub spelling : ℕ
 
+-- the bytes with one more in front, where there is one
 abbrev pub with_byte : Option ℕ → List ℕ → List ℕ
 with_byte None bytes = bytes
 with_byte (Some byte) bytes = byte ∷ bytes
 
+-- the text with one more byte of its spelling in front, and what that stands for
 abbrev pub longer : Option ℕ → Option Spelled → Option Spelled
 longer byte None = None
 longer byte (Some text) = Some (record { bytes = with_byte byte text.bytes; spelling = suc text.spelling })
 
+-- where the bytes end a text is over only behind its closing quote
 abbrev pub text_over : Within → Option Spelled
 text_over Quoted = Some (record { bytes = []; spelling = 0 })
 text_over _ = None
 
+-- what a step makes of a text
 abbrev pub text_after : TextStep → (Within → Option Spelled) → Option Spelled
 text_after Ends rest = Some (record { bytes = []; spelling = 0 })
 text_after Wrong rest = None
@@ -113,6 +118,7 @@ abbrev pub text_token : Option Spelled → Token
 text_token None = Bad
 text_token (Some text) = Text text.bytes
 
+-- how many bytes spell the text, and none where there is none
 abbrev pub spelling_or : Option Spelled → ℕ
 spelling_or None = 0
 spelling_or (Some text) = text.spelling
@@ -124,9 +130,11 @@ pub record Sign : Type 0 where
   pub token : Token
   pub more : ℕ
 
+-- a symbol with so many bytes behind its first
 abbrev pub sign : Mark → ℕ → Sign
 sign mark more = record { token = Symbol mark; more = more }
 
+-- this byte stands next
 abbrev pub next_is_byte : ℕ → List ℕ → Bool
 next_is_byte b [] = false
 next_is_byte b (c ∷ cs) = c == b
@@ -144,6 +152,7 @@ sign_of b bs =
 
 -- ---- data
 
+-- the line ends here
 abbrev pub line_over : List ℕ → Bool
 line_over [] = true
 line_over (b ∷ bs) = b == 10
@@ -173,12 +182,15 @@ pub record Front : Type 0 where
   pub more : ℕ
   pub context : Context
 
+-- white space or a comment, with so many bytes behind its first
 abbrev pub gap : ℕ → Context → Front
 gap more context = record { is_token = false; token = Bad; more = more; context = context }
 
+-- a token, with so many bytes behind its first
 abbrev pub there : Token → ℕ → Context → Front
 there token more context = record { is_token = true; token = token; more = more; context = context }
 
+-- what stands behind the word CSV: data, where FORMAT stood before it
 abbrev pub after_csv : Context → Context
 after_csv Format = Csv
 after_csv _ = Plain
@@ -192,6 +204,7 @@ abbrev pub begins_comment : List ℕ → Bool
 begins_comment [] = false
 begins_comment (b ∷ bs) = b == 45 && next_is_byte 45 bs
 
+-- a byte that doesn't end a line
 abbrev pub is_within : ℕ → Bool
 is_within b = not (b == 10)
 
@@ -211,15 +224,18 @@ front_in context b bs =
     else (if b == 39 then there (text_token (text_from Inside bs)) (spelling_or (text_from Inside bs)) Plain
     else there (sign_of b bs).token (sign_of b bs).more Plain))))
 
+-- what stands at the front, in each context
 unfoldable pub front_of : Context → ℕ → List ℕ → Front
 front_of Csv b bs = front_in_csv b bs
 front_of Plain b bs = front_in Plain b bs
 front_of Format b bs = front_in Format b bs
 front_of Over b bs = front_in Over b bs
 
+-- the tokens with the one at the front, where there is one
 abbrev pub with_spot : Front → ℕ → List Spot → List Spot
 with_spot front left rest = if front.is_token then record { token = front.token; left = left } ∷ rest else rest
 
+-- a token with so many bytes from its first one on
 abbrev pub spot : Token → ℕ → Spot
 spot token left = record { token = token; left = left }
 

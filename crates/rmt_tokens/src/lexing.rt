@@ -1,12 +1,13 @@
-ghost use Rattle.std.specs.Prelude.{◌≡◌, ◌<◌, ◌≤◌, ◌^◌, length, drop, MatchOption, true, false, ◌+◌, slice_index, [], ◌∷◌};
+ghost use Rattle.std.specs.Prelude.{◌≡◌, ◌<◌, ◌≤◌, length, drop, true, false, ◌+◌, slice_index, [], ◌∷◌};
 ghost use Rattle.std.specs.List.{prefix_len};
 ghost use Rattle.std.specs.Char.{is_ascii_digit as digit_test};
-ghost use Rattle.rmt_tokens.specs.Tokens.{is_white as white_test, is_blank as blank_test, is_within as within_test, begins_word as word_begins, begins_comment as comment_begins, is_word_byte as word_test, is_keyword as keyword_test, after_word as after_word_of, value_of, word_token, number_token, sign_of, spots, next_is_byte};
+ghost use Rattle.rmt_tokens.specs.Tokens.{is_white as white_test, is_blank as blank_test, is_within as within_test, begins_word as word_begins, begins_comment as comment_begins, is_word_byte as word_test, is_keyword as keyword_test, after_word as after_word_of, word_token, number_token, sign_of, spots, next_is_byte};
 ghost use Rattle.rmt_tokens.specs.Lexing.{token_of, tokens, IsFront, IsNext, BeginsToken};
 ghost use Rattle.rmt_tokens.specs.declared.context.Context.TheVariants.{Csv};
 
 use crate::context::Context;
 use crate::cursor::Cursor;
+use crate::digits::{decimal_value, digits_len};
 use crate::lines::data_len;
 use crate::mark::Mark;
 use crate::quoted::text_len;
@@ -82,17 +83,6 @@ fn word_len(bytes: &[u8]) -> usize
     bytes.iter().take_while(|byte| is_word_byte(**byte)).count()
 }
 
-/// How many bytes at the front are digits.
-fn digits_len(bytes: &[u8]) -> usize
-    ensures len { result ≡ prefix_len digit_test bytes.now }
-    ensures bound { result ≤ length bytes.now }
-{
-    bytes
-        .iter()
-        .take_while(|byte| byte.is_ascii_digit())
-        .count()
-}
-
 /// Whether a comment begins here.
 fn begins_comment(bytes: &[u8]) -> bool
     ensures { result ≡ comment_begins bytes.now }
@@ -134,23 +124,6 @@ fn symbol(bytes: &[u8]) -> (Token<'static>, usize)
     }
 }
 
-/// The value of digits, none where it is 2^128 or more.
-fn value(digits: &[u8]) -> Option<u128>
-    ensures { MatchOption result (2 ^ 128 ≤ value_of digits.now) (λ n. n ≡ value_of digits.now) }
-{
-    let mut value: u128 = 0;
-    'digits: for digit in digits {
-        let Some(tens) = value.checked_mul(10) else {
-            return None;
-        };
-        let Some(sum) = tens.checked_add(u128::from(digit.saturating_sub(b'0'))) else {
-            return None;
-        };
-        value = sum;
-    }
-    Some(value)
-}
-
 /// The token of a run of digits.
 fn number(digits: &[u8]) -> Token<'static>
     ensures { token_of result ≡ number_token digits.now }
@@ -158,7 +131,7 @@ fn number(digits: &[u8]) -> Token<'static>
     if digits.len() > MOST_DIGITS {
         return Token::Bad;
     }
-    match value(digits) {
+    match decimal_value(digits) {
         Some(value) => Token::Number(value),
         None => Token::Bad,
     }

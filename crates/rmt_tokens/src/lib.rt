@@ -3,6 +3,7 @@
 
 mod context;
 mod cursor;
+mod digits;
 mod lexing;
 mod lines;
 mod mark;
@@ -13,6 +14,7 @@ mod token;
 
 pub use context::Context;
 pub use cursor::Cursor;
+pub use digits::{decimal_value, digits_len};
 pub use lexing::{is_keyword, next_token};
 pub use mark::Mark;
 pub use read_error::ReadError;

@@ -2,3 +2,4 @@ pub mod Sorting
 pub mod Totals
 pub mod Fitting
 pub mod Making
+pub mod NameSets

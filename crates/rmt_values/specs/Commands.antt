@@ -64,6 +64,7 @@ pub record AreAlike (shape : Shape) (column other : ℕ) : Type 0 where
   pub first : kind_at shape.columns column ≡ Some kind
   pub second : kind_at shape.columns other ≡ Some kind
 
+-- a type of numbers
 abbrev pub is_number : Kind → Bool
 is_number kinds.UInt64 = true
 is_number kinds.Int64 = true
@@ -82,6 +83,7 @@ RightFits shape target (right.Column c) = AreAlike shape target c
 RightFits shape target (right.Plus c by) = AddsUp shape target c by
 RightFits shape target (right.Minus c by) = AddsUp shape target c by
 
+-- the column is none of these
 abbrev pub NotAmong : List ℕ → ℕ → Type 0
 NotAmong [] column = Unit {0}
 NotAmong (c ∷ cs) column = (c ≡ column → ⊥) × NotAmong cs column

@@ -14,6 +14,7 @@ use Rattle.rmt_values.specs.declared.filter.Filter.{Filter}
 use Rattle.rmt_values.specs.declared.filter.Filter.TheVariants as written
 use Rattle.rmt_values.specs.Rows.{Shape, kind_at, kind_of, is_value, value_cmp}
 
+-- the comparison holds of what stands in this order
 abbrev pub test_holds : Cmp → Ordering → Bool
 test_holds cmps.Eq o = is_eq o
 test_holds cmps.Ne o = not (is_eq o)
@@ -22,6 +23,7 @@ test_holds cmps.Le o = is_le o
 test_holds cmps.Gt o = is_gt o
 test_holds cmps.Ge o = not (is_lt o)
 
+-- the comparison holds of a cell that is there
 abbrev pub cell_holds : Cmp → Option Value → Value → Bool
 cell_holds cmp None v = false
 cell_holds cmp (Some u) v = test_holds cmp (value_cmp u v)

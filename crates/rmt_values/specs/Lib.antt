@@ -3,3 +3,4 @@ pub mod Schemas
 pub mod Order
 pub mod Filters
 pub mod Commands
+pub mod Inside

@@ -29,6 +29,7 @@ abbrev pub AllBelow : ℕ → List ℕ → Type 0
 AllBelow n [] = Unit {0}
 AllBelow n (c ∷ cs) = (c < n) × AllBelow n cs
 
+-- the type of a value
 abbrev pub kind_of : Value → Kind
 kind_of (UInt a) = kinds.UInt64
 kind_of (Int a) = kinds.Int64
@@ -40,6 +41,7 @@ is_value (UInt a) = true
 is_value (Int a) = true
 is_value (Text a) = nat_le (length a) 65535
 
+-- the two types are the same
 abbrev pub same_kind : Kind → Kind → Bool
 same_kind kinds.UInt64 kinds.UInt64 = true
 same_kind kinds.Int64 kinds.Int64 = true

@@ -38,10 +38,12 @@ wrong_setting granularity window =
     (cond (nat_le 1 granularity && nat_le granularity 65536) None (Some (codes "index_granularity")))
     (cond (nat_le window 100000) None (Some (codes "replicated_deduplication_window")))
 
+-- there are no columns
 abbrev pub no_columns : List Column → Option SchemaError
 no_columns [] = Some NoColumns
 no_columns (c ∷ cs) = None
 
+-- there are more than 64 columns
 abbrev pub too_many : List Column → Option SchemaError
 too_many columns = cond (nat_le (length columns) 64) None (Some (LimitReached limits.Columns 64))
 

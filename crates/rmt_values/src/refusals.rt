@@ -1,19 +1,12 @@
 //! Why columns, a key and settings make no schema.
 ghost use Rattle.std.specs.Prelude.{◌≡◌, ◌≤◌, length, IfOk};
 ghost use Rattle.rmt_values.specs.Rows.{place_from};
-ghost use Rattle.rmt_values.specs.Schemas.{
-  names_of,
-  has_name as has,
-  first_unknown,
-  first_double,
-  wrong_setting,
-  schema_refusal,
-  places_of as places_in,
-};
+ghost use Rattle.rmt_values.specs.Schemas.{wrong_setting, schema_refusal, places_of as places_in};
 
 use crate::column::Column;
 use crate::limit::Limit;
 use crate::name::Name;
+use crate::naming::{double_column, double_name, unknown_column};
 use crate::schema_error::SchemaError;
 use std::alloc::{AllocError, Global};
 
@@ -40,13 +33,13 @@ pub fn refusal_of(
     if columns.is_empty() {
         return Ok(Some(SchemaError::NoColumns));
     }
-    if let Some(name) = unknown_column(columns, key)? {
+    if let Some(name) = unknown_column(alloc, columns, key)? {
         return Ok(Some(SchemaError::UnknownColumn(name)));
     }
-    if let Some(name) = double_column(columns)? {
+    if let Some(name) = double_column(alloc, columns)? {
         return Ok(Some(SchemaError::DoubleColumn(name)));
     }
-    if let Some(name) = double_name(key)? {
+    if let Some(name) = double_name(alloc, key)? {
         return Ok(Some(SchemaError::DoubleColumn(name)));
     }
     if let Some(name) = setting_out_of_range(alloc, granularity, window)? {
@@ -86,46 +79,6 @@ pub fn place_of(columns: &[Column], name: &Name) -> Option<u16>
     None
 }
 
-/// The first name of the key that no column has.
-fn unknown_column(columns: &[Column], key: &[Name]) -> Result<Option<Name>, AllocError>
-    ensures { IfOk result (λ name. name ≡ first_unknown (names_of columns.now) key.now) }
-{
-    'names: for name in key {
-        if !has_column(columns, name) {
-            return Ok(Some(name.copy()?));
-        }
-    }
-    Ok(None)
-}
-
-/// The first name of a column that a later one has too.
-fn double_column(columns: &[Column]) -> Result<Option<Name>, AllocError>
-    ensures { IfOk result (λ name. name ≡ first_double (names_of columns.now)) }
-{
-    let mut rest = columns;
-    'columns: while let [first, others @ ..] = rest {
-        if has_column(others, &first.name) {
-            return Ok(Some(first.name.copy()?));
-        }
-        rest = others;
-    }
-    Ok(None)
-}
-
-/// The first name that stands in the list once more.
-fn double_name(names: &[Name]) -> Result<Option<Name>, AllocError>
-    ensures { IfOk result (λ name. name ≡ first_double names.now) }
-{
-    let mut rest = names;
-    'names: while let [first, others @ ..] = rest {
-        if has_name(others, first) {
-            return Ok(Some(first.copy()?));
-        }
-        rest = others;
-    }
-    Ok(None)
-}
-
 /// The name of the first setting whose number is out of its range.
 fn setting_out_of_range(
     alloc: Global,
@@ -141,28 +94,4 @@ fn setting_out_of_range(
         return Ok(Some(Name::from_slice(alloc, b"replicated_deduplication_window")?));
     }
     Ok(None)
-}
-
-/// Whether a column has this name.
-fn has_column(columns: &[Column], name: &Name) -> bool
-    ensures { result ≡ has (names_of columns.now) name.now }
-{
-    'columns: for column in columns {
-        if column.name.equals(name) {
-            return true;
-        }
-    }
-    false
-}
-
-/// Whether the name is one of these.
-fn has_name(names: &[Name], name: &Name) -> bool
-    ensures { result ≡ has names.now name.now }
-{
-    'names: for one in names {
-        if one.equals(name) {
-            return true;
-        }
-    }
-    false
 }

@@ -1,6 +1,6 @@
 use Rattle.std.proofs.Common.{arith, ◌+◌, ◌*◌, ◌≤◌, ◌^◌}
 use Rattle.rmt_tokens.proofs.Numbers.{too_large}
-use Rattle.rmt_data.proofs.values.value.Goals as goal
+use Rattle.rmt_tokens.proofs.digits.decimal_value.Goals as goal
 
 pub returns-in_default : goal.returns-in_default
 returns-in_default c =

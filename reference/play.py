@@ -1,0 +1,689 @@
+#!/usr/bin/env python3
+"""The language of scripts once more, written from docs/scripts.md alone: reads a script from standard input, writes its
+replies and ends with the program's code. It is slow and shares nothing with the program, so that the two can be
+compared (reference/check)."""
+import sys
+
+WHITE = b" \t\r\n"
+DIGITS = b"0123456789"
+LETTERS = b"abcdefghijklmnopqrstuvwxyzABCDEFGHIJKLMNOPQRSTUVWXYZ_"
+ESCAPES = {ord("'"): 39, ord("\\"): 92, ord("n"): 10, ord("r"): 13, ord("t"): 9, ord("0"): 0}
+SYMBOLS = ["!=", "<>", "<=", ">=", "(", ")", ",", ";", "=", "<", ">", "+", "-", "*", "@"]
+
+
+# ---- tokens
+
+
+class Token:
+    def __init__(self, kind, value, start, end):
+        self.kind, self.value, self.start, self.end = kind, value, start, end
+
+
+class Text:
+    """A script, its tokens, and the furthest token that no form could take."""
+
+    def __init__(self, script):
+        self.script, self.known, self.furthest = script, {}, -1
+
+    def token(self, at):
+        if at not in self.known:
+            self.known[at] = self.scan(self.behind_white(at))
+        return self.known[at]
+
+    def behind_white(self, at):
+        script = self.script
+        while at < len(script):
+            if script[at] in WHITE:
+                at += 1
+            elif script.startswith(b"--", at):
+                end = script.find(b"\n", at)
+                at = len(script) if end < 0 else end
+            else:
+                break
+        return at
+
+    def scan(self, at):
+        script = self.script
+        if at == len(script):
+            return Token("end", None, at, at)
+        if script[at] in LETTERS:
+            end = self.run_of(LETTERS + DIGITS, at)
+            return Token("word" if end - at <= 255 else "bad", script[at:end], at, end)
+        if script[at] in DIGITS:
+            end = self.run_of(DIGITS, at)
+            is_number = end - at <= 39 and int(script[at:end]) < 2**128
+            return Token("number" if is_number else "bad", int(script[at:end]) if is_number else None, at, end)
+        if script[at] == ord("'"):
+            return self.scan_text(at)
+        for symbol in SYMBOLS:
+            if script.startswith(symbol.encode(), at):
+                return Token("symbol", "!=" if symbol == "<>" else symbol, at, at + len(symbol))
+        return Token("bad", None, at, at + 1)
+
+    def run_of(self, allowed, at):
+        while at < len(self.script) and self.script[at] in allowed:
+            at += 1
+        return at
+
+    def scan_text(self, start):
+        script, at, value = self.script, start + 1, bytearray()
+        while at < len(script):
+            if script.startswith(b"''", at):
+                value.append(39)
+                at += 2
+            elif script[at] == ord("'"):
+                return Token("text", bytes(value), start, at + 1)
+            elif script[at] == ord("\\"):
+                if script[at + 1 : at + 2] == b"" or script[at + 1] not in ESCAPES:
+                    break
+                value.append(ESCAPES[script[at + 1]])
+                at += 2
+            else:
+                value.append(script[at])
+                at += 1
+        return Token("bad", None, start, at)
+
+    def fails_at(self, at):
+        self.furthest = max(self.furthest, at)
+        return []
+
+
+# ---- rules: from a place to all places where the form may end, each with what it says. All ways are followed, so that
+# the furthest token that was refused is the first one that can't follow those before it in any form
+
+
+def token(test):
+    def rule(text, at):
+        found = text.token(at)
+        value = test(found)
+        return text.fails_at(found.start) if value is None else [(found.end, value)]
+
+    return rule
+
+
+def keyword(word):
+    return token(lambda t: True if t.kind == "word" and t.value.lower() == word.lower().encode() else None)
+
+
+def exactly(word):
+    return token(lambda t: True if t.kind == "word" and t.value == word.encode() else None)
+
+
+def symbol(sign):
+    return token(lambda t: True if t.kind == "symbol" and t.value == sign else None)
+
+
+def number_of(lowest, highest):
+    return token(lambda t: t.value if t.kind == "number" and lowest <= t.value <= highest else None)
+
+
+WORD = token(lambda t: t.value if t.kind == "word" else None)
+NUMBER = token(lambda t: t.value if t.kind == "number" else None)
+TEXT = token(lambda t: t.value if t.kind == "text" else None)
+END = token(lambda t: True if t.kind == "end" or (t.kind == "symbol" and t.value == ";") else None)
+COMPARISON = token(lambda t: t.value if t.kind == "symbol" and t.value in ("=", "!=", "<", "<=", ">", ">=") else None)
+FILTER_COLUMN = token(lambda t: t.value if t.kind == "word" and t.value.lower() not in (b"not", b"and", b"or") else None)
+
+
+def sequence(*rules):
+    def rule(text, at):
+        ways = [(at, ())]
+        for each in rules:
+            ways = [(end, said + (value,)) for (place, said) in ways for (end, value) in each(text, place)]
+        return ways
+
+    return rule
+
+
+def choice(*rules):
+    return lambda text, at: [way for rule in rules for way in rule(text, at)]
+
+
+def maybe(rule):
+    return choice(rule, lambda text, at: [(at, None)])
+
+
+def says(rule, view):
+    return lambda text, at: [(end, view(value)) for (end, value) in rule(text, at)]
+
+
+def only(rule, place):
+    """Of what a sequence says, the one at a place."""
+    return says(rule, lambda said: said[place])
+
+
+def times(rule, most=None):
+    def repeated(text, at):
+        ways, last, count = [(at, [])], [(at, [])], 0
+        while last and count != most:
+            last = [(end, said + [value]) for (place, said) in last for (end, value) in rule(text, place)]
+            ways, count = ways + last, count + 1
+        return ways
+
+    return repeated
+
+
+def listed(rule, between=symbol(",")):
+    return says(sequence(rule, times(only(sequence(between, rule), 1))), lambda said: [said[0]] + said[1])
+
+
+def in_parentheses(*rules):
+    return says(sequence(symbol("("), *rules, symbol(")")), lambda said: said[1:-1])
+
+
+NAMES = only(in_parentheses(listed(WORD)), 0)
+LITERAL = choice(
+    says(TEXT, lambda text: ("text", text)),
+    says(sequence(maybe(symbol("-")), NUMBER), lambda said: ("number", bool(said[0]), said[1])),
+)
+
+# ---- filters: a comparison is ("compare", column, sign, literal); at most 256 of them, and 64 NOTs and parentheses open
+
+
+def comparisons_in(tree):
+    if tree is None:
+        return []
+    return [tree] if tree[0] == "compare" else [found for part in tree[1:] for found in comparisons_in(part)]
+
+
+def joined(text, at, opens, before, word, part):
+    ways, last = [], part(text, at, opens, before)
+    while last:
+        ways = ways + last
+        last = [
+            (end, (word, tree, further))
+            for (place, tree) in last
+            for (behind, _) in keyword(word)(text, place)
+            for (end, further) in part(text, behind, opens, before + len(comparisons_in(tree)))
+        ]
+    return ways
+
+
+def disjunction(text, at, opens, before):
+    return joined(text, at, opens, before, "or", conjunction)
+
+
+def conjunction(text, at, opens, before):
+    return joined(text, at, opens, before, "and", unary)
+
+
+def unary(text, at, opens, before):
+    ways = []
+    if opens > 0:
+        for behind, _ in keyword("not")(text, at):
+            ways += [(end, ("not", tree)) for (end, tree) in unary(text, behind, opens - 1, before)]
+        for behind, _ in symbol("(")(text, at):
+            for close, tree in disjunction(text, behind, opens - 1, before):
+                ways += [(end, tree) for (end, _) in symbol(")")(text, close)]
+    if before < 256:
+        comparison = sequence(FILTER_COLUMN, COMPARISON, LITERAL)
+        ways += says(comparison, lambda said: ("compare",) + said)(text, at)
+    else:
+        text.fails_at(text.token(at).start)
+    return ways
+
+
+def FILTER(text, at):
+    return disjunction(text, at, 64, 0)
+
+
+# ---- statements; a form that nothing plays says ("unbuilt",)
+
+
+def unbuilt(*rules):
+    return says(sequence(*rules), lambda said: ("unbuilt",))
+
+
+TUPLE = in_parentheses()
+TYPE = choice(*(says(exactly(name), lambda _, name=name: name) for name in ("UInt64", "Int64", "String")))
+KEY = choice(says(sequence(exactly("tuple"), TUPLE), lambda _: []), says(WORD, lambda word: [word]), NAMES)
+PARTITION_RULE = choice(
+    says(sequence(exactly("tuple"), TUPLE), lambda _: None),
+    WORD,
+    sequence(exactly("intDiv"), in_parentheses(WORD, symbol(","), NUMBER)),
+)
+
+
+def settings(text, at):
+    """SETTINGS and one or two settings, each at most once."""
+    ways = []
+
+    def further(place, have):
+        for name in ("index_granularity", "replicated_deduplication_window"):
+            if name not in have:
+                for end, said in sequence(exactly(name), symbol("="), NUMBER)(text, place):
+                    more = {**have, name: said[2]}
+                    ways.append((end, more))
+                    for behind, _ in symbol(",")(text, end) if len(more) < 2 else []:
+                        further(behind, more)
+
+    for place, _ in keyword("settings")(text, at):
+        further(place, {})
+    return ways
+
+
+def create_of(said):
+    table, (columns,), partition, key, setting = said[2], said[3], said[8], said[11], said[12] or {}
+    if partition is not None or "replicated_deduplication_window" in setting:
+        return ("unbuilt",)
+    return ("create", table, columns, key, setting.get("index_granularity", 8192))
+
+
+CREATE = says(
+    sequence(
+        keyword("create"), keyword("table"), WORD, in_parentheses(listed(sequence(WORD, TYPE))),
+        keyword("engine"), symbol("="), exactly("ReplicatedMergeTree"),
+        maybe(in_parentheses(maybe(sequence(TEXT, symbol(","), TEXT)))),
+        maybe(only(sequence(keyword("partition"), keyword("by"), PARTITION_RULE), 2)),
+        keyword("order"), keyword("by"), KEY, maybe(settings),
+    ),
+    create_of,
+)  # fmt: skip
+
+
+def data(text, at):
+    """What stands behind FORMAT CSV: from the next line on, up to a line that is `;`, or to the end."""
+    script, start = text.script, text.run_of(b" \t\r", at)
+    if start == len(script):
+        return [(start, b"")]
+    if script[start] != ord("\n"):
+        return text.fails_at(start)
+    start += 1
+    line = start
+    while line < len(script):
+        end = script.find(b"\n", line)
+        if script[line : len(script) if end < 0 else end] in (b";", b";\r"):
+            return [(line, script[start:line])]
+        if end < 0:
+            break
+        line = end + 1
+    return [(len(script), script[start:])]
+
+
+ROW = only(in_parentheses(listed(LITERAL)), 0)
+ROWS = says(sequence(ROW, times(only(sequence(maybe(symbol(",")), ROW), 1))), lambda said: [said[0]] + said[1])
+OFFERED = choice(
+    says(sequence(keyword("values"), ROWS), lambda said: ("values", said[1])),
+    says(sequence(keyword("format"), keyword("csv"), data), lambda said: ("csv", said[2])),
+)
+INTO = sequence(keyword("insert"), keyword("into"), maybe(keyword("table")), WORD, maybe(NAMES))
+QUORUM = sequence(keyword("settings"), exactly("insert_quorum"), symbol("="), NUMBER)
+INSERT = says(sequence(INTO, OFFERED), lambda said: ("insert", said[0][3], said[0][4], said[1]))
+
+
+def aggregate(name):
+    return says(sequence(keyword(name), in_parentheses(WORD)), lambda said: (name, said[1][0]))
+
+
+ITEM = choice(
+    says(sequence(keyword("count"), in_parentheses(maybe(symbol("*")))), lambda said: ("count", None)),
+    aggregate("sum"), aggregate("min"), aggregate("max"),
+    says(WORD, lambda word: ("column", word)),
+)  # fmt: skip
+PLAIN_SELECT = says(
+    sequence(
+        keyword("select"), choice(says(symbol("*"), lambda _: []), listed(ITEM)), keyword("from"), WORD,
+        maybe(only(sequence(keyword("where"), FILTER), 1)),
+        maybe(only(sequence(keyword("group"), keyword("by"), listed(WORD)), 2)),
+    ),
+    lambda said: {"table": said[3], "items": said[1], "filter": said[4], "group": said[5] or []},
+)  # fmt: skip
+SELECT = says(sequence(PLAIN_SELECT, maybe(keyword("sync"))), lambda said: ("select", said[0], bool(said[1])))
+SEQUENTIAL = sequence(keyword("settings"), exactly("select_sequential_consistency"), symbol("="), NUMBER)
+INDEXES = sequence(exactly("indexes"), symbol("="), number_of(1, 1))
+EXPLAIN = says(sequence(keyword("explain"), maybe(INDEXES), PLAIN_SELECT), lambda said: ("explain", said[2]))
+
+RIGHT = choice(LITERAL, sequence(WORD, maybe(sequence(choice(symbol("+"), symbol("-")), NUMBER))))
+PARTITION = choice(NUMBER, sequence(exactly("tuple"), TUPLE), sequence(keyword("id"), TEXT))
+ALTER = unbuilt(
+    keyword("alter"), keyword("table"), WORD,
+    choice(
+        sequence(keyword("update"), listed(sequence(WORD, symbol("="), RIGHT)), keyword("where"), FILTER),
+        sequence(keyword("delete"), keyword("where"), FILTER),
+        sequence(keyword("drop"), keyword("partition"), PARTITION),
+    ),
+)  # fmt: skip
+
+
+def words(text):
+    return sequence(*(keyword(word) for word in text.split()))
+
+
+SYSTEM = choice(words("sync replica"), words("restart replica"), words("stop fetches"), words("start fetches"))
+ACT = choice(
+    INSERT, unbuilt(INTO, QUORUM, OFFERED), SELECT, unbuilt(PLAIN_SELECT, SEQUENTIAL), EXPLAIN, ALTER,
+    unbuilt(words("optimize table"), WORD, maybe(sequence(keyword("partition"), PARTITION)), keyword("final")),
+    unbuilt(words("show parts from"), WORD), unbuilt(words("check table"), WORD),
+    unbuilt(words("wait mutation"), WORD, NUMBER), unbuilt(keyword("system"), SYSTEM, WORD),
+)  # fmt: skip
+REPLICA = maybe(only(sequence(symbol("@"), WORD), 1))
+LANE = sequence(keyword("lane"), END, times(sequence(REPLICA, choice(INSERT, SELECT, ALTER), END)))
+LATER = choice(
+    CREATE,
+    says(sequence(REPLICA, ACT), lambda said: said[1] if said[1][0] == "unbuilt" else ("at", said[0], said[1])),
+    unbuilt(keyword("kill"), WORD), unbuilt(keyword("restart"), WORD),
+    unbuilt(keyword("run"), WORD, NUMBER, keyword("seed"), NUMBER),
+    unbuilt(keyword("lanes"), END, LANE, times(LANE, 7), keyword("end")),
+)  # fmt: skip
+FIRST = choice(says(sequence(keyword("replicas"), number_of(1, 8)), lambda said: ("replicas", said[1])), LATER)
+
+
+# ---- values and records
+
+
+def number_value(kind, minus, size, zero_may_have_minus):
+    if kind == "UInt64":
+        return size if size < 2**64 and (not minus or (zero_may_have_minus and size == 0)) else None
+    value = -size if minus else size
+    return value if -(2**63) <= value < 2**63 else None
+
+
+def literal_value(kind, literal, in_filter):
+    if literal[0] == "text":
+        return literal[1] if kind == "String" and len(literal[1]) <= 65535 else None
+    return None if kind == "String" else number_value(kind, literal[1], literal[2], in_filter)
+
+
+def field_value(kind, field):
+    if kind == "String":
+        return field if len(field) <= 65535 else None
+    minus = kind == "Int64" and field.startswith(b"-")
+    digits = field[1:] if minus else field
+    if not 1 <= len(digits) <= 39 or any(byte not in DIGITS for byte in digits):
+        return None
+    return number_value(kind, minus, int(digits), False)
+
+
+def records_of(bytes_):
+    """CSV as the crate csv reads it by default: fields between `,`, lines that end with LF, CR or both, blank ones
+    skipped, quotes doubled within quotes."""
+    if bytes_.startswith(b"\xef\xbb\xbf"):
+        bytes_ = bytes_[3:]
+    records, at = [], 0
+    while at < len(bytes_):
+        if bytes_[at] in b"\r\n":
+            at += 1
+            continue
+        record = []
+        while True:
+            field, at = field_from(bytes_, at)
+            record.append(field)
+            if bytes_[at : at + 1] != b",":
+                break
+            at += 1
+        records.append(record)
+        at += 1
+    return records
+
+
+def field_from(bytes_, at):
+    field = bytearray()
+    if bytes_[at : at + 1] == b'"':
+        at += 1
+        while at < len(bytes_):
+            if bytes_.startswith(b'""', at):
+                field.append(34)
+                at += 2
+            elif bytes_[at] == 34:
+                at += 1
+                break
+            else:
+                field.append(bytes_[at])
+                at += 1
+    while at < len(bytes_) and bytes_[at] not in b",\r\n":
+        field.append(bytes_[at])
+        at += 1
+    return bytes(field), at
+
+
+def printed_record(row):
+    fields = [value if isinstance(value, bytes) else str(value).encode() for value in row]
+    return b",".join(printed_field(field, len(fields) == 1) for field in fields)
+
+
+def printed_field(field, is_alone):
+    if (is_alone and not field) or any(byte in b',"\r\n' for byte in field):
+        return b'"' + field.replace(b'"', b'""') + b'"'
+    return field
+
+
+# ---- playing
+
+
+class Refusal(Exception):
+    def __init__(self, number, name, *kept):
+        kept = [each if isinstance(each, bytes) else str(each).encode() for each in kept]
+        self.line = b" ".join([b"refused %d %s" % (number, name.encode())] + kept)
+
+
+class Table:
+    def __init__(self, columns, key, granularity):
+        self.columns, self.key, self.granularity = columns, key, granularity
+        self.kinds = dict(columns)
+        self.places = {name: place for place, (name, _) in enumerate(columns)}
+        self.blocks, self.known = [], [set() for _ in range(8)]
+
+    def value(self, row, column):
+        return row[self.places[column]]
+
+
+def first_double(names):
+    return next((name for place, name in enumerate(names) if name in names[place + 1 :]), None)
+
+
+def check_names(known, lists):
+    for names in lists:
+        for name in names:
+            if name not in known:
+                raise Refusal(5, "UnknownColumn", name)
+    for names in lists:
+        if first_double(names) is not None:
+            raise Refusal(20, "DoubleColumn", first_double(names))
+
+
+def rows_of(table, columns, offered):
+    columns = [name for name, _ in table.columns] if columns is None else columns
+    check_names(table.kinds, [columns])
+    how, records = offered if offered[0] == "values" else ("csv", records_of(offered[1]))
+    rows = []
+    for place, record in enumerate(records):
+        values = {}
+        for name, field in zip(columns, record):
+            kind = table.kinds[name]
+            values[name] = literal_value(kind, field, False) if how == "values" else field_value(kind, field)
+        if len(record) != len(columns) or None in values.values():
+            raise Refusal(7, "BadRow", place + 1)
+        rows.append([values.get(name, b"" if kind == "String" else 0) for name, kind in table.columns])
+    return rows
+
+
+COMPARES = {
+    "=": lambda a, b: a == b, "!=": lambda a, b: a != b, "<": lambda a, b: a < b,
+    "<=": lambda a, b: a <= b, ">": lambda a, b: a > b, ">=": lambda a, b: a >= b,
+}  # fmt: skip
+
+
+class Query:
+    """A query that was checked against its table."""
+
+    def __init__(self, table, said):
+        self.table, self.filter, self.group = table, said["filter"], said["group"]
+        self.items = said["items"] or [("column", name) for name, _ in table.columns]
+        self.is_grouping = bool(self.group) or any(how != "column" for how, _ in self.items)
+        named = [name for _, name in said["items"] if name is not None]
+        compared = comparisons_in(self.filter)
+        for name in named + [comparison[1] for comparison in compared] + self.group:
+            if name not in table.kinds:
+                raise Refusal(5, "UnknownColumn", name)
+        for how, name in self.items:
+            if how == "sum" and table.kinds[name] == "String":
+                raise Refusal(6, "WrongType", name)
+            if how == "column" and self.is_grouping and name not in self.group:
+                raise Refusal(6, "WrongType", name)
+        for _, name, _, literal in compared:
+            if literal_value(table.kinds[name], literal, True) is None:
+                raise Refusal(6, "WrongType", name)
+
+    def keeps(self, row, tree):
+        if tree is None:
+            return True
+        if tree[0] == "not":
+            return not self.keeps(row, tree[1])
+        if tree[0] == "and":
+            return self.keeps(row, tree[1]) and self.keeps(row, tree[2])
+        if tree[0] == "or":
+            return self.keeps(row, tree[1]) or self.keeps(row, tree[2])
+        _, name, sign, literal = tree
+        return COMPARES[sign](self.table.value(row, name), literal_value(self.table.kinds[name], literal, True))
+
+    def cell(self, how, name, rows):
+        if how == "count":
+            return len(rows)
+        values = [self.table.value(row, name) for row in rows]
+        if how == "sum":
+            return sum(values)
+        if not values:
+            return b"" if self.table.kinds[name] == "String" else 0
+        return max(values) if how == "max" else min(values)
+
+    def answer(self, rows):
+        rows = [row for row in rows if self.keeps(row, self.filter)]
+        if not self.is_grouping:
+            return sorted([self.table.value(row, name) for _, name in self.items] for row in rows)
+        groups = {} if self.group else {(): []}
+        for row in rows:
+            groups.setdefault(tuple(self.table.value(row, name) for name in self.group), []).append(row)
+        return sorted([self.cell(how, name, group) for how, name in self.items] for group in groups.values())
+
+    def granules(self, rows):
+        """How many granules of a part the filter chooses, and how many there are."""
+        table = self.table
+        ordered = sorted(rows, key=lambda row: [table.value(row, name) for name in table.key])
+        marks = ordered[:: table.granularity]
+        if not table.key:
+            return len(marks), len(marks)
+        marks = [table.value(row, table.key[0]) for row in marks]
+        low, high = self.bounds(self.filter)
+        chosen = [
+            place
+            for place, mark in enumerate(marks)
+            if (not high or mark <= min(high)) and (not low or place + 1 == len(marks) or marks[place + 1] >= max(low))
+        ]
+        return len(chosen), len(marks)
+
+    def bounds(self, tree):
+        """What the terms that AND joins at the top require of the first key column."""
+        if tree is not None and tree[0] == "and":
+            first, second = self.bounds(tree[1]), self.bounds(tree[2])
+            return first[0] + second[0], first[1] + second[1]
+        if tree is None or tree[0] != "compare" or tree[1] != self.table.key[0]:
+            return [], []
+        bound = [literal_value(self.table.kinds[tree[1]], tree[3], True)]
+        return (bound if tree[2] in ("=", ">", ">=") else []), (bound if tree[2] in ("=", "<", "<=") else [])
+
+
+class World:
+    def __init__(self):
+        self.replicas, self.tables, self.lines, self.refused = 2, {}, [], 0
+
+    def play(self, statement):
+        if statement[0] == "replicas":
+            self.replicas = statement[1]
+            self.lines.append(b"ok")
+        elif statement[0] == "create":
+            self.create(*statement[1:])
+        else:
+            self.act(*statement[1:])
+
+    def create(self, name, columns, key, granularity):
+        if name in self.tables:
+            raise Refusal(3, "TableExists", name)
+        names = [column for column, _ in columns]
+        for column in key:
+            if column not in names:
+                raise Refusal(5, "UnknownColumn", column)
+        check_names(names, [names, key])
+        if not 1 <= granularity <= 65536:
+            raise Refusal(6, "WrongType", "index_granularity")
+        if len(self.tables) == 4:
+            raise Refusal(18, "LimitReached", "tables", 4)
+        if len(columns) > 64:
+            raise Refusal(18, "LimitReached", "columns", 64)
+        self.tables[name] = Table(columns, key, granularity)
+        self.lines.append(b"ok")
+
+    def act(self, replica, act):
+        name = act[1] if act[0] == "insert" else act[1]["table"]
+        if name not in self.tables:
+            raise Refusal(2, "UnknownTable", name)
+        replicas = [b"r%d" % (number + 1) for number in range(self.replicas)]
+        replica = b"r1" if replica is None else replica
+        if replica not in replicas:
+            raise Refusal(4, "UnknownReplica", replica)
+        table, at = self.tables[name], replicas.index(replica)
+        if act[0] == "insert":
+            self.insert(table, at, rows_of(table, act[2], act[3]))
+        elif act[0] == "select":
+            self.select(table, at, Query(table, act[1]), act[2])
+        else:
+            self.explain(table, at, Query(table, act[1]))
+
+    def insert(self, table, at, rows):
+        if not rows:
+            self.lines.append(b"nothing")
+            return
+        number = len(table.blocks)
+        table.blocks.append(rows)
+        table.known[at].add(number)
+        self.lines.append(b"part all_%d_%d_0" % (number, number))
+
+    def select(self, table, at, query, is_sync):
+        if is_sync:
+            table.known[at] = set(range(len(table.blocks)))
+        parts = sorted(table.known[at])
+        if not is_sync:
+            self.lines.append(b" ".join([b"parts"] + [b"all_%d_%d_0" % (part, part) for part in parts]))
+        rows = query.answer([row for part in parts for row in table.blocks[part]])
+        self.lines += [b"rows %d" % len(rows)] + [printed_record(row) for row in rows]
+
+    def explain(self, table, at, query):
+        total_chosen = total = 0
+        for part in sorted(table.known[at]):
+            chosen, count = query.granules(table.blocks[part])
+            self.lines.append(b"granules all_%d_%d_0 %d/%d" % (part, part, chosen, count))
+            total_chosen, total = total_chosen + chosen, total + count
+        self.lines.append(b"granules total %d/%d" % (total_chosen, total))
+
+
+def played(script):
+    """What is written, and the code."""
+    world, at, statements = World(), 0, FIRST
+    while True:
+        text = Text(script)
+        first = text.token(at)
+        if first.kind == "end":
+            break
+        if first.kind == "symbol" and first.value == ";":
+            at, statements = first.end, LATER
+            continue
+        ways = sequence(statements, END)(text, at)
+        statements = LATER
+        try:
+            if not ways:
+                end = script.find(b";", text.furthest)
+                at = len(script) if end < 0 else end + 1
+                raise Refusal(1, "Syntax", text.furthest)
+            at, (statement, _) = max(ways, key=lambda way: way[0])
+            if statement[0] == "unbuilt":
+                raise Refusal(1, "Syntax", first.start)
+            world.play(statement)
+        except Refusal as refusal:
+            world.lines.append(refusal.line)
+            world.refused += 1
+    return b"".join(line + b"\n" for line in world.lines), 2 if world.refused else 0
+
+
+if __name__ == "__main__":
+    output, code = played(sys.stdin.buffer.read())
+    sys.stdout.buffer.write(output)
+    sys.exit(code)
