@@ -29,10 +29,7 @@ pub fn unknown_column(
 pub(crate) fn double_column(alloc: Global, columns: &[Column]) -> Result<Option<Name>, AllocError>
     ensures { IfOk result (λ name. name ≡ double_in (names_in columns.now)) }
 {
-    let names: Vec<&Name> = columns
-        .iter()
-        .map(|column| &column.name)
-        .collect(alloc)?;
+    let names: Vec<&Name> = columns.iter().map(|column| &column.name).collect(alloc)?;
     first_double(alloc, &names)
 }
 
