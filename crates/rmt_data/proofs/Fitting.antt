@@ -12,8 +12,8 @@ use Rattle.rmt_values.specs.declared.literal.Literal.TheVariants as literals
 use Rattle.rmt_values.specs.declared.column.Column.{Column}
 use Rattle.rmt_values.specs.Rows.{is_of, fits}
 use Rattle.rmt_tokens.specs.Tokens.{value_of}
-use Rattle.rmt_sql.specs.declared.offered.Offered.{Offered}
-use Rattle.rmt_sql.specs.declared.offered.Offered.TheVariants.{Values, Csv}
+use Rattle.rmt_acts.specs.declared.offered.Offered.{Offered}
+use Rattle.rmt_acts.specs.declared.offered.Offered.TheVariants.{Values, Csv}
 use Rattle.rmt_data.specs.Offers.{number_value, text_value, literal_value, is_number, digits_value, numeral_value, field_value, absent, cell_value, value_at, with_value, row_values, row_of, rows_from, places_in}
 use Rattle.rmt_data.specs.Data.{AreOffered}
 use Rattle.rmt_data.proofs.Fields.{next_ok}

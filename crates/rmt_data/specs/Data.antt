@@ -7,8 +7,8 @@ use Rattle.csv.specs.declared.parser.State.TheVariants as st
 use Rattle.rmt_values.specs.declared.value.Value.{Value}
 use Rattle.rmt_data.specs.declared.rows_error.RowsError.{RowsError}
 use Rattle.rmt_values.specs.declared.column.Column.{Column}
-use Rattle.rmt_sql.specs.declared.offered.Offered.{Offered}
-use Rattle.rmt_sql.specs.declared.offered.Offered.TheVariants.{Values, Csv}
+use Rattle.rmt_acts.specs.declared.offered.Offered.{Offered}
+use Rattle.rmt_acts.specs.declared.offered.Offered.TheVariants.{Values, Csv}
 use Rattle.rmt_data.specs.Offers.{rows_from, row_of, places_in, literal_value, field_value}
 use Rattle.rmt_data.specs.Made.{IsBadRow}
 

@@ -17,9 +17,9 @@ use Rattle.rmt_query.specs.Answers.{answer_of}
 use Rattle.rmt_query.specs.Explained.{AreCounted}
 use Rattle.rmt_query.proofs.BagLaws.{one-answer}
 use Rattle.rmt_replicas.specs.Tables.{TableState, data_at, rows_by_number, known_at, synced}
-use Rattle.rmt_sql.specs.declared.act.Act.{Act}
-use Rattle.rmt_sql.specs.declared.act.Act.TheVariants as acts
-use Rattle.rmt_sql.specs.declared.mode.Mode.TheVariants as modes
+use Rattle.rmt_acts.specs.declared.act.Act.{Act}
+use Rattle.rmt_acts.specs.declared.act.Act.TheVariants as acts
+use Rattle.rmt_acts.specs.declared.mode.Mode.TheVariants as modes
 use Rattle.rmt_reply.specs.declared.line.Line.{Line}
 use Rattle.rmt_reply.specs.declared.line.Line.TheVariants as lines
 use Rattle.rmt_reply.specs.declared.refusal.Refusal.{Refusal}

@@ -13,10 +13,10 @@ use Rattle.rmt_partset.specs.Snapshots.{all_rows}
 use Rattle.rmt_query.specs.Answers.{answer_of}
 use Rattle.rmt_query.specs.Explained.{AreCounted}
 use Rattle.rmt_replicas.specs.Tables.{TableState, known_at, rows_by_number, data_at, Accepts, synced}
-use Rattle.rmt_sql.specs.declared.act.Act.{Act}
-use Rattle.rmt_sql.specs.declared.act.Act.TheVariants as acts
-use Rattle.rmt_sql.specs.declared.insert.Insert.{Insert}
-use Rattle.rmt_sql.specs.declared.mode.Mode.TheVariants as modes
+use Rattle.rmt_acts.specs.declared.act.Act.{Act}
+use Rattle.rmt_acts.specs.declared.act.Act.TheVariants as acts
+use Rattle.rmt_acts.specs.declared.insert.Insert.{Insert}
+use Rattle.rmt_acts.specs.declared.mode.Mode.TheVariants as modes
 use Rattle.rmt_data.specs.declared.rows_error.RowsError.TheVariants as offers
 use Rattle.rmt_data.specs.Offers.{all_names}
 use Rattle.rmt_data.specs.Data.{AreOffered, IsRefused}

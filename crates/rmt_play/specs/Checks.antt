@@ -12,10 +12,10 @@ use Rattle.rmt_values.specs.Schemas.{schema_refusal}
 use Rattle.rmt_expr.specs.declared.check_error.CheckError.{CheckError}
 use Rattle.rmt_expr.specs.declared.check_error.CheckError.TheVariants as checks
 use Rattle.rmt_expr.specs.Queries.{query_refusal}
-use Rattle.rmt_sql.specs.declared.act.Act.{Act}
-use Rattle.rmt_sql.specs.declared.act.Act.TheVariants as acts
-use Rattle.rmt_sql.specs.declared.mode.Mode.{Mode}
-use Rattle.rmt_sql.specs.declared.mode.Mode.TheVariants as modes
+use Rattle.rmt_acts.specs.declared.act.Act.{Act}
+use Rattle.rmt_acts.specs.declared.act.Act.TheVariants as acts
+use Rattle.rmt_acts.specs.declared.mode.Mode.{Mode}
+use Rattle.rmt_acts.specs.declared.mode.Mode.TheVariants as modes
 use Rattle.rmt_sql.specs.declared.sent.Sent.{Sent}
 use Rattle.rmt_sql.specs.declared.statement.Statement.{Statement}
 use Rattle.rmt_sql.specs.declared.statement.Statement.TheVariants as statements

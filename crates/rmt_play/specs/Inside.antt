@@ -13,8 +13,8 @@ use Rattle.rmt_expr.specs.Queries.{query_refusal}
 use Rattle.rmt_model.specs.Words.{Each}
 use Rattle.rmt_model.specs.Content.{Row}
 use Rattle.rmt_replicas.specs.Tables.{TableState}
-use Rattle.rmt_sql.specs.declared.act.Act.{Act}
-use Rattle.rmt_sql.specs.declared.insert.Insert.{Insert}
+use Rattle.rmt_acts.specs.declared.act.Act.{Act}
+use Rattle.rmt_acts.specs.declared.insert.Insert.{Insert}
 use Rattle.rmt_sql.specs.declared.sent.Sent.{Sent}
 use Rattle.rmt_data.specs.declared.rows_error.RowsError.TheVariants as offers
 use Rattle.rmt_data.specs.Offers.{names_refusal, all_names}

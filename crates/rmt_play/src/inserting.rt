@@ -2,7 +2,7 @@
 ghost use Rattle.std.specs.Prelude.{◌≡◌, ◌<◌, true, length, IfOk, IfErr};
 ghost use Rattle.std.specs.List.{All};
 ghost use Rattle.rmt_values.specs.Rows.{fits};
-ghost use Rattle.rmt_sql.specs.declared.act.Act.TheVariants as acts;
+ghost use Rattle.rmt_acts.specs.declared.act.Act.TheVariants as acts;
 ghost use Rattle.rmt_play.specs.Acts.{InsertsRows};
 ghost use Rattle.rmt_play.specs.Inside.{Offers, OffersNone, TurnsAct};
 

@@ -11,11 +11,12 @@ use Rattle.rmt_tokens.specs.Exact.{never, token, on_many}
 use Rattle.rmt_tokens.proofs.Apart.{disjoint}
 use Rattle.rmt_tokens.proofs.Closed.{exact_gives}
 use Rattle.rmt_tokens.proofs.Laws.{Law, law_token, law_then, law_gives, law_either, law_maybe, law_chain, starts_then, step, step_on, step_maybe}
-use Rattle.rmt_tokens.proofs.SingleLaws.{keyword_law, exactly_law, symbol_law, word_law, number_law, text_law, end_law}
+use Rattle.rmt_tokens.proofs.SingleLaws.{keyword_law, exactly_law, symbol_law, word_law, number_law, text_law}
 use Rattle.rmt_sql.specs.declared.settings.Settings.{Settings}
 use Rattle.rmt_values.specs.declared.column.Column.{Column}
-use Rattle.rmt_sql.specs.Grammar.{word, opening, comma, Called, Bare, Call, a_kind, column, columns, two_texts, engine_arguments, takes_rule, division, rule_call, partition_rule, partition_of, partition_by, is_tuple, order, key_of, unset, a_setting, may_set, setting, settings, ended, create_settings, create_order, create_engine, create}
-use Rattle.rmt_sql.proofs.PartLaws.{open_law, close_law, comma_law, law_listed, on_list, list_apart, names_in_parentheses_law, on_called, law_called, tuple_call_law}
+use Rattle.rmt_phrases.specs.Phrases.{word, opening, comma, Call}
+use Rattle.rmt_sql.specs.Grammar.{a_kind, column, columns, two_texts, engine_arguments, takes_rule, division, rule_call, partition_rule, partition_of, partition_by, is_tuple, order, key_of, unset, a_setting, may_set, setting, settings, create_settings, create_order, create_engine, create}
+use Rattle.rmt_phrases.proofs.PhraseLaws.{open_law, close_law, comma_law, law_listed, on_list, list_apart, names_in_parentheses_law, on_called, law_called, tuple_call_law, ended_law, called_apart}
 
 any_word : (t : Token) (left : ℕ) (k : Kind) → a_kind (spot t left) ≡ Some k → among (AnyWord ∷ []) (spot t left) ≡ true
 any_word (Word w) left k h = refl
@@ -59,15 +60,6 @@ pub partition_by_law : Law partition_by (on_called takes_rule) (word (codes "par
 unfolding partition_by
 partition_by_law = law_then _ _ _ _ (keyword_law (codes "partition") refl) (λ _. step _ _ _ _ (keyword_law (codes "by") refl) (λ _. partition_rule_law.exact))
 
--- what no parenthesis begins does not go on with a call
-pub called_apart : {A : Type 0} (takes : List ℕ → Bool) (ds : List Class) → disjoint ds opening ≡ true → disjoint ds [] ≡ true → (a : Called A) → disjoint ds (on_called takes a) ≡ true
-called_apart takes ds some none (Bare w) = go (takes w)
-  where
-    go : (b : Bool) → disjoint ds (cond b opening []) ≡ true
-    go true = some
-    go false = none
-called_apart takes ds some none (Call a) = none
-
 order_law : Law order (on_called is_tuple) (Sign marks.Open ∷ AnyWord ∷ [])
 unfolding order
 order_law =
@@ -110,9 +102,6 @@ settings_law =
     (λ s. refl)).exact)
 
 -- ---- the statement
-
-pub ended_law : {A : Type 0} (a : A) → Law (ended a) never (End ∷ [])
-ended_law a = law_then _ _ never _ end_law (λ left. exact_gives (a, left))
 
 settings_apart : (ds : List Class) → disjoint ds comma ≡ true → disjoint ds [] ≡ true → (s : Settings) → disjoint ds (on_settings s) ≡ true
 settings_apart ds some none s = go (may_set s)

@@ -9,7 +9,7 @@ use Rattle.rmt_tokens.proofs.Falling.{Falling, spots_falling}
 use Rattle.rmt_sql.specs.declared.statement.Statement.{Statement}
 use Rattle.rmt_sql.specs.Said.{said}
 use Rattle.rmt_sql.specs.Script.{is_empty, passed, tokens_at, is_first, StandsAt, FailsAt}
-use Rattle.rmt_sql.proofs.Ends.{statement_ends}
+use Rattle.rmt_sql.proofs.StatementEnds.{statement_ends}
 
 -- an end of the tokens begins no further on
 end_less : (front f ts : List Spot) → Falling ts → front ++ f ≡ ts → left_of f ≤ left_of ts

@@ -1,10 +1,5 @@
-pub mod PartLaws
 pub mod CreateLaws
-pub mod SelectLaws
-pub mod InsertLaws
 pub mod StatementLaws
-pub mod FilterReads
-pub mod IntoReads
-pub mod Ends
+pub mod StatementEnds
 pub mod Scripts
 pub mod Going

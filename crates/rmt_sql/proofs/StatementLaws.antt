@@ -9,20 +9,15 @@ use Rattle.rmt_tokens.proofs.Apart.{disjoint}
 use Rattle.rmt_tokens.proofs.Closed.{exact_gives}
 use Rattle.rmt_tokens.proofs.Laws.{Law, law_token, law_then, law_gives, law_either, law_maybe, law_chain, law_item, step, step_on, exact_gives_on, on_last, last_apart}
 use Rattle.rmt_tokens.proofs.SingleLaws.{keyword_law, symbol_law, word_law, number_law, end_law}
-use Rattle.rmt_sql.specs.Said.{SaidAct, SaidSent}
-use Rattle.rmt_sql.specs.Grammar.{word, row_act, row_act_firsts, act, replica, sent, lane_statement, lane_firsts, lane, may_follow, some_lanes, lanes, a_count, replicas, kill, restart, run, at_replica, later_statement, statement}
-use Rattle.rmt_sql.proofs.CreateLaws.{ended_law, create_law}
-use Rattle.rmt_sql.proofs.SelectLaws.{select_law, alter_law, service_firsts, service_law}
-use Rattle.rmt_sql.proofs.InsertLaws.{insert_law}
-
-pub row_act_law : (may_set : Bool) → Law (row_act may_set) never row_act_firsts
-unfolding row_act
-row_act_law may_set =
-    law_either _ _ never (word (codes "insert")) _ (insert_law may_set) (law_either _ _ never (word (codes "select")) _ (select_law may_set) alter_law refl) refl
-
-pub act_law : Law act never (row_act_firsts ++ service_firsts)
-unfolding act
-act_law = law_either _ _ never row_act_firsts service_firsts (row_act_law true) service_law refl
+use Rattle.rmt_acts.specs.Said.{SaidAct}
+use Rattle.rmt_sql.specs.Said.{SaidSent}
+use Rattle.rmt_phrases.specs.Phrases.{word}
+use Rattle.rmt_acts.specs.Acts.{row_act, row_act_firsts, act}
+use Rattle.rmt_sql.specs.Grammar.{replica, sent, lane_statement, lane_firsts, lane, may_follow, some_lanes, lanes, a_count, replicas, kill, restart, run, at_replica, later_statement, statement}
+use Rattle.rmt_phrases.proofs.PhraseLaws.{ended_law}
+use Rattle.rmt_sql.proofs.CreateLaws.{create_law}
+use Rattle.rmt_acts.proofs.SelectLaws.{service_firsts}
+use Rattle.rmt_acts.proofs.ActLaws.{row_act_law, act_law}
 
 replica_law : Law replica never (Sign marks.At ∷ [])
 unfolding replica

@@ -1,9 +1,7 @@
 -- What the code's values are in the grammar. No public clause cites this module.
-use Rattle.std.specs.Prelude.{◌≡◌, ◌<◌, ℕ, List, Bool, true, false, length, MatchOption}
+use Rattle.std.specs.Prelude.{◌≡◌, ◌<◌, ℕ, List, true, false, length, MatchOption}
 use Rattle.std.specs.declared.option.Option.{Option}
 use Rattle.std.specs.declared.option.Option.TheVariants.{Some, None}
-use Rattle.rmt_values.specs.declared.item.Item.{Item}
-use Rattle.rmt_values.specs.declared.item.Item.TheVariants as items
 use Rattle.rmt_sql.specs.declared.partition_rule.PartitionRule.{PartitionRule}
 use Rattle.rmt_sql.specs.declared.partition_rule.PartitionRule.TheVariants as rules
 use Rattle.rmt_sql.specs.declared.order.Order.{Order}
@@ -11,7 +9,7 @@ use Rattle.rmt_sql.specs.declared.order.Order.TheVariants as orders
 use Rattle.rmt_tokens.specs.declared.cursor.Cursor.{Cursor}
 use Rattle.rmt_tokens.specs.Tokens.{Spot}
 use Rattle.rmt_tokens.specs.Lexing.{tokens}
-use Rattle.rmt_sql.specs.Grammar.{Called, Bare, Call}
+use Rattle.rmt_phrases.specs.Phrases.{Called, Bare, Call}
 use Rattle.rmt_sql.specs.Script.{empty_next, passed}
 
 -- a partition rule as its form calls it
@@ -24,19 +22,6 @@ called_rule (rules.Division column divisor) = Call (Some (column, divisor))
 abbrev pub called_order : Order → Called (List (List ℕ))
 called_order (orders.Column column) = Bare column
 called_order (orders.Names all) = Call all
-
--- an item as its form calls it
-abbrev pub called_item : Item → Called Item
-called_item (items.Column column) = Bare column
-called_item items.Count = Call items.Count
-called_item (items.Sum column) = Call (items.Sum column)
-called_item (items.Min column) = Call (items.Min column)
-called_item (items.Max column) = Call (items.Max column)
-
--- something, where it is so
-abbrev pub some_if : Bool → Option (Unit {0})
-some_if true = Some tt
-some_if false = None
 
 -- what stands behind a `;` of the script, where one stands next
 abbrev pub PassesEmpty : List Spot → Option Cursor → Type 0

@@ -6,15 +6,17 @@ ghost use Rattle.rmt_tokens.specs.Classes.{Exactly, AnyText};
 ghost use Rattle.rmt_tokens.specs.Lexing.{tokens};
 ghost use Rattle.rmt_tokens.specs.Exact.{Tells, token, maybe, many, item};
 ghost use Rattle.rmt_sql.specs.Said.{said};
-ghost use Rattle.rmt_sql.specs.Views.{some_if, called_rule, called_order};
-ghost use Rattle.rmt_sql.specs.Grammar.{a_kind, kind_of_word, column as column_rule, columns as columns_rule, more_listed, opening, comma, word as word_class, two_texts as two_texts_rule, engine_arguments as arguments_rule, division as division_rule, partition_rule as rule_rule, partition_by as partition_by_rule, partition_of as partition_named, order as order_rule, key_of as key_named, a_setting, setting_word, setting as setting_rule, settings as settings_rule, further_setting, may_set, with_setting as setting_set, settings_of as settings_or, create_settings as create_settings_rule, create_order as create_order_rule, create_engine as create_engine_rule, create as create_rule};
+ghost use Rattle.rmt_phrases.specs.Phrases.{some_if};
+ghost use Rattle.rmt_sql.specs.Views.{called_rule, called_order};
+ghost use Rattle.rmt_sql.specs.Grammar.{a_kind, kind_of_word, column as column_rule, columns as columns_rule, two_texts as two_texts_rule, engine_arguments as arguments_rule, division as division_rule, partition_rule as rule_rule, partition_by as partition_by_rule, partition_of as partition_named, order as order_rule, key_of as key_named, a_setting, setting_word, setting as setting_rule, settings as settings_rule, further_setting, may_set, with_setting as setting_set, settings_of as settings_or, create_settings as create_settings_rule, create_order as create_order_rule, create_engine as create_engine_rule, create as create_rule};
+ghost use Rattle.rmt_phrases.specs.Phrases.{more_listed, opening, comma, word as word_class};
 
 use crate::columns::Columns;
 use crate::order::Order;
 use crate::partition_rule::PartitionRule;
-use crate::parts::{is_exactly, name, names_in_parentheses};
 use crate::settings::Settings;
 use crate::statement::Statement;
+use rmt_phrases::{is_exactly, name, names_in_parentheses};
 use rmt_tokens::{
     Cursor, Mark, ReadError, Token, end, exactly, is_keyword_next, is_symbol_next, is_text_next,
     keyword, next_symbol, next_token, number, symbol, text, word,

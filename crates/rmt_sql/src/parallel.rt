@@ -4,63 +4,24 @@ ghost use Rattle.rmt_tokens.specs.declared.mark.Mark.TheVariants.{At};
 ghost use Rattle.rmt_tokens.specs.Classes.{Sign, next_among};
 ghost use Rattle.rmt_tokens.specs.Lexing.{tokens};
 ghost use Rattle.rmt_tokens.specs.Exact.{Tells, maybe, many, always, item};
-ghost use Rattle.rmt_sql.specs.Said.{said, said_act, said_sent};
-ghost use Rattle.rmt_sql.specs.Grammar.{word as word_class, row_act as row_act_rule, row_act_firsts, act as act_rule, replica as replica_rule, lane_statement as statement_rule, lane_firsts, lane as lane_rule, may_follow, some_lanes as some_lanes_rule, lanes as lanes_rule, at_replica as at_rule};
+ghost use Rattle.rmt_sql.specs.Said.{said, said_sent};
+ghost use Rattle.rmt_acts.specs.Said.{said_act};
+ghost use Rattle.rmt_phrases.specs.Phrases.{word as word_class};
+ghost use Rattle.rmt_acts.specs.Acts.{row_act as row_act_rule, row_act_firsts, act as act_rule};
+ghost use Rattle.rmt_sql.specs.Grammar.{replica as replica_rule, lane_statement as statement_rule, lane_firsts, lane as lane_rule, may_follow, some_lanes as some_lanes_rule, lanes as lanes_rule, at_replica as at_rule};
 
-use crate::act::Act;
-use crate::alters::alter;
-use crate::inserts::insert;
 use crate::lane::Lane;
 use crate::lanes::Lanes;
-use crate::parts::name;
-use crate::selects::select;
 use crate::sent::Sent;
-use crate::services::service;
 use crate::statement::Statement;
+use rmt_acts::{any_act, is_row_act_next, row_act};
+use rmt_phrases::name;
 use rmt_tokens::{Cursor, Mark, ReadError, end, is_keyword_next, is_symbol_next, keyword, symbol};
 use rmt_values::Name;
 use std::alloc::Global;
 
 /// The most lanes.
 const MOST_LANES: usize = 8;
-
-/// An INSERT, a SELECT or an ALTER, of which the first two have SETTINGS where they may.
-#[tactic(auto, unfolding(crate::specs::Grammar::row_act))]
-fn row_act(
-    alloc: Global,
-    may_set: bool,
-    at: Cursor<'_>,
-) -> Result<(Act, usize, Cursor<'_>), ReadError>
-    ensures { Tells (λ x. ((said_act x.0, x.1), tokens x.2)) result ((row_act_rule may_set).read (tokens at.entry)) }
-{
-    if is_keyword_next(at, b"insert") {
-        return insert(alloc, may_set, at);
-    }
-    if is_keyword_next(at, b"select") {
-        return select(alloc, may_set, at);
-    }
-    alter(alloc, at)
-}
-
-/// Whether an INSERT, a SELECT or an ALTER begins here.
-fn is_row_act_next(at: Cursor<'_>) -> bool
-    ensures { result ≡ next_among row_act_firsts (tokens at.entry) }
-{
-    is_keyword_next(at, b"insert")
-        || is_keyword_next(at, b"select")
-        || is_keyword_next(at, b"alter")
-}
-
-/// What a statement does at a replica.
-#[tactic(auto, unfolding(crate::specs::Grammar::act))]
-fn act(alloc: Global, at: Cursor<'_>) -> Result<(Act, usize, Cursor<'_>), ReadError>
-    ensures { Tells (λ x. ((said_act x.0, x.1), tokens x.2)) result ((act_rule).read (tokens at.entry)) }
-{
-    if is_row_act_next(at) {
-        return row_act(alloc, true, at);
-    }
-    service(alloc, at)
-}
 
 /// [ @ replica ]
 #[tactic(auto, unfolding(crate::specs::Grammar::replica))]
@@ -84,7 +45,7 @@ pub(crate) fn at_replica(
     ensures { Tells (λ x. ((said x.0, x.1), tokens x.2)) result ((at_rule).read (tokens at.entry)) }
 {
     let (replica, at) = some_replica(alloc, at)?;
-    let (act, left, at) = act(alloc, at)?;
+    let (act, left, at) = any_act(alloc, at)?;
     Ok((Statement::At(Sent { replica, act }), left, at))
 }
 

@@ -1,4 +1,4 @@
-use crate::act::Act;
+use rmt_acts::Act;
 use rmt_values::Name;
 
 /// An act and the replica that it is sent to; the first one, where none is named.

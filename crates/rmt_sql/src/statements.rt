@@ -7,8 +7,8 @@ ghost use Rattle.rmt_sql.specs.Grammar.{count_of as count_in_range, a_count, rep
 
 use crate::creates::create;
 use crate::parallel::{at_replica, lanes};
-use crate::parts::name;
 use crate::statement::Statement;
+use rmt_phrases::name;
 use rmt_tokens::{Cursor, ReadError, Token, end, is_keyword_next, keyword, next_token, number};
 use std::alloc::Global;
 

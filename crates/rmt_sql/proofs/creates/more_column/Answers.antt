@@ -4,8 +4,8 @@ use Rattle.rmt_tokens.specs.Lexing.{tokens}
 use Rattle.rmt_tokens.specs.Exact.{always, never, Fails}
 use Rattle.rmt_tokens.proofs.Laws.{on_last}
 use Rattle.rmt_tokens.proofs.Loops.{left_stop, left_fails, left_on, takes_some}
-use Rattle.rmt_sql.specs.Grammar.{further, comma}
-use Rattle.rmt_sql.proofs.PartLaws.{law_further}
+use Rattle.rmt_phrases.specs.Phrases.{further, comma}
+use Rattle.rmt_phrases.proofs.PhraseLaws.{law_further}
 use Rattle.rmt_sql.specs.Grammar.{column}
 use Rattle.rmt_sql.proofs.CreateLaws.{column_law}
 use Rattle.rmt_sql.proofs.creates.more_column.Goals as goal

@@ -7,7 +7,8 @@ use Rattle.rmt_tokens.specs.Exact.{item}
 use Rattle.rmt_tokens.proofs.Laws.{on_last, law_item}
 use Rattle.rmt_tokens.proofs.Loops.{left_stop, left_fails, left_on, takes_some}
 use Rattle.rmt_sql.specs.Said.{said_sent}
-use Rattle.rmt_sql.specs.Grammar.{word, may_follow, lane}
+use Rattle.rmt_phrases.specs.Phrases.{word}
+use Rattle.rmt_sql.specs.Grammar.{may_follow, lane}
 use Rattle.rmt_sql.proofs.StatementLaws.{on_lane, lane_law}
 use Rattle.rmt_sql.proofs.parallel.more_lanes.Goals as goal
 

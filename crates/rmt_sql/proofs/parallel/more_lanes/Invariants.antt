@@ -4,7 +4,8 @@ use Rattle.rmt_tokens.specs.Lexing.{tokens}
 use Rattle.rmt_tokens.specs.Exact.{many, item}
 use Rattle.rmt_tokens.proofs.Loops.{Left}
 use Rattle.rmt_sql.specs.Said.{said_sent}
-use Rattle.rmt_sql.specs.Grammar.{word, may_follow, lane}
+use Rattle.rmt_phrases.specs.Phrases.{word}
+use Rattle.rmt_sql.specs.Grammar.{may_follow, lane}
 use Rattle.rmt_sql.proofs.parallel.more_lanes.Given as goal
 
 abbrev pub invariant-lanes : goal.invariant-lanes

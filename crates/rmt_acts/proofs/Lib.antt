@@ -1,0 +1,5 @@
+pub mod SelectLaws
+pub mod InsertLaws
+pub mod IntoReads
+pub mod ActLaws
+pub mod ActEnds

@@ -1,0 +1,3 @@
+pub mod PhraseLaws
+pub mod FilterReads
+pub mod Ends
