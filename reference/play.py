@@ -1,7 +1,7 @@
 #!/usr/bin/env python3
-"""The language of scripts once more, written from docs/scripts.md alone: reads a script from standard input, writes its
-replies and ends with the program's code. It is slow and shares nothing with the program, so that the two can be
-compared (reference/check)."""
+"""The language of scripts once more, written from its description and not from the program: reads a script from standard
+input, writes its replies and ends with the program's code. It is slow and shares nothing with the program, so that the
+two can be compared (reference/check). Where the description leaves a choice it is that of docs/DECISIONS.md."""
 import sys
 
 WHITE = b" \t\r\n"
