@@ -27,10 +27,10 @@ class Text:
 
     def token(self, at):
         if at not in self.known:
-            self.known[at] = self.scan(self.behind_white(at))
+            self.known[at] = self.scan(self.after_white(at))
         return self.known[at]
 
-    def behind_white(self, at):
+    def after_white(self, at):
         script = self.script
         while at < len(script):
             if script[at] in WHITE:
@@ -193,8 +193,8 @@ def joined(text, at, opens, before, word, part):
         last = [
             (end, (word, tree, further))
             for (place, tree) in last
-            for (behind, _) in keyword(word)(text, place)
-            for (end, further) in part(text, behind, opens, before + len(comparisons_in(tree)))
+            for (after, _) in keyword(word)(text, place)
+            for (end, further) in part(text, after, opens, before + len(comparisons_in(tree)))
         ]
     return ways
 
@@ -210,10 +210,10 @@ def conjunction(text, at, opens, before):
 def unary(text, at, opens, before):
     ways = []
     if opens > 0:
-        for behind, _ in keyword("not")(text, at):
-            ways += [(end, ("not", tree)) for (end, tree) in unary(text, behind, opens - 1, before)]
-        for behind, _ in symbol("(")(text, at):
-            for close, tree in disjunction(text, behind, opens - 1, before):
+        for after, _ in keyword("not")(text, at):
+            ways += [(end, ("not", tree)) for (end, tree) in unary(text, after, opens - 1, before)]
+        for after, _ in symbol("(")(text, at):
+            for close, tree in disjunction(text, after, opens - 1, before):
                 ways += [(end, tree) for (end, _) in symbol(")")(text, close)]
     if before < 256:
         comparison = sequence(FILTER_COLUMN, COMPARISON, LITERAL)
@@ -254,8 +254,8 @@ def settings(text, at):
                 for end, said in sequence(exactly(name), symbol("="), NUMBER)(text, place):
                     more = {**have, name: said[2]}
                     ways.append((end, more))
-                    for behind, _ in symbol(",")(text, end) if len(more) < 2 else []:
-                        further(behind, more)
+                    for after, _ in symbol(",")(text, end) if len(more) < 2 else []:
+                        further(after, more)
 
     for place, _ in keyword("settings")(text, at):
         further(place, {})
@@ -282,7 +282,7 @@ CREATE = says(
 
 
 def data(text, at):
-    """What stands behind FORMAT CSV: from the next line on, up to a line that is `;`, or to the end."""
+    """What comes after FORMAT CSV: from the next line on, up to a line that is `;`, or to the end."""
     script, start = text.script, text.run_of(b" \t\r", at)
     if start == len(script):
         return [(start, b"")]
@@ -365,23 +365,27 @@ LATER = choice(
     unbuilt(keyword("run"), WORD, NUMBER, keyword("seed"), NUMBER),
     unbuilt(keyword("lanes"), END, LANE, times(LANE, 7), keyword("end")),
 )  # fmt: skip
-FIRST = choice(says(sequence(keyword("replicas"), number_of(1, 8)), lambda said: ("replicas", said[1])), LATER)
+REPLICAS = says(sequence(keyword("replicas"), number_of(1, 8)), lambda said: ("replicas", said[1]))
+
+# whole statements with their ends; for the `;` of REPLICAS the script's end doesn't stand
+LATER_WHOLE = sequence(LATER, END)
+FIRST_WHOLE = choice(sequence(REPLICAS, symbol(";")), LATER_WHOLE)
 
 
 # ---- values and records
 
 
-def number_value(kind, minus, size, zero_may_have_minus):
+def number_value(kind, minus, size):
     if kind == "UInt64":
-        return size if size < 2**64 and (not minus or (zero_may_have_minus and size == 0)) else None
+        return size if size < 2**64 and not minus else None
     value = -size if minus else size
     return value if -(2**63) <= value < 2**63 else None
 
 
-def literal_value(kind, literal, in_filter):
+def literal_value(kind, literal):
     if literal[0] == "text":
         return literal[1] if kind == "String" and len(literal[1]) <= 65535 else None
-    return None if kind == "String" else number_value(kind, literal[1], literal[2], in_filter)
+    return None if kind == "String" else number_value(kind, literal[1], literal[2])
 
 
 def field_value(kind, field):
@@ -391,7 +395,7 @@ def field_value(kind, field):
     digits = field[1:] if minus else field
     if not 1 <= len(digits) <= 39 or any(byte not in DIGITS for byte in digits):
         return None
-    return number_value(kind, minus, int(digits), False)
+    return number_value(kind, minus, int(digits))
 
 
 def records_of(bytes_):
@@ -490,7 +494,7 @@ def rows_of(table, columns, offered):
         values = {}
         for name, field in zip(columns, record):
             kind = table.kinds[name]
-            values[name] = literal_value(kind, field, False) if how == "values" else field_value(kind, field)
+            values[name] = literal_value(kind, field) if how == "values" else field_value(kind, field)
         if len(record) != len(columns) or None in values.values():
             raise Refusal(7, "BadRow", place + 1)
         rows.append([values.get(name, b"" if kind == "String" else 0) for name, kind in table.columns])
@@ -521,7 +525,7 @@ class Query:
             if how == "column" and self.is_grouping and name not in self.group:
                 raise Refusal(6, "WrongType", name)
         for _, name, _, literal in compared:
-            if literal_value(table.kinds[name], literal, True) is None:
+            if literal_value(table.kinds[name], literal) is None:
                 raise Refusal(6, "WrongType", name)
 
     def keeps(self, row, tree):
@@ -534,7 +538,7 @@ class Query:
         if tree[0] == "or":
             return self.keeps(row, tree[1]) or self.keeps(row, tree[2])
         _, name, sign, literal = tree
-        return COMPARES[sign](self.table.value(row, name), literal_value(self.table.kinds[name], literal, True))
+        return COMPARES[sign](self.table.value(row, name), literal_value(self.table.kinds[name], literal))
 
     def cell(self, how, name, rows):
         if how == "count":
@@ -578,7 +582,7 @@ class Query:
             return first[0] + second[0], first[1] + second[1]
         if tree is None or tree[0] != "compare" or tree[1] != self.table.key[0]:
             return [], []
-        bound = [literal_value(self.table.kinds[tree[1]], tree[3], True)]
+        bound = [literal_value(self.table.kinds[tree[1]], tree[3])]
         return (bound if tree[2] in ("=", ">", ">=") else []), (bound if tree[2] in ("=", "<", "<=") else [])
 
 
@@ -657,17 +661,17 @@ class World:
 
 def played(script):
     """What is written, and the code."""
-    world, at, statements = World(), 0, FIRST
+    world, at, statements = World(), 0, FIRST_WHOLE
     while True:
         text = Text(script)
         first = text.token(at)
         if first.kind == "end":
             break
         if first.kind == "symbol" and first.value == ";":
-            at, statements = first.end, LATER
+            at, statements = first.end, LATER_WHOLE
             continue
-        ways = sequence(statements, END)(text, at)
-        statements = LATER
+        ways = statements(text, at)
+        statements = LATER_WHOLE
         try:
             if not ways:
                 end = script.find(b";", text.furthest)

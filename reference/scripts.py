@@ -216,6 +216,8 @@ class Scripts:
 
     def script(self):
         text = ""
+        if self.chance(0.01):
+            return f"REPLICAS {self.random.randint(1, 9)}{self.one(SPACES)}".encode()
         if self.chance(0.4):
             self.replicas = self.random.randint(1, 8)
             text += self.spelled([self.keyword("REPLICAS"), str(self.replicas), ";"])

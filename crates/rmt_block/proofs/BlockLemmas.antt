@@ -47,7 +47,7 @@ block_bytes-all kinds rows all i e h =
     let whole : take i rows ≡ rows = search (rules, take_all) in
     rw (whole, e) refl
 
--- what holds of a front and of the element behind it holds of the front with that element
+-- what holds of a prefix and of the element after it holds of the prefix with that element
 pub All-take-at : {X : Type 0} (P : X → Type 0) (xs : List X) (i : ℕ) (x : X) → i < length xs → x ≡ get_or xs i x →
     All P (take i xs) → P x → All P (take (i + 1) xs)
-All-take-at P xs i x l e front here = All-more P xs i x l front (subst P e here)
+All-take-at P xs i x l e prefix here = All-more P xs i x l prefix (subst P e here)

@@ -16,7 +16,7 @@ use Rattle.rmt_values.specs.Rows.{is_of, is_value, same_kind, kind_of}
 use Rattle.rmt_block.specs.Blocks.{row_fits, RowsFit, kind_byte, value_bytes, row_bytes, head_bytes, block_bytes, IsInRange, AreRowsOf, BlockView, IsBlock, id_of}
 use Rattle.rmt_block.specs.declared.block_id.BlockId.{BlockId}
 
--- lists whose fronts are of one length are equal where their fronts and their rests are
+-- lists whose prefixes are of one length are equal where their prefixes and their rests are
 pub append_inj : (a b x y : List ℕ) → length a ≡ length b → a ++ x ≡ b ++ y → (a ≡ b) × (x ≡ y)
 append_inj [] [] x y h e = (refl, e)
 append_inj [] (c ∷ b) x y h e = absurd (omega arith)
@@ -26,21 +26,21 @@ append_inj (c ∷ a) (d ∷ b) x y h e =
     let both = append_inj a b x y (omega arith) rest in
     (cc, both.1)
 
--- two bytes in front tell their number
+-- two bytes at the start tell their number
 pub two_bytes_inj : (m n : ℕ) (x y : List ℕ) → m < 2 ^ 16 → n < 2 ^ 16 →
     to_be_bytes w16 m ++ x ≡ to_be_bytes w16 n ++ y → (m ≡ n) × (x ≡ y)
 two_bytes_inj m n x y p q e =
     let both = append_inj (to_be_bytes w16 m) (to_be_bytes w16 n) x y refl e in
     (sym (from_be_bytes-to_be_bytes_2 m p) ∙ ap (from_be_bytes w16) both.0 ∙ from_be_bytes-to_be_bytes_2 n q, both.1)
 
--- four bytes in front tell their number
+-- four bytes at the start tell their number
 pub four_bytes_inj : (m n : ℕ) (x y : List ℕ) → m < 2 ^ 32 → n < 2 ^ 32 →
     to_be_bytes w32 m ++ x ≡ to_be_bytes w32 n ++ y → (m ≡ n) × (x ≡ y)
 four_bytes_inj m n x y p q e =
     let both = append_inj (to_be_bytes w32 m) (to_be_bytes w32 n) x y refl e in
     (sym (from_be_bytes-to_be_bytes_4 m p) ∙ ap (from_be_bytes w32) both.0 ∙ from_be_bytes-to_be_bytes_4 n q, both.1)
 
--- eight bytes in front tell their number
+-- eight bytes at the start tell their number
 pub eight_bytes_inj : (m n : ℕ) (x y : List ℕ) → m < 2 ^ 64 → n < 2 ^ 64 →
     to_be_bytes w64 m ++ x ≡ to_be_bytes w64 n ++ y → (m ≡ n) × (x ≡ y)
 eight_bytes_inj m n x y p q e =
@@ -67,7 +67,7 @@ length-is_value s h = let at = leb-true (length s) 65535 h in omega arith
 pub below-FitsSigned : (z : ℤ) → FitsSigned w64 z → cast_unsigned w64 z < 2 ^ 64
 below-FitsSigned z h = let f = Fits-of_z {w = w64} h in omega arith
 
--- values of one type are told by their bytes in front
+-- values of one type are told by their bytes at the start
 pub value_bytes-inj : (v w : Value) (x y : List ℕ) → kind_of v ≡ kind_of w → is_value v ≡ true → is_value w ≡ true →
     IsInRange v → IsInRange w → value_bytes v ++ x ≡ value_bytes w ++ y → (v ≡ w) × (x ≡ y)
 value_bytes-inj (UInt m) (UInt n) x y k g h p q e =
@@ -86,7 +86,7 @@ value_bytes-inj (Int m) (Text t) x y k g h p q e = absurd (cc)
 value_bytes-inj (Text s) (UInt n) x y k g h p q e = absurd (cc)
 value_bytes-inj (Text s) (Int n) x y k g h p q e = absurd (cc)
 
--- rows of the same types are told by their bytes in front
+-- rows of the same types are told by their bytes at the start
 pub row_bytes-inj : (ks : List Kind) (vs ws : List Value) (x y : List ℕ) → row_fits ks vs ≡ true → row_fits ks ws ≡ true →
     AllByRecursion IsInRange vs → AllByRecursion IsInRange ws → row_bytes vs ++ x ≡ row_bytes ws ++ y → (vs ≡ ws) × (x ≡ y)
 row_bytes-inj [] [] [] x y g h p q e = (refl, e)
@@ -130,7 +130,7 @@ kind_byte-inj kinds.Text kinds.UInt64 e = absurd (omega arith)
 kind_byte-inj kinds.Text kinds.Int64 e = absurd (omega arith)
 kind_byte-inj kinds.Text kinds.Text e = refl
 
--- as many types are told by their numbers in front
+-- as many types are told by their numbers at the start
 pub kind_bytes-inj : (ks ls : List Kind) (x y : List ℕ) → length ks ≡ length ls →
     map kind_byte ks ++ x ≡ map kind_byte ls ++ y → (ks ≡ ls) × (x ≡ y)
 kind_bytes-inj [] [] x y h e = (refl, e)
@@ -143,7 +143,7 @@ kind_bytes-inj (k ∷ ks) (l ∷ ls) x y h e =
     let rest = kind_bytes-inj ks ls x y (omega arith) tails in
     (cc, rest.1)
 
--- the bytes in their four parts, the last one behind the others
+-- the bytes in their four parts, the last one after the others
 block_bytes-parts : (k : List Kind) (r : List (List Value)) →
     block_bytes k r ≡ to_be_bytes w16 (length k) ++ (map kind_byte k ++ (to_be_bytes w32 (length r) ++ flat_map row_bytes r))
 unfolding block_bytes head_bytes

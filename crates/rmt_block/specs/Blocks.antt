@@ -58,7 +58,7 @@ kind_byte kinds.UInt64 = 1
 kind_byte kinds.Int64 = 2
 kind_byte kinds.Text = 3
 
--- a number in 8 bytes, an Int64 in two's complement; a String behind its length in 2 bytes
+-- a number in 8 bytes, an Int64 in two's complement; a String after its length in 2 bytes
 abbrev pub value_bytes : Value → List ℕ
 value_bytes (UInt n) = to_be_bytes w64 n
 value_bytes (Int z) = to_be_bytes w64 (cast_unsigned w64 z)

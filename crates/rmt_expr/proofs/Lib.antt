@@ -1,3 +1,3 @@
-pub mod FormLemmas
 pub mod SetLemmas
 pub mod QueryLemmas
+pub mod Progress

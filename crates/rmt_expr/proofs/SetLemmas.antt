@@ -18,7 +18,8 @@ use Rattle.rmt_values.specs.Rows.{place_from}
 use Rattle.rmt_values.specs.Schemas.{has_name, first_double}
 use Rattle.rmt_values.specs.Commands.{SetsFit, SetsNot, NotAmong}
 use Rattle.rmt_expr.specs.Mutations.{AreSets, lefts, among, is_among, key_in_sets}
-use Rattle.rmt_expr.specs.Inside.{GoesOn, IsPlaced, ArePlaced}
+use Rattle.rmt_expr.specs.Placed.{IsPlaced, ArePlaced}
+use Rattle.rmt_expr.proofs.Progress.{SetsGoOn}
 
 -- what is of one type of numbers adds up
 pub adds_up : (s : Shape) (target place : ℕ) (v : Value) (kind : Kind)
@@ -31,17 +32,17 @@ adds_up s target place v kind a b n k i = record {
 }
 
 -- before the first set, nothing is placed
-pub starts : (s : Shape) (all : List (List ℕ × Right)) → GoesOn s all all []
+pub starts : (s : Shape) (all : List (List ℕ × Right)) → SetsGoOn s all all []
 starts s all = record { goes_on = λ more h. h }
 
 -- one more set is placed
 pub goes_further : (s : Shape) (all rest : List (List ℕ × Right)) (placed : List (ℕ × CheckedRight)) (x : List ℕ × Right) (t : ℕ × CheckedRight)
-    → GoesOn s all (x ∷ rest) placed → IsPlaced s x.0 x.1 t.0 t.1 → GoesOn s all rest (placed ++ t ∷ [])
+    → SetsGoOn s all (x ∷ rest) placed → IsPlaced s x.0 x.1 t.0 t.1 → SetsGoOn s all rest (placed ++ t ∷ [])
 goes_further s all rest placed x t g p = record { goes_on = λ more h. rw append_assoc (g.goes_on (t ∷ more) (p, h)) }
 
--- behind the last set, all are placed
+-- after the last set, all are placed
 pub all_placed : (s : Shape) (all rest : List (List ℕ × Right)) (placed : List (ℕ × CheckedRight))
-    → GoesOn s all rest placed → length rest < 1 → ArePlaced s all placed
+    → SetsGoOn s all rest placed → length rest < 1 → ArePlaced s all placed
 all_placed s all [] placed g h = rw append-nil at (g.goes_on [] tt)
 all_placed s all (x ∷ rest) placed g h = absurd (omega arith)
 
@@ -77,7 +78,7 @@ set-by-none s n p e (x ∷ xs) [] h d = absurd h
 set-by-none s n p e (x ∷ xs) (t ∷ ts) h d = go (bytes_eq x.0 n) refl d (set-by-none s n p e xs ts h.1) where
   go : (b : Bool) → b ≡ bytes_eq x.0 n → (b || has_name (lefts xs) n) ≡ false → (has_name (lefts xs) n ≡ false → SetsNot p ts) → SetsNot p (t ∷ ts)
   go true u d r = absurd (cc d)
-  go false u d r = ((λ k. other_text x.0 n u (same-place 0 s.columns x.0 n p (h.0.set.column.stands ∙ ap (λ q. Some q) k) e)), r d)
+  go false u d r = ((λ k. other_text x.0 n u (same-place 0 s.columns x.0 n p (h.0.set.column.there ∙ ap (λ q. Some q) k) e)), r d)
 
 -- numbers that a test tells apart differ
 differ : (k p : ℕ) → false ≡ nat_eq k p → k ≡ p → ⊥
@@ -106,9 +107,9 @@ sets_fit s (x ∷ xs) (t ∷ ts) h d k =
     go true u d b v k r = absurd (cc d)
     go false u d true v k r = absurd (cc k)
     go false u d false v k r = (
-      none-of s.key t.0 (ap (is_among s.key) (sym h.0.set.column.stands) ∙ v),
+      none-of s.key t.0 (ap (is_among s.key) (sym h.0.set.column.there) ∙ v),
       h.0.fits,
-      set-by-none s x.0 t.0 h.0.set.column.stands xs ts h.1 u,
+      set-by-none s x.0 t.0 h.0.set.column.there xs ts h.1 u,
       r d k,
     )
 

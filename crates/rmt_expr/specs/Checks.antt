@@ -9,37 +9,19 @@ use Rattle.rmt_values.specs.declared.kind.Kind.{Kind}
 use Rattle.rmt_values.specs.declared.cmp.Cmp.{Cmp}
 use Rattle.rmt_values.specs.declared.literal.Literal.{Literal}
 use Rattle.rmt_values.specs.declared.filter.Filter.{Filter}
-use Rattle.rmt_values.specs.declared.filter.Filter.TheVariants as written
+use Rattle.rmt_values.specs.declared.filter.Filter.TheOpen.{Filter-F, Test, Both, Either, Not}
+use Rattle.rmt_values.specs.declared.filter.Filter.TheFolds.{fold-Filter}
 use Rattle.rmt_values.specs.declared.checked.Checked.{Checked}
-use Rattle.rmt_values.specs.declared.checked.Checked.TheVariants.{Test, Both', Either', Not'}
+use Rattle.rmt_values.specs.declared.checked.Checked.TheVariants as placed
 use Rattle.rmt_values.specs.Rows.{Shape, place_from, kind_at}
-use Rattle.rmt_expr.specs.Literals.{value_of}
+use Rattle.rmt_values.specs.Literals.{literal_value}
 use Rattle.rmt_expr.specs.declared.check_error.CheckError.{CheckError}
 use Rattle.rmt_expr.specs.declared.check_error.CheckError.TheVariants as refusal
 
--- the column of this name stands at this place and has this type
+-- the column of this name is at this place and has this type
 pub record IsColumn (shape : Shape) (name : List ℕ) (place : ℕ) (kind : Kind) : Type 0 where
-  pub stands : place_from 0 shape.columns name ≡ Some place
+  pub there : place_from 0 shape.columns name ≡ Some place
   pub typed : kind_at shape.columns place ≡ Some kind
-
--- the test, with the column's place and the literal's value
-pub record IsTest (shape : Shape) (name : List ℕ) (literal : Literal) (place : ℕ) (value : Value) : Type 0 where
-  pub kind : Kind
-  pub column : IsColumn shape name place kind
-  pub valued : value_of literal kind ≡ Some value
-
--- the checked form of a test
-abbrev pub IsTestOf : Shape → List ℕ → Cmp → Literal → Checked → Type 0
-IsTestOf shape name cmp literal (Test place cmp' value) = (cmp' ≡ cmp) × IsTest shape name literal place value
-IsTestOf shape name cmp literal c = ⊥
-
--- the checked form of a filter: places for names, values for literals, and nothing else changed
-abbrev pub IsChecked : Shape → Filter → Checked → Type 0
-IsChecked shape (written.Test name cmp literal) c = IsTestOf shape name cmp literal c
-IsChecked shape (written.Both' p f q g) (Both' p' f' q' g') = IsChecked shape f f' × IsChecked shape g g'
-IsChecked shape (written.Either' p f q g) (Either' p' f' q' g') = IsChecked shape f f' × IsChecked shape g g'
-IsChecked shape (written.Not' p f) (Not' p' f') = IsChecked shape f f'
-IsChecked shape f c = ⊥
 
 -- the type of the column at this place
 abbrev pub kind_there : Shape → Option ℕ → Option Kind
@@ -62,24 +44,55 @@ unknown_name shape name = unless_some name (kind_named shape name)
 -- the value of a literal in a column of this type, if there is such a column and value
 abbrev pub value_in : Literal → Option Kind → Option Value
 value_in literal None = None
-value_in literal (Some kind) = value_of literal kind
+value_in literal (Some kind) = literal_value kind literal
+
+-- the test of the column at this place with this value, where there are both
+abbrev pub test_of : Cmp → Option ℕ → Option Value → Option Checked
+test_of cmp None value = None
+test_of cmp (Some place) None = None
+test_of cmp (Some place) (Some value) = Some (placed.Test place cmp value)
+
+-- two filters put together, where there are both
+abbrev pub joined : (Checked → Checked → Checked) → Option Checked → Option Checked → Option Checked
+joined make None g = None
+joined make (Some f) None = None
+joined make (Some f) (Some g) = Some (make f g)
+
+-- the checked form of one level, from those of the filters inside it
+abbrev pub checked_level : Shape → Filter-F (Option Checked) → Option Checked
+checked_level shape (Test name cmp literal) = test_of cmp (place_from 0 shape.columns name) (value_in literal (kind_named shape name))
+checked_level shape (Both f g) = joined (λ f g. placed.Both f g) f g
+checked_level shape (Either f g) = joined (λ f g. placed.Either f g) f g
+checked_level shape (Not f) = option_map (λ f. placed.Not f) f
+
+-- the checked form of a filter, if it has one: places for names, values for literals, and nothing else changed
+abbrev pub checked_of : Shape → Filter → Option Checked
+checked_of shape filter = fold-Filter (Option Checked) (checked_level shape) filter
+
+-- the first name of one level that no column has, from those of the filters inside it
+abbrev pub unknown_level : Shape → Filter-F (Option (List ℕ)) → Option (List ℕ)
+unknown_level shape (Test name cmp literal) = unknown_name shape name
+unknown_level shape (Both f g) = option_or f g
+unknown_level shape (Either f g) = option_or f g
+unknown_level shape (Not f) = f
 
 -- the first name of the filter that no column has
 abbrev pub unknown_in : Shape → Filter → Option (List ℕ)
-unknown_in shape (written.Test name cmp literal) = unknown_name shape name
-unknown_in shape (written.Both' p f q g) = option_or (unknown_in shape f) (unknown_in shape g)
-unknown_in shape (written.Either' p f q g) = option_or (unknown_in shape f) (unknown_in shape g)
-unknown_in shape (written.Not' p f) = unknown_in shape f
+unknown_in shape filter = fold-Filter (Option (List ℕ)) (unknown_level shape) filter
+
+-- the first name of one level that is compared with what is no value of its column, from those of the filters inside it
+abbrev pub type_error_level : Shape → Filter-F (Option (List ℕ)) → Option (List ℕ)
+type_error_level shape (Test name cmp literal) = unless_some name (value_in literal (kind_named shape name))
+type_error_level shape (Both f g) = option_or f g
+type_error_level shape (Either f g) = option_or f g
+type_error_level shape (Not f) = f
 
 -- the first name of the filter that is compared with what is no value of its column
-abbrev pub misfit_in : Shape → Filter → Option (List ℕ)
-misfit_in shape (written.Test name cmp literal) = unless_some name (value_in literal (kind_named shape name))
-misfit_in shape (written.Both' p f q g) = option_or (misfit_in shape f) (misfit_in shape g)
-misfit_in shape (written.Either' p f q g) = option_or (misfit_in shape f) (misfit_in shape g)
-misfit_in shape (written.Not' p f) = misfit_in shape f
+abbrev pub type_error_in : Shape → Filter → Option (List ℕ)
+type_error_in shape filter = fold-Filter (Option (List ℕ)) (type_error_level shape) filter
 
 -- why a filter is refused: an unknown column anywhere comes before a wrong type
 unfoldable pub filter_refusal : Shape → Filter → Option CheckError
 filter_refusal shape f =
     option_or (option_map (λ n. refusal.UnknownColumn n) (unknown_in shape f))
-    (option_map (λ n. refusal.WrongType n) (misfit_in shape f))
+    (option_map (λ n. refusal.WrongType n) (type_error_in shape f))

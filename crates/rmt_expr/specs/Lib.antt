@@ -1,6 +1,4 @@
-pub mod Literals
 pub mod Checks
 pub mod Mutations
-pub mod Laws
-pub mod Inside
+pub mod Placed
 pub mod Queries

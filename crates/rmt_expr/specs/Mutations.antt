@@ -19,17 +19,17 @@ use Rattle.rmt_values.specs.declared.checked_mutation.CheckedMutation.TheVariant
 use Rattle.rmt_values.specs.Rows.{Shape, place_from, same_kind}
 use Rattle.rmt_values.specs.Schemas.{first_double}
 use Rattle.rmt_values.specs.Commands.{is_number}
-use Rattle.rmt_expr.specs.Literals.{value_of}
-use Rattle.rmt_expr.specs.Checks.{IsColumn, IsChecked, kind_named, unknown_name, unknown_in, misfit_in}
+use Rattle.rmt_values.specs.Literals.{literal_value}
+use Rattle.rmt_expr.specs.Checks.{IsColumn, checked_of, kind_named, unknown_name, unknown_in, type_error_in}
 use Rattle.rmt_expr.specs.declared.mutation_error.MutationError.{MutationError}
 use Rattle.rmt_expr.specs.declared.mutation_error.MutationError.TheVariants as refusal
 
 -- the checked form of what a column of this type is set to: places for names, values of this type for literals
 abbrev pub IsRight : Shape → Kind → Right → CheckedRight → Type 0
-IsRight shape kind (written.Literal l) (right.Literal v) = value_of l kind ≡ Some v
+IsRight shape kind (written.Literal l) (right.Literal v) = literal_value kind l ≡ Some v
 IsRight shape kind (written.Column n) (right.Column p) = place_from 0 shape.columns n ≡ Some p
-IsRight shape kind (written.Plus n l) (right.Plus p v) = (place_from 0 shape.columns n ≡ Some p) × (value_of l kind ≡ Some v)
-IsRight shape kind (written.Minus n l) (right.Minus p v) = (place_from 0 shape.columns n ≡ Some p) × (value_of l kind ≡ Some v)
+IsRight shape kind (written.Plus n l) (right.Plus p v) = (place_from 0 shape.columns n ≡ Some p) × (literal_value kind l ≡ Some v)
+IsRight shape kind (written.Minus n l) (right.Minus p v) = (place_from 0 shape.columns n ≡ Some p) × (literal_value kind l ≡ Some v)
 IsRight shape kind w r = ⊥
 
 -- the checked form of one set of an UPDATE
@@ -47,8 +47,8 @@ AreSets shape (x ∷ xs) (t ∷ ts) = IsSet shape x.0 x.1 t.0 t.1 × AreSets sha
 
 -- the checked form of a command
 abbrev pub IsCheckedMutation : Shape → Mutation → CheckedMutation → Type 0
-IsCheckedMutation shape (command.Update sets filter) (Update sets' filter') = AreSets shape sets sets' × IsChecked shape filter filter'
-IsCheckedMutation shape (command.Delete filter) (Delete filter') = IsChecked shape filter filter'
+IsCheckedMutation shape (command.Update sets filter) (Update sets' filter') = AreSets shape sets sets' × (checked_of shape filter ≡ Some filter')
+IsCheckedMutation shape (command.Delete filter) (Delete filter') = checked_of shape filter ≡ Some filter'
 IsCheckedMutation shape m c = ⊥
 
 -- ---- refusals
@@ -72,12 +72,12 @@ is_kind kind (Some other) = same_kind other kind
 
 -- the type is one of numbers, the column is of it, and the literal has a value of it
 abbrev pub may_add : Shape → Kind → List ℕ → Literal → Bool
-may_add shape kind name by = is_number kind && (is_kind kind (kind_named shape name) && is_some (value_of by kind))
+may_add shape kind name by = is_number kind && (is_kind kind (kind_named shape name) && is_some (literal_value kind by))
 
 -- a column of this type may be set so: to a value of its type, to a column of its type, or, if it is one of numbers, to
 -- such a column plus or minus such a value
 abbrev pub may_be : Shape → Kind → Right → Bool
-may_be shape kind (written.Literal l) = is_some (value_of l kind)
+may_be shape kind (written.Literal l) = is_some (literal_value kind l)
 may_be shape kind (written.Column n) = is_kind kind (kind_named shape n)
 may_be shape kind (written.Plus n l) = may_add shape kind n l
 may_be shape kind (written.Minus n l) = may_add shape kind n l
@@ -88,9 +88,9 @@ may_set shape None what = false
 may_set shape (Some kind) what = may_be shape kind what
 
 -- the first left side whose column may not be set so
-abbrev pub misfit_in_sets : Shape → List (List ℕ × Right) → Option (List ℕ)
-misfit_in_sets shape [] = None
-misfit_in_sets shape (x ∷ xs) = cond (may_set shape (kind_named shape x.0) x.1) (misfit_in_sets shape xs) (Some x.0)
+abbrev pub type_error_in_sets : Shape → List (List ℕ × Right) → Option (List ℕ)
+type_error_in_sets shape [] = None
+type_error_in_sets shape (x ∷ xs) = cond (may_set shape (kind_named shape x.0) x.1) (type_error_in_sets shape xs) (Some x.0)
 
 -- the place is one of these
 abbrev pub among : List ℕ → ℕ → Bool
@@ -117,14 +117,14 @@ unfoldable pub update_refusal : Shape → List (List ℕ × Right) → Filter �
 update_refusal shape sets filter =
     option_or (option_map (λ n. refusal.UnknownColumn n) (option_or (unknown_in_sets shape sets) (unknown_in shape filter)))
     (option_or (option_map (λ n. refusal.DoubleColumn n) (first_double (lefts sets)))
-    (option_or (option_map (λ n. refusal.WrongType n) (option_or (misfit_in_sets shape sets) (misfit_in shape filter)))
+    (option_or (option_map (λ n. refusal.WrongType n) (option_or (type_error_in_sets shape sets) (type_error_in shape filter)))
     (option_map (λ n. refusal.KeyColumn n) (key_in_sets shape sets))))
 
 -- why a DELETE is refused
 unfoldable pub delete_refusal : Shape → Filter → Option MutationError
 delete_refusal shape filter =
     option_or (option_map (λ n. refusal.UnknownColumn n) (unknown_in shape filter))
-    (option_map (λ n. refusal.WrongType n) (misfit_in shape filter))
+    (option_map (λ n. refusal.WrongType n) (type_error_in shape filter))
 
 -- why a command is refused
 abbrev pub mutation_refusal : Shape → Mutation → Option MutationError

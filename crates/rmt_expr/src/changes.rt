@@ -13,7 +13,8 @@ ghost use Rattle.rmt_values.specs.Commands.{
 };
 
 use crate::keeps::holds;
-use rmt_values::{CheckedMutation, CheckedRight, Row, Sets, Value};
+use rmt_list::List;
+use rmt_values::{CheckedMutation, CheckedRight, Row, Value};
 use std::alloc::{AllocError, Global};
 
 /// Applies a command to a row: the row afterwards, or none where the command deletes it. A row that the filter
@@ -41,7 +42,7 @@ pub fn apply(alloc: Global, m: &CheckedMutation, row: &Row) -> Result<Option<Row
 }
 
 /// The row with the new value of each column.
-fn updated(alloc: Global, sets: &Sets, row: &Row) -> Result<Row, AllocError>
+fn updated(alloc: Global, sets: &List<(u16, CheckedRight)>, row: &Row) -> Result<Row, AllocError>
     ensures { IfOk result (λ new. new ≡ updated_from 0 sets.now row.now row.now) }
 {
     let values = row.values();
@@ -53,7 +54,12 @@ fn updated(alloc: Global, sets: &Sets, row: &Row) -> Result<Row, AllocError>
 }
 
 /// The value that a column gets.
-fn value_for(sets: &Sets, column: usize, row: &Row, old: &Value) -> Result<Value, AllocError>
+fn value_for(
+    sets: &List<(u16, CheckedRight)>,
+    column: usize,
+    row: &Row,
+    old: &Value,
+) -> Result<Value, AllocError>
     ensures { IfOk result (λ v. v ≡ new_value (set_from sets.now column) row.now old.now) }
 {
     match find(sets, column) {
@@ -63,7 +69,7 @@ fn value_for(sets: &Sets, column: usize, row: &Row, old: &Value) -> Result<Value
 }
 
 /// What the column is set to.
-fn find(sets: &Sets, column: usize) -> Option<&CheckedRight>
+fn find(sets: &List<(u16, CheckedRight)>, column: usize) -> Option<&CheckedRight>
     ensures { option_map (λ r. r.now) result ≡ set_from sets.now column }
 {
     let all = sets.as_slice();
@@ -154,7 +160,7 @@ mod tests {
         let alloc = rt.alloc();
         let sets = vec![in alloc; (0, CheckedRight::Column(1)), (1, CheckedRight::Column(0))]?;
         let swap = CheckedMutation::Update {
-            sets: Sets::new(sets),
+            sets: List::new(sets),
             filter: from_five(),
         };
         assert!(rt; is(apply(alloc, &swap, &row(alloc, 5, 2, -1)?)?, 2, 5, -1));
@@ -172,7 +178,7 @@ mod tests {
         let by = Value::Int(1);
         let signed = CheckedRight::Plus { column: 2, by };
         let wrap = CheckedMutation::Update {
-            sets: Sets::new(vec![in alloc; (0, plus), (1, minus), (2, signed)]?),
+            sets: List::new(vec![in alloc; (0, plus), (1, minus), (2, signed)]?),
             filter: from_five(),
         };
         let old = row(alloc, u64::MAX, 1, i64::MAX)?;
@@ -181,7 +187,7 @@ mod tests {
     }
 
     #[test]
-    fn a_delete_takes_the_kept_rows(rt: HostRuntime) -> Result<(), Fail> {
+    fn a_delete_removes_the_matching_rows(rt: HostRuntime) -> Result<(), Fail> {
         let alloc = rt.alloc();
         let delete = CheckedMutation::Delete {
             filter: from_five(),

@@ -9,9 +9,9 @@ use std::alloc::{AllocError, AllocFailed};
 pub enum CheckError {
     /// The first name that no column has.
     UnknownColumn(Name),
-    /// The first column whose type what stands beside it isn't of.
+    /// The first column that is compared with, or added up as, what isn't of its type, or that isn't grouped.
     WrongType(Name),
-    /// Want of memory.
+    /// Out of memory.
     Memory,
 }
 

@@ -3,28 +3,29 @@ ghost use Rattle.std.specs.Prelude.{◌≡◌, ◌⊎◌, IfOk, IfErr, IsSome};
 ghost use Rattle.std.specs.Option.{option_map};
 ghost use Rattle.std.specs.declared.option.Option.TheVariants.{Some, None};
 ghost use Rattle.rmt_values.specs.Filters.{FilterFits};
+ghost use Rattle.rmt_values.specs.Rows.{place_from};
 ghost use Rattle.rmt_expr.specs.Checks.{
-  IsTestOf,
-  IsChecked,
+  checked_of,
+  test_of,
   kind_named,
   unknown_name,
   unknown_in as first_unknown,
-  misfit_in,
+  type_error_in,
   value_in,
   filter_refusal,
 };
 ghost use Rattle.rmt_expr.specs.declared.check_error.CheckError.TheVariants as refusal;
 
 use crate::check_error::CheckError;
-use crate::literals::value_of;
+use rmt_list::Boxed;
 use rmt_values::{Checked, Cmp, Filter, Kind, Literal, Name, Schema};
 use std::alloc::Global;
 
 /// Checks a filter against a schema: the same filter with places in place of names and values in place of literals.
-/// The name kept of a refusal is the first in the filter that meets its condition.
+/// The name in a refusal is the first in the filter that meets its condition.
 #[tactic(auto, unfolding(crate::specs::Checks::filter_refusal))]
 pub fn check(alloc: Global, filter: &Filter, schema: &Schema) -> Result<Checked, CheckError>
-    ensures ok { IfOk result (λ c. IsChecked schema.now filter.now c) }
+    ensures ok { IfOk result (λ c. checked_of schema.now filter.now ≡ Some c) }
     ensures fits { IfOk result (λ c. FilterFits schema.now c) }
     ensures known { IfOk result (λ _. filter_refusal schema.now filter.now ≡ None) }
     ensures refused { IfErr result (λ e. (e ≡ refusal.Memory) ⊎ (filter_refusal schema.now filter.now ≡ Some e)) }
@@ -41,11 +42,11 @@ pub fn unknown_in<'a>(filter: &'a Filter, schema: &Schema) -> Option<&'a Name>
 {
     match filter {
         Filter::Test { column, .. } => unknown(column, schema),
-        Filter::Both(f, g) | Filter::Either(f, g) => match unknown_in(f, schema) {
+        Filter::Both(f, g) | Filter::Either(f, g) => match unknown_in(f.get(), schema) {
             Some(name) => Some(name),
-            None => unknown_in(g, schema),
+            None => unknown_in(g.get(), schema),
         },
-        Filter::Not(f) => unknown_in(f, schema),
+        Filter::Not(f) => unknown_in(f.get(), schema),
     }
 }
 
@@ -71,43 +72,45 @@ pub fn kind_of(name: &Name, schema: &Schema) -> Option<Kind>
 
 /// The checked form of a filter that names no unknown column.
 pub fn placed(alloc: Global, filter: &Filter, schema: &Schema) -> Result<Checked, CheckError>
-    ensures ok { IfOk result (λ c. IsChecked schema.now filter.now c) }
+    ensures ok { IfOk result (λ c. checked_of schema.now filter.now ≡ Some c) }
     ensures fits { IfOk result (λ c. FilterFits schema.now c) }
-    ensures known { IfOk result (λ _. misfit_in schema.now filter.now ≡ None) }
+    ensures known { IfOk result (λ _. type_error_in schema.now filter.now ≡ None) }
     ensures refused { IfErr result (λ e. (e ≡ refusal.Memory)
-        ⊎ (option_map (λ n. refusal.WrongType n) (misfit_in schema.now filter.now) ≡ Some e)) }
+        ⊎ (option_map (λ n. refusal.WrongType n) (type_error_in schema.now filter.now) ≡ Some e)) }
 {
     match filter {
         Filter::Test {
             column,
             cmp,
             literal,
-        } => placed_test(column, *cmp, literal, schema),
+        } => placed_test(alloc, column, *cmp, literal, schema),
         Filter::Both(f, g) => {
-            let left = placed(alloc, f, schema)?;
-            let right = placed(alloc, g, schema)?;
-            Ok(Checked::Both(Box::new(alloc, left)?, Box::new(alloc, right)?))
+            let left = placed(alloc, f.get(), schema)?;
+            let right = placed(alloc, g.get(), schema)?;
+            Ok(Checked::Both(Boxed::new(alloc, left)?, Boxed::new(alloc, right)?))
         }
         Filter::Either(f, g) => {
-            let left = placed(alloc, f, schema)?;
-            let right = placed(alloc, g, schema)?;
-            Ok(Checked::Either(Box::new(alloc, left)?, Box::new(alloc, right)?))
+            let left = placed(alloc, f.get(), schema)?;
+            let right = placed(alloc, g.get(), schema)?;
+            Ok(Checked::Either(Boxed::new(alloc, left)?, Boxed::new(alloc, right)?))
         }
         Filter::Not(f) => {
-            let inner = placed(alloc, f, schema)?;
-            Ok(Checked::Not(Box::new(alloc, inner)?))
+            let inner = placed(alloc, f.get(), schema)?;
+            Ok(Checked::Not(Boxed::new(alloc, inner)?))
         }
     }
 }
 
 /// The checked form of a test.
 fn placed_test(
+    alloc: Global,
     column: &Name,
     cmp: Cmp,
     literal: &Literal,
     schema: &Schema,
 ) -> Result<Checked, CheckError>
-    ensures ok { IfOk result (λ c. IsTestOf schema.now column.now cmp literal.now c) }
+    ensures ok { IfOk result (λ c. test_of cmp (place_from 0 schema.now.columns column.now)
+        (value_in literal.now (kind_named schema.now column.now)) ≡ Some c) }
     ensures fits { IfOk result (λ c. FilterFits schema.now c) }
     ensures known { IfOk result (λ _. IsSome (value_in literal.now (kind_named schema.now column.now))) }
     ensures refused { IfErr result (λ e. (e ≡ refusal.Memory)
@@ -119,7 +122,7 @@ fn placed_test(
     let Some(kind) = schema.kind(at) else {
         return Err(CheckError::WrongType(column.copy()?));
     };
-    match value_of(literal, kind)? {
+    match literal.value_in(alloc, kind)? {
         Some(value) => Ok(Checked::Test {
             column: at,
             cmp,
@@ -146,7 +149,7 @@ mod tests {
     }
 
     fn both(alloc: Global, f: Filter, g: Filter) -> Result<Filter, AllocError> {
-        Ok(Filter::Both(Box::new(alloc, f)?, Box::new(alloc, g)?))
+        Ok(Filter::Both(Boxed::new(alloc, f)?, Boxed::new(alloc, g)?))
     }
 
     /// The columns `u` of UInt64 and `s` of Strings.
@@ -159,8 +162,8 @@ mod tests {
         Schema::new(alloc, columns, Vec::new(alloc), 8192, 100).map_err(|_| AllocError)
     }
 
-    /// What the check tells of a filter, by the first letter of the refusal's name.
-    fn told(alloc: Global, filter: Filter) -> Result<(char, u8), AllocError> {
+    /// What the check answers to a filter, by the first letter of the refusal's name.
+    fn refused_by(alloc: Global, filter: Filter) -> Result<(char, u8), AllocError> {
         let (word, name) = match check(alloc, &filter, &schema(alloc)?) {
             Ok(_) => return Ok(('o', 0)),
             Err(CheckError::UnknownColumn(name)) => ('u', name),
@@ -182,15 +185,15 @@ mod tests {
             test(alloc, b'y', Cmp::Eq, 1)?,
         )?;
         let filter = both(alloc, test(alloc, b's', Cmp::Eq, 1)?, unknown)?;
-        assert_eq!(rt; told(alloc, filter)?, ('u', b'x'));
+        assert_eq!(rt; refused_by(alloc, filter)?, ('u', b'x'));
         let filter = both(
             alloc,
             test(alloc, b'u', Cmp::Eq, 1)?,
             test(alloc, b's', Cmp::Eq, 1)?,
         )?;
-        assert_eq!(rt; told(alloc, filter)?, ('w', b's'));
+        assert_eq!(rt; refused_by(alloc, filter)?, ('w', b's'));
         assert_eq!(rt;
-            told(alloc, test(alloc, b'u', Cmp::Eq, 1 << 64)?)?,
+            refused_by(alloc, test(alloc, b'u', Cmp::Eq, 1 << 64)?)?,
             ('w', b'u')
         );
         Ok(())
@@ -198,9 +201,9 @@ mod tests {
 
     /// Whether `u >= 3 AND NOT (u > 4 OR u = 3)` keeps the row of this value.
     fn keeps(alloc: Global, value: u64) -> Result<bool, AllocError> {
-        let greater = Box::new(alloc, test(alloc, b'u', Cmp::Gt, 4)?)?;
-        let equal = Box::new(alloc, test(alloc, b'u', Cmp::Eq, 3)?)?;
-        let either = Box::new(alloc, Filter::Either(greater, equal))?;
+        let greater = Boxed::new(alloc, test(alloc, b'u', Cmp::Gt, 4)?)?;
+        let equal = Boxed::new(alloc, test(alloc, b'u', Cmp::Eq, 3)?)?;
+        let either = Boxed::new(alloc, Filter::Either(greater, equal))?;
         let filter = both(alloc, test(alloc, b'u', Cmp::Ge, 3)?, Filter::Not(either))?;
         let row = Row::new(vec![in alloc; Value::UInt(value)]?);
         match check(alloc, &filter, &schema(alloc)?) {

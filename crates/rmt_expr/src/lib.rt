@@ -4,9 +4,8 @@
 mod changes;
 mod check_error;
 mod checks;
+mod group_names;
 mod keeps;
-mod laws;
-mod literals;
 mod mutation_error;
 mod mutations;
 mod queries;
@@ -16,7 +15,6 @@ pub use changes::apply;
 pub use check_error::CheckError;
 pub use checks::check;
 pub use keeps::holds;
-pub use laws::{alike_filters_keep_the_same_rows, checked_forms_are_alike};
 pub use mutation_error::MutationError;
 pub use mutations::check_mutation;
 pub use queries::check_query;

@@ -1,5 +1,5 @@
 ghost use Rattle.std.specs.Prelude.{◌≡◌};
-ghost use Rattle.rmt_expr.specs.Inside.{widened};
+ghost use Rattle.rmt_expr.specs.Placed.{widened};
 ghost use Rattle.rmt_expr.specs.declared.mutation_error.MutationError.TheVariants as refusal;
 
 use crate::check_error::CheckError;
@@ -11,13 +11,13 @@ use std::alloc::{AllocError, AllocFailed};
 pub enum MutationError {
     /// The first name that no column has.
     UnknownColumn(Name),
-    /// The first column that an UPDATE sets once more.
+    /// The first column that an UPDATE sets twice.
     DoubleColumn(Name),
     /// The first column that is set to, or compared with, what isn't of its type.
     WrongType(Name),
     /// The first column that an UPDATE sets although it is one of the sorting key.
     KeyColumn(Name),
-    /// Want of memory.
+    /// Out of memory.
     Memory,
 }
 

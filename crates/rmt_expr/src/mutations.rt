@@ -5,7 +5,7 @@ ghost use Rattle.std.specs.declared.option.Option.TheVariants.{Some, None};
 ghost use Rattle.rmt_values.specs.Schemas.{has_name as has, first_double};
 ghost use Rattle.rmt_values.specs.Commands.{CommandFits, SetsFit};
 ghost use Rattle.rmt_values.specs.Filters.{FilterFits};
-ghost use Rattle.rmt_expr.specs.Checks.{IsChecked, unknown_in as first_unknown};
+ghost use Rattle.rmt_expr.specs.Checks.{checked_of, unknown_in as first_unknown};
 ghost use Rattle.rmt_expr.specs.Mutations.{
   IsCheckedMutation,
   AreSets,
@@ -26,13 +26,12 @@ use crate::check_error::CheckError;
 use crate::checks::{check, unknown, unknown_in};
 use crate::mutation_error::MutationError;
 use crate::sets::placed_sets;
-use rmt_values::{
-    Assignments, Checked, CheckedMutation, Filter, Mutation, Name, Right, Schema, Sets,
-};
+use rmt_list::List;
+use rmt_values::{Checked, CheckedMutation, CheckedRight, Filter, Mutation, Name, Right, Schema};
 use std::alloc::Global;
 
 /// Checks a command against a schema: the same command with places in place of names and values in place of literals.
-/// The name kept of a refusal is the first in the statement that meets its condition; of a set, it is its left side.
+/// The name in a refusal is the first in the statement that meets its condition; of a set, it is its left side.
 pub fn check_mutation(
     alloc: Global,
     m: &Mutation,
@@ -58,7 +57,7 @@ pub fn check_mutation(
 /// The checked form of a DELETE's filter.
 #[tactic(auto, unfolding(crate::specs::Mutations::delete_refusal, crate::specs::Checks::filter_refusal))]
 fn check_delete(alloc: Global, filter: &Filter, schema: &Schema) -> Result<Checked, MutationError>
-    ensures ok { IfOk result (λ c. IsChecked schema.now filter.now c) }
+    ensures ok { IfOk result (λ c. checked_of schema.now filter.now ≡ Some c) }
     ensures fits { IfOk result (λ c. FilterFits schema.now c) }
     ensures known { IfOk result (λ _. delete_refusal schema.now filter.now ≡ None) }
     ensures refused { IfErr result (λ e. (e ≡ refusal.Memory) ⊎ (delete_refusal schema.now filter.now ≡ Some e)) }
@@ -75,11 +74,11 @@ fn check_delete(alloc: Global, filter: &Filter, schema: &Schema) -> Result<Check
 #[tactic(auto, unfolding(crate::specs::Mutations::update_refusal, crate::specs::Checks::filter_refusal))]
 fn check_update(
     alloc: Global,
-    sets: &Assignments,
+    sets: &List<(Name, Right)>,
     filter: &Filter,
     schema: &Schema,
-) -> Result<(Sets, Checked), MutationError>
-    ensures ok { IfOk result (λ c. AreSets schema.now sets.now c.0 × IsChecked schema.now filter.now c.1) }
+) -> Result<(List<(u16, CheckedRight)>, Checked), MutationError>
+    ensures ok { IfOk result (λ c. AreSets schema.now sets.now c.0 × (checked_of schema.now filter.now ≡ Some c.1)) }
     ensures fits { IfOk result (λ c. SetsFit schema.now c.0 × FilterFits schema.now c.1) }
     ensures known { IfOk result (λ _. update_refusal schema.now sets.now filter.now ≡ None) }
     ensures refused { IfErr result (λ e. (e ≡ refusal.Memory)
@@ -96,7 +95,7 @@ fn check_update(
     let filter = check(alloc, filter, schema)?;
     match key_in(pairs, schema) {
         Some(name) => Err(MutationError::KeyColumn(name.copy()?)),
-        None => Ok((Sets::new(placed), filter)),
+        None => Ok((List::new(placed), filter)),
     }
 }
 
@@ -244,8 +243,8 @@ mod tests {
         })
     }
 
-    /// What the check tells of an UPDATE: each pair sets its first column to its second plus 1.
-    fn told(alloc: Global, pairs: &[(u8, u8)], column: u8) -> Result<(char, u8), AllocError> {
+    /// What the check answers to an UPDATE: each pair sets its first column to its second plus 1.
+    fn refused_by(alloc: Global, pairs: &[(u8, u8)], column: u8) -> Result<(char, u8), AllocError> {
         let mut sets = Vec::new(alloc);
         for (left, right) in pairs {
             let column = name(alloc, *right)?;
@@ -253,7 +252,7 @@ mod tests {
             sets.push((name(alloc, *left)?, right))?;
         }
         let update = Mutation::Update {
-            sets: Assignments::new(sets),
+            sets: List::new(sets),
             filter: is_one(alloc, column)?,
         };
         let (word, name) = match check_mutation(alloc, &update, &schema(alloc)?) {
@@ -271,33 +270,36 @@ mod tests {
     }
 
     #[test]
-    fn the_first_refusal_is_told(rt: HostRuntime) -> Result<(), Fail> {
+    fn the_first_refusal_is_returned(rt: HostRuntime) -> Result<(), Fail> {
         let alloc = rt.alloc();
-        assert_eq!(rt; told(alloc, &[(b'u', b'u'), (b'i', b'i')], b'k')?, ('o', 0));
-        assert_eq!(rt; told(alloc, &[(b'u', b'k')], b'u')?, ('o', 0));
         assert_eq!(rt;
-            told(alloc, &[(b'k', b'u'), (b's', b's')], b'k')?,
+            refused_by(alloc, &[(b'u', b'u'), (b'i', b'i')], b'k')?,
+            ('o', 0)
+        );
+        assert_eq!(rt; refused_by(alloc, &[(b'u', b'k')], b'u')?, ('o', 0));
+        assert_eq!(rt;
+            refused_by(alloc, &[(b'k', b'u'), (b's', b's')], b'k')?,
             ('w', b's')
         );
-        assert_eq!(rt; told(alloc, &[(b'k', b'u')], b's')?, ('w', b's'));
+        assert_eq!(rt; refused_by(alloc, &[(b'k', b'u')], b's')?, ('w', b's'));
         assert_eq!(rt;
-            told(alloc, &[(b'k', b'u'), (b'u', b'i')], b's')?,
+            refused_by(alloc, &[(b'k', b'u'), (b'u', b'i')], b's')?,
             ('w', b'u')
         );
         assert_eq!(rt;
-            told(alloc, &[(b'u', b'u'), (b'k', b'k')], b'k')?,
+            refused_by(alloc, &[(b'u', b'u'), (b'k', b'k')], b'k')?,
             ('k', b'k')
         );
         assert_eq!(rt;
-            told(alloc, &[(b'u', b's'), (b'i', b'i'), (b'i', b'i')], b's')?,
+            refused_by(alloc, &[(b'u', b's'), (b'i', b'i'), (b'i', b'i')], b's')?,
             ('d', b'i')
         );
         assert_eq!(rt;
-            told(alloc, &[(b'u', b'x'), (b'y', b'u'), (b'u', b'i')], b'z')?,
+            refused_by(alloc, &[(b'u', b'x'), (b'y', b'u'), (b'u', b'i')], b'z')?,
             ('u', b'x')
         );
         assert_eq!(rt;
-            told(alloc, &[(b'u', b'u'), (b'u', b'i')], b'z')?,
+            refused_by(alloc, &[(b'u', b'u'), (b'u', b'i')], b'z')?,
             ('u', b'z')
         );
         Ok(())

@@ -2,13 +2,13 @@
 ghost use Rattle.std.specs.Prelude.{◌≡◌, ◌⊎◌, IfOk, IfErr};
 ghost use Rattle.std.specs.Option.{option_map};
 ghost use Rattle.std.specs.declared.option.Option.TheVariants.{Some, None};
-ghost use Rattle.rmt_values.specs.Schemas.{has_name as has, names_of};
+ghost use Rattle.rmt_values.specs.Schemas.{names_of};
 ghost use Rattle.rmt_expr.specs.Checks.{unknown_name};
 ghost use Rattle.rmt_expr.specs.Queries.{
   IsAt,
   IsItem,
   AreItems,
-  IsAsked,
+  IsSelectList,
   ArePlaces,
   IsFiltered,
   IsCheckedQuery,
@@ -17,14 +17,11 @@ ghost use Rattle.rmt_expr.specs.Queries.{
   unknown_in_items,
   unknown_in_names,
   unknown_in_where,
-  misfit_in_where,
-  is_aggregate as aggregates,
-  has_aggregate as any_aggregates,
-  is_grouping,
-  misfit_item as misfit_of,
-  misfit_in_items,
+  type_error_in_where,
+  type_error_of_item,
+  type_error_in_items,
   ungrouped as first_ungrouped,
-  misfit_asked as misfit_of_asked,
+  type_error_in_select_list,
   adds_up as adds,
   query_refusal,
 };
@@ -33,34 +30,36 @@ ghost use Rattle.rmt_expr.specs.declared.check_error.CheckError.TheVariants as r
 
 use crate::check_error::CheckError;
 use crate::checks::{kind_of, placed, unknown_in};
+use crate::group_names::GroupNames;
+use rmt_list::List;
 use rmt_values::{
-    Checked, CheckedItem, CheckedItems, CheckedQuery, Column, Filter, Item, Kind, Name, Places,
-    Query, Schema,
+    Checked, CheckedItem, CheckedQuery, Column, Filter, Item, Kind, Name, Query, Schema,
 };
 use std::alloc::{AllocError, Global};
 
 /// Checks a query against a schema: the same query with places in place of names and values in place of literals. The
-/// name kept of a refusal is the first in the statement that meets its condition; without items, all columns are asked
-/// for.
+/// name in a refusal is the first in the statement that meets its condition; no items mean all columns. Of n items and
+/// columns to group by, n log n names are compared.
 #[tactic(auto, unfolding(crate::specs::Queries::query_refusal))]
 pub fn check_query(alloc: Global, q: &Query, schema: &Schema) -> Result<CheckedQuery, CheckError>
     ensures ok { IfOk result (λ c. IsCheckedQuery schema.now q.now c) }
     ensures known { IfOk result (λ _. query_refusal schema.now q.now ≡ None) }
     ensures refused { IfErr result (λ e. (e ≡ refusal.Memory) ⊎ (query_refusal schema.now q.now ≡ Some e)) }
 {
-    let items = asked(alloc, q.items.as_slice(), schema)?;
+    let items = select_list(alloc, q.items.as_slice(), schema)?;
     if let Some(name) = unknown_where(&q.filter, schema) {
         return Err(CheckError::UnknownColumn(name.copy()?));
     }
     let group = places(alloc, q.group.as_slice(), schema)?;
-    if let Some(name) = misfit_asked(q.items.as_slice(), q.group.as_slice(), schema) {
+    let names = GroupNames::new(alloc, q.group.as_slice())?;
+    if let Some(name) = type_error_in_list(q, &names, schema) {
         return Err(CheckError::WrongType(name.copy()?));
     }
     let filter = placed_where(alloc, &q.filter, schema)?;
     Ok(CheckedQuery {
-        items: CheckedItems::new(items),
+        items: List::new(items),
         filter,
-        group: Places::new(group),
+        group: List::new(group),
     })
 }
 
@@ -81,9 +80,9 @@ fn placed_where(
     schema: &Schema,
 ) -> Result<Option<Checked>, CheckError>
     ensures ok { IfOk result (λ c. IsFiltered schema.now filter.now c) }
-    ensures known { IfOk result (λ _. misfit_in_where schema.now filter.now ≡ None) }
+    ensures known { IfOk result (λ _. type_error_in_where schema.now filter.now ≡ None) }
     ensures refused { IfErr result (λ e. (e ≡ refusal.Memory)
-        ⊎ (option_map (λ n. refusal.WrongType n) (misfit_in_where schema.now filter.now) ≡ Some e)) }
+        ⊎ (option_map (λ n. refusal.WrongType n) (type_error_in_where schema.now filter.now) ≡ Some e)) }
 {
     match filter {
         Some(filter) => {
@@ -94,9 +93,13 @@ fn placed_where(
     }
 }
 
-/// The checked forms of what is asked for.
-fn asked(alloc: Global, items: &[Item], schema: &Schema) -> Result<Vec<CheckedItem>, CheckError>
-    ensures ok { IfOk result (λ v. IsAsked schema.now items.now v.items) }
+/// The checked form of a select list.
+fn select_list(
+    alloc: Global,
+    items: &[Item],
+    schema: &Schema,
+) -> Result<Vec<CheckedItem>, CheckError>
+    ensures ok { IfOk result (λ v. IsSelectList schema.now items.now v.items) }
     ensures known { IfOk result (λ _. unknown_in_items schema.now items.now ≡ None) }
     ensures refused { IfErr result (λ e. (e ≡ refusal.Memory)
         ⊎ (option_map (λ n. refusal.UnknownColumn n) (unknown_in_items schema.now items.now) ≡ Some e)) }
@@ -192,85 +195,63 @@ fn place(name: &Name, schema: &Schema) -> Result<u16, CheckError>
     }
 }
 
-/// The first of what is asked for that can't be.
-fn misfit_asked<'a>(items: &'a [Item], group: &[Name], schema: &'a Schema) -> Option<&'a Name>
-    ensures { option_map (λ n. n.now) result ≡ misfit_of_asked schema.now items.now group.now }
+/// The first type error of the select list.
+fn type_error_in_list<'a>(
+    q: &'a Query,
+    group: &GroupNames<'_>,
+    schema: &'a Schema,
+) -> Option<&'a Name>
+    requires { group.now ≡ q.now.group }
+    ensures { option_map (λ n. n.now) result ≡ type_error_in_select_list schema.now q.now.items q.now.group }
 {
-    match items {
-        [] if group.is_empty() => None,
+    match q.items.as_slice() {
+        [] if q.group.as_slice().is_empty() => None,
         [] => ungrouped(schema.columns(), group),
-        [..] => misfit_item_in(
-            items,
-            has_aggregate(items) || !group.is_empty(),
-            group,
-            schema,
-        ),
+        items => type_error_in(items, q.is_grouping(), group, schema),
     }
 }
 
 /// The first column that isn't one of the groups'.
-fn ungrouped<'a>(columns: &'a [Column], group: &[Name]) -> Option<&'a Name>
+fn ungrouped<'a>(columns: &'a [Column], group: &GroupNames<'_>) -> Option<&'a Name>
     ensures { option_map (λ n. n.now) result ≡ first_ungrouped group.now (names_of columns.now) }
 {
     'columns: for i in 0..columns.len() {
-        if !has_name(group, &columns[i].name) {
+        if !group.has(&columns[i].name) {
             return Some(&columns[i].name);
         }
     }
     None
 }
 
-/// Whether an item puts rows together.
-fn has_aggregate(items: &[Item]) -> bool
-    ensures { result ≡ any_aggregates items.now }
-{
-    'items: for item in items {
-        if is_aggregate(item) {
-            return true;
-        }
-    }
-    false
-}
-
-/// Whether the item puts rows together.
-fn is_aggregate(item: &Item) -> bool
-    ensures { result ≡ aggregates item.now }
-{
-    match item {
-        Item::Column(_) => false,
-        Item::Count | Item::Sum(_) | Item::Min(_) | Item::Max(_) => true,
-    }
-}
-
-/// The first item that can't be.
-fn misfit_item_in<'a>(
+/// The first item that is a type error.
+fn type_error_in<'a>(
     items: &'a [Item],
     grouping: bool,
-    group: &[Name],
+    group: &GroupNames<'_>,
     schema: &Schema,
 ) -> Option<&'a Name>
-    ensures { option_map (λ n. n.now) result ≡ misfit_in_items schema.now grouping group.now items.now }
+    ensures { option_map (λ n. n.now) result ≡ type_error_in_items schema.now grouping group.now items.now }
 {
     'items: for i in 0..items.len() {
-        if let Some(name) = misfit_item(&items[i], grouping, group, schema) {
+        if let Some(name) = type_error_of(&items[i], grouping, group, schema) {
             return Some(name);
         }
     }
     None
 }
 
-/// The name of the item, where it can't be.
-fn misfit_item<'a>(
+/// The name of the item, where it is a type error.
+fn type_error_of<'a>(
     item: &'a Item,
     grouping: bool,
-    group: &[Name],
+    group: &GroupNames<'_>,
     schema: &Schema,
 ) -> Option<&'a Name>
-    ensures { option_map (λ n. n.now) result ≡ misfit_of schema.now grouping group.now item.now }
+    ensures { option_map (λ n. n.now) result ≡ type_error_of_item schema.now grouping group.now item.now }
 {
     match item {
         Item::Column(name) => {
-            if grouping && !has_name(group, name) {
+            if grouping && !group.has(name) {
                 Some(name)
             } else {
                 None
@@ -297,22 +278,9 @@ fn adds_up(kind: Option<Kind>) -> bool
     }
 }
 
-/// Whether the name is one of these.
-fn has_name(names: &[Name], name: &Name) -> bool
-    ensures { result ≡ has names.now name.now }
-{
-    'names: for one in names {
-        if one.equals(name) {
-            return true;
-        }
-    }
-    false
-}
-
 #[cfg(test)]
 mod tests {
     use super::*;
-    use rmt_values::{Items, Names};
     use std::test::Fail;
 
     fn name(alloc: Global, letter: u8) -> Result<Name, AllocError> {
@@ -329,9 +297,9 @@ mod tests {
         Schema::new(alloc, columns, Vec::new(alloc), 8192, 100).map_err(|_| AllocError)
     }
 
-    /// What the check tells of a query by these groups: how many items are asked for, or the refusal's first letter
+    /// What the check answers to a query by these groups: how many items the select list has, or the refusal's first letter
     /// and name.
-    fn told(
+    fn answer_to(
         alloc: Global,
         items: Vec<Item>,
         group: &[u8],
@@ -341,9 +309,9 @@ mod tests {
             names.push(name(alloc, *letter)?)?;
         }
         let query = Query {
-            items: Items::new(items),
+            items: List::new(items),
             filter: None,
-            group: Names::new(names),
+            group: List::new(names),
         };
         let (word, name) = match check_query(alloc, &query, &schema(alloc)?) {
             Ok(checked) => return Ok((checked.items.as_slice().len(), 'o', 0)),
@@ -361,16 +329,16 @@ mod tests {
     fn queries_are_checked(rt: HostRuntime) -> Result<(), Fail> {
         let alloc = rt.alloc();
         let (u, s) = (b'u', b's');
-        assert_eq!(rt; told(alloc, Vec::new(alloc), b"")?, (2, 'o', 0));
-        assert_eq!(rt; told(alloc, Vec::new(alloc), b"u")?, (0, 'w', s));
+        assert_eq!(rt; answer_to(alloc, Vec::new(alloc), b"")?, (2, 'o', 0));
+        assert_eq!(rt; answer_to(alloc, Vec::new(alloc), b"u")?, (0, 'w', s));
         let items = vec![in alloc; Item::Column(name(alloc, u)?), Item::Count]?;
-        assert_eq!(rt; told(alloc, items, b"u")?, (2, 'o', 0));
+        assert_eq!(rt; answer_to(alloc, items, b"u")?, (2, 'o', 0));
         let items = vec![in alloc; Item::Count, Item::Column(name(alloc, u)?)]?;
-        assert_eq!(rt; told(alloc, items, b"")?, (0, 'w', u));
+        assert_eq!(rt; answer_to(alloc, items, b"")?, (0, 'w', u));
         let items = vec![in alloc; Item::Max(name(alloc, s)?), Item::Sum(name(alloc, s)?)]?;
-        assert_eq!(rt; told(alloc, items, b"x")?, (0, 'u', b'x'));
+        assert_eq!(rt; answer_to(alloc, items, b"x")?, (0, 'u', b'x'));
         let items = vec![in alloc; Item::Max(name(alloc, s)?), Item::Sum(name(alloc, s)?)]?;
-        assert_eq!(rt; told(alloc, items, b"u")?, (0, 'w', s));
+        assert_eq!(rt; answer_to(alloc, items, b"u")?, (0, 'w', s));
         Ok(())
     }
 }

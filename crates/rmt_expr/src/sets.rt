@@ -5,11 +5,10 @@ ghost use Rattle.std.specs.declared.option.Option.TheVariants.{Some, None};
 ghost use Rattle.rmt_values.specs.Rows.{kind_at, same_kind};
 ghost use Rattle.rmt_values.specs.Commands.{RightFits, is_number as has_numbers};
 ghost use Rattle.rmt_expr.specs.Checks.{IsColumn, kind_named};
-ghost use Rattle.rmt_expr.specs.Mutations.{IsRight, is_kind, may_add, may_be, may_set, misfit_in_sets};
-ghost use Rattle.rmt_expr.specs.Inside.{IsAdded, IsPlaced, ArePlaced};
+ghost use Rattle.rmt_expr.specs.Mutations.{IsRight, is_kind, may_add, may_be, may_set, type_error_in_sets};
+ghost use Rattle.rmt_expr.specs.Placed.{IsAdded, IsPlaced, ArePlaced};
 ghost use Rattle.rmt_expr.specs.declared.mutation_error.MutationError.TheVariants as refusal;
 
-use crate::literals::value_of;
 use crate::mutation_error::MutationError;
 use rmt_values::{CheckedRight, Kind, Literal, Name, Right, Schema, Value};
 use std::alloc::{AllocError, Global};
@@ -21,14 +20,14 @@ pub fn placed_sets(
     schema: &Schema,
 ) -> Result<Vec<(u16, CheckedRight)>, MutationError>
     ensures ok { IfOk result (λ placed. ArePlaced schema.now sets.now placed.items) }
-    ensures known { IfOk result (λ _. misfit_in_sets schema.now sets.now ≡ None) }
+    ensures known { IfOk result (λ _. type_error_in_sets schema.now sets.now ≡ None) }
     ensures refused { IfErr result (λ e. (e ≡ refusal.Memory)
-        ⊎ (option_map (λ n. refusal.WrongType n) (misfit_in_sets schema.now sets.now) ≡ Some e)) }
+        ⊎ (option_map (λ n. refusal.WrongType n) (type_error_in_sets schema.now sets.now) ≡ Some e)) }
 {
     let mut placed = Vec::with_capacity(alloc, sets.len())?;
     let mut rest = sets;
     'sets: while let [first, others @ ..] = rest {
-        match placed_set(&first.0, &first.1, schema)? {
+        match placed_set(alloc, &first.0, &first.1, schema)? {
             Some(pair) => placed.push(pair)?,
             None => return Err(MutationError::WrongType(first.0.copy()?)),
         }
@@ -39,6 +38,7 @@ pub fn placed_sets(
 
 /// The checked form of one set, where its column may be set so.
 fn placed_set(
+    alloc: Global,
     name: &Name,
     right: &Right,
     schema: &Schema,
@@ -54,7 +54,7 @@ fn placed_set(
     let Some(kind) = schema.kind(at) else {
         return Ok(None);
     };
-    match placed_right(at, kind, right, schema)? {
+    match placed_right(alloc, at, kind, right, schema)? {
         Some(value) => Ok(Some((at, value))),
         None => Ok(None),
     }
@@ -62,6 +62,7 @@ fn placed_set(
 
 /// The checked form of what the column at a place, which has this type, is set to, where it may be.
 fn placed_right(
+    alloc: Global,
     target: u16,
     kind: Kind,
     right: &Right,
@@ -75,7 +76,7 @@ fn placed_right(
         × RightFits schema.now target r)) }
 {
     match right {
-        Right::Literal(literal) => match value_of(literal, kind)? {
+        Right::Literal(literal) => match literal.value_in(alloc, kind)? {
             Some(value) => Ok(Some(CheckedRight::Literal(value))),
             None => Ok(None),
         },
@@ -83,11 +84,15 @@ fn placed_right(
             Some(column) => Ok(Some(CheckedRight::Column(column))),
             None => Ok(None),
         },
-        Right::Plus { column, by } => match placed_number(target, kind, column, by, schema)? {
+        Right::Plus { column, by } => match placed_number(
+            alloc, target, kind, column, by, schema,
+        )? {
             Some((column, by)) => Ok(Some(CheckedRight::Plus { column, by })),
             None => Ok(None),
         },
-        Right::Minus { column, by } => match placed_number(target, kind, column, by, schema)? {
+        Right::Minus { column, by } => match placed_number(
+            alloc, target, kind, column, by, schema,
+        )? {
             Some((column, by)) => Ok(Some(CheckedRight::Minus { column, by })),
             None => Ok(None),
         },
@@ -97,6 +102,7 @@ fn placed_right(
 /// The place of a column of numbers and the value of a literal, where both are of this type, which is that of the
 /// column at the place `target`.
 fn placed_number(
+    alloc: Global,
     target: u16,
     kind: Kind,
     column: &Name,
@@ -114,7 +120,7 @@ fn placed_number(
     let Some(at) = place_of(column, kind, schema) else {
         return Ok(None);
     };
-    match value_of(by, kind)? {
+    match by.value_in(alloc, kind)? {
         Some(value) => Ok(Some((at, value))),
         None => Ok(None),
     }

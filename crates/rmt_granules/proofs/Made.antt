@@ -8,7 +8,7 @@ use Rattle.rmt_values.specs.declared.kind.Kind.{Kind}
 use Rattle.rmt_values.specs.Rows.{Shape, AllBelow, fits, key_cmp}
 use Rattle.rmt_values.specs.Schemas.{IsSchema}
 use Rattle.rmt_granules.specs.Granules.{IsPart, marks_of}
-use Rattle.rmt_granules.specs.Making.{kinds_in, data_of}
+use Rattle.rmt_granules.specs.MadePart.{kinds_in, data_of}
 use Rattle.rmt_granules.proofs.Transposed.{wide-fit}
 
 pub part-made : (shape : Shape) (rows : List (List Value)) → IsSchema shape → All (λ r. fits shape.columns r ≡ true) rows → IsSorted (key_cmp shape.key) rows → IsPart (data_of shape rows)

@@ -14,7 +14,12 @@ use Rattle.rmt_values.specs.declared.value.Value.{Value}
 use Rattle.rmt_values.specs.Rows.{AllBelow, cell_cmp, key_cmp}
 use Rattle.rmt_values.proofs.Sorting.{Up, Low, Up-from_sort}
 use Rattle.rmt_values.proofs.Totals.{key_cmp_total}
-use Rattle.rmt_granules.specs.Granules.{PartView, IsPart, key_values, key_cell, marks_after, AboveNone, Rising, granule_of}
+use Rattle.rmt_granules.specs.Granules.{PartView, IsPart, key_values, marks_after, AboveNone, Rising, granule_of}
+
+-- the value of a row in the key's first column, where it has one
+abbrev pub key_cell : List ℕ → List Value → Option Value
+key_cell [] row = None
+key_cell (c ∷ cs) row = slice_get row c
 
 -- ---- the row that a mark is of
 

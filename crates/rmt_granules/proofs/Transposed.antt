@@ -13,7 +13,7 @@ use Rattle.rmt_values.specs.declared.kind.Kind.{Kind}
 use Rattle.rmt_values.specs.declared.kind.Kind.TheVariants as kinds
 use Rattle.rmt_values.specs.Rows.{fits, is_of, same_kind, is_value, kind_of}
 use Rattle.rmt_granules.specs.Columns.{ColumnView, beside, blank_rows, rows_of, kinds_of, AreLong}
-use Rattle.rmt_granules.specs.Making.{kinds_in, with_row, empty_columns, row_at}
+use Rattle.rmt_granules.specs.MadePart.{kinds_in, with_row, empty_columns, row_at}
 
 length-blank_rows : (n : ℕ) → length (blank_rows n) ≡ n
 length-blank_rows zero = refl

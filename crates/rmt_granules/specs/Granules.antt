@@ -27,11 +27,6 @@ abbrev pub key_values : List ℕ → List Value → List Value
 key_values [] row = []
 key_values (c ∷ cs) row = option_to_list (slice_get row c) ++ key_values cs row
 
--- the value of a row in the key's first column, where it has one
-abbrev pub key_cell : List ℕ → List Value → Option Value
-key_cell [] row = None
-key_cell (c ∷ cs) row = slice_get row c
-
 -- the keys of a row and of each n-th one after it, after some that are passed over
 abbrev pub marks_after : ℕ → ℕ → List ℕ → List (List Value) → List (List Value)
 marks_after passed n key [] = []

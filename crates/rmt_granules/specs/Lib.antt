@@ -1,4 +1,4 @@
 pub mod Columns
 pub mod Granules
-pub mod Making
+pub mod MadePart
 pub mod Stored

@@ -1,4 +1,4 @@
-ghost use Rattle.std.specs.Prelude.{◌≡◌, [], ◌∷◌, ◌++◌, length, slice_get, IfOk, OnOk};
+ghost use Rattle.std.specs.Prelude.{◌≡◌, [], ◌∷◌, ◌++◌, length, slice_get, IfOk, OnOk, OnErr};
 ghost use Rattle.rmt_values.specs.Rows.{kind_of};
 
 use rmt_values::{Blob, Kind, Value};
@@ -90,10 +90,11 @@ impl ColumnValues {
         }
     }
 
-    /// Puts a value of the column's type behind the others.
+    /// Puts a value of the column's type at the end.
     pub fn push(&mut self, value: Value) -> Result<(), AllocError>
         requires { kind_of value ≡ self.old.kind }
         ensures ok { OnOk result (self.new ≡ record self.old { values = self.old.values ++ value ∷ [] }) }
+        ensures err { OnErr result (self.new ≡ self.old) }
     {
         match (&mut self.stored, value) {
             (Stored::Unsigned(all), Value::UInt(number)) => {

@@ -3,7 +3,7 @@ ghost use Rattle.std.specs.Prelude.{◌≡◌, true, map, length, IfOk, OnOk};
 ghost use Rattle.std.specs.List.{All};
 ghost use Rattle.rmt_values.specs.Rows.{fits, kind_of};
 ghost use Rattle.rmt_granules.specs.Columns.{rows_of, kinds_of, AreLong};
-ghost use Rattle.rmt_granules.specs.Making.{kinds_in, with_row, empty_columns as blank, row_at as cells_at};
+ghost use Rattle.rmt_granules.specs.MadePart.{kinds_in, with_row, empty_columns as blank, row_at as cells_at};
 
 use crate::column_values::ColumnValues;
 use rmt_values::{Column, Row};
@@ -44,7 +44,7 @@ fn empty_columns(
     Ok(made)
 }
 
-/// Puts each value of the row behind those of its column.
+/// Puts each value of the row at the end of its column.
 fn push_row(columns: &mut [ColumnValues], row: Row) -> Result<(), AllocError>
     requires { map kind_of row ≡ kinds_of columns.old }
     ensures { OnOk result (columns.new ≡ with_row columns.old row) }

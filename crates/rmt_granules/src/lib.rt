@@ -3,10 +3,10 @@
 
 mod column_values;
 mod columns;
-mod marking;
+mod index;
+mod order;
 mod part_data;
-mod sorting;
 
 pub use column_values::ColumnValues;
+pub use order::{all_fit, from_unsorted_rows, sorted_rows};
 pub use part_data::{PartData, from_rows};
-pub use sorting::{all_fit, from_unsorted_rows, sorted_rows};

@@ -4,11 +4,11 @@ ghost use Rattle.std.specs.List.Sorted.{IsSorted};
 ghost use Rattle.rmt_values.specs.Rows.{fits, key_cmp};
 ghost use Rattle.rmt_granules.specs.Columns.{rows_of, kinds_of, AreLong};
 ghost use Rattle.rmt_granules.specs.Granules.{IsPart, Rising, granule_of};
-ghost use Rattle.rmt_granules.specs.Making.{data_of};
+ghost use Rattle.rmt_granules.specs.MadePart.{data_of};
 
 use crate::column_values::ColumnValues;
 use crate::columns::{columns_in, row_at};
-use crate::marking::marks_in;
+use crate::index::marks_in;
 use rmt_values::{Row, Schema};
 use std::alloc::{AllocError, Global};
 use std::marker::Model;
@@ -27,7 +27,7 @@ pub struct PartData {
 impl Model for PartData {
     ghost use Rattle.rmt_granules.specs.Columns.{AreLong};
     ghost use Rattle.rmt_granules.specs.Granules.{PartView, IsPart};
-    ghost use Rattle.rmt_granules.specs.Making.{stored_part};
+    ghost use Rattle.rmt_granules.specs.MadePart.{stored_part};
 
     ghost Value = { PartView };
 
@@ -135,7 +135,7 @@ impl PartData {
 #[cfg(test)]
 mod tests {
     use super::*;
-    use crate::sorting::{all_fit, from_unsorted_rows};
+    use crate::order::{all_fit, from_unsorted_rows};
     use rmt_values::{Blob, Column, Kind, Name, Value};
     use std::test::Fail;
 

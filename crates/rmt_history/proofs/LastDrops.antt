@@ -1,5 +1,5 @@
 -- The last drop of a partition, which takes a name away where any later drop does.
-use Rattle.std.proofs.Common.{◌≡◌, ℕ, inl, inr, Bool, true, false, cond, List, [], ◌∷◌, length, refl, sym, ap, subst, arith, nat_eq}
+use Rattle.std.proofs.Common.{◌≡◌, ◌<◌, ◌≤◌, ℕ, inl, inr, Bool, true, false, cond, List, [], ◌∷◌, length, refl, sym, ap, subst, arith, nat_eq}
 use Rattle.std.proofs.lemmas.Bool.Decides.{nat_tests}
 use Rattle.std.specs.declared.option.Option.{Option}
 use Rattle.std.specs.declared.option.Option.TheVariants.{Some, None}
@@ -14,8 +14,13 @@ use Rattle.rmt_model.specs.Lawful.{Lawful, Used}
 use Rattle.rmt_model.proofs.Lists.{rank-injective}
 use Rattle.rmt_model.proofs.Drops.{dropped-place, dropped-number}
 use Rattle.rmt_history.specs.declared.last_drop.LastDrop.{LastDrop}
-use Rattle.rmt_history.specs.Copies.{last_drop, drop_after, partition_cmp, TakesAfter, takes_after}
+use Rattle.rmt_history.specs.Copies.{last_drop, drop_after, partition_cmp, takes_after}
 use Rattle.rmt_history.proofs.Makers.{exact-option, option-itself, alike}
+
+-- the drop comes after the place and takes the name away
+abbrev pub TakesAfter : Option LastDrop → ℕ → Name → Type 0
+TakesAfter None i a = ⊥
+TakesAfter (Some d) i a = (i < d.place) × (a.max ≤ d.number)
 
 same-partition : (q p : Option ℕ) → is_eq (partition_cmp q p) ≡ nat_eq (rank q) (rank p)
 same-partition q p = go (is_eq (partition_cmp q p)) (nat_eq (rank q) (rank p)) refl refl
@@ -84,8 +89,8 @@ takes-test None i a = (λ h. absurd (cc), λ h. absurd h)
 takes-test (Some d) i a = (λ h. (grind (arith, nat_tests), grind (arith, nat_tests)), λ h. let l = h.0 in let m = h.1 in grind (arith, nat_tests))
 
 -- what the copy notes tells
-pub told : (schema : Shape) (log : List Entry) (i : ℕ) (a : Name) (o : Option LastDrop) (b : Bool) → Lawful schema log → o ≡ last_drop log a.partition → b ≡ takes_after o i a → (IsTrue b → DroppedAfter log i a) × (DroppedAfter log i a → IsTrue b)
-told schema log i a o b l e f = (
+pub takes-away-is : (schema : Shape) (log : List Entry) (i : ℕ) (a : Name) (o : Option LastDrop) (b : Bool) → Lawful schema log → o ≡ last_drop log a.partition → b ≡ takes_after o i a → (IsTrue b → DroppedAfter log i a) × (DroppedAfter log i a → IsTrue b)
+takes-away-is schema log i a o b l e f = (
   λ h. last-is-later log i a (subst (λ (x : Option LastDrop). TakesAfter x i a) e ((takes-test o i a).0 (subst IsTrue f h))),
   λ d. subst IsTrue (sym f) ((takes-test o i a).1 (subst (λ (x : Option LastDrop). TakesAfter x i a) (sym e) (last-takes schema log i a l d))),
 )

@@ -2,4 +2,3 @@ pub mod NextLive
 pub mod Makers
 pub mod LastDrops
 pub mod Copied
-pub mod Played

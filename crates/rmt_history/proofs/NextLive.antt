@@ -8,8 +8,8 @@ use Rattle.rmt_model.specs.Words.{Each}
 use Rattle.rmt_model.specs.Live.{live}
 use Rattle.rmt_model.proofs.Lists.{Each-all}
 use Rattle.rmt_model.proofs.Drops.{supplants}
-use Rattle.rmt_history.specs.Copies.{GoesOn}
+use Rattle.rmt_history.specs.Copies.{FollowsLog}
 
-pub over-of : (e : Entry) (names : List Name) (new : Name) → GoesOn e names → result_name e ≡ Some new → Each (λ a. Overlap new a → Covers new a) names
+pub over-of : (e : Entry) (names : List Name) (new : Name) → FollowsLog e names → result_name e ≡ Some new → Each (λ a. Overlap new a → Covers new a) names
 over-of e names new g q =
     subst (Each (λ a. Overlap new a → Covers new a)) (sym g.living) (Each-all (λ a. Overlap new a → Covers new a) (live g.log) (supplants g.schema e g.log new g.lawful q).over)

@@ -1,4 +1,4 @@
--- What a copy of the front of a log keeps.
+-- What a copy of the prefix of a log keeps.
 use Rattle.std.specs.Prelude.{◌≡◌, ℕ, ◌≤◌, ◌<◌, ◌&&◌, Bool, false, cond, nat_eq, nat_lt, nat_le, length, List, [], ◌∷◌, map, reverse, slice_get, MatchOption}
 use Rattle.std.specs.declared.option.Option.{Option}
 use Rattle.std.specs.declared.option.Option.TheVariants.{Some, None}
@@ -51,7 +51,7 @@ maker_after None place before a = before
 maker_after (Some new) place before a = cond (is_eq (name_cmp new a)) (Some place) before
 
 -- the names are the live ones of a lawful log, which goes on with the entry
-pub record GoesOn (entry : Entry) (names : List Name) : Type 0 where
+pub record FollowsLog (entry : Entry) (names : List Name) : Type 0 where
   pub schema : Shape
   pub log : List Entry
   pub lawful : Lawful schema (entry ∷ log)
@@ -77,11 +77,6 @@ drop_after (Merge new sources count) place before p = before
 drop_after (Mutate old new upto count mcount) place before p = before
 drop_after (Mutation id numbers command) place before p = before
 drop_after (DropRange q n) place before p = cond (is_eq (partition_cmp q p)) (Some (record { place = place; number = n })) before
-
--- the drop stands behind the place and takes the name away
-abbrev pub TakesAfter : Option LastDrop → ℕ → Name → Type 0
-TakesAfter None i a = ⊥
-TakesAfter (Some d) i a = (i < d.place) × (a.max ≤ d.number)
 
 -- the same, as a test
 abbrev pub takes_after : Option LastDrop → ℕ → Name → Bool

@@ -5,9 +5,9 @@ ghost use Rattle.rmt_model.specs.Live.{live as live_of, DroppedAfter};
 ghost use Rattle.rmt_model.specs.Lawful.{Lawful, entry_at};
 ghost use Rattle.rmt_history.specs.Copies.{IsMadeBy};
 
-use crate::following::{follow, note};
 use crate::last_drop::{LastDrop, takes_after};
 use crate::name_key::NameKey;
+use crate::update::{follow, note};
 use rmt_entries::Entry;
 use rmt_names::{PartName, PartitionId};
 use rmt_nameset::NameSet;
@@ -18,7 +18,7 @@ use std::collections::BTreeMap;
 use std::marker::Model;
 use std::sync::Arc;
 
-/// A copy of the front of a table's log: the tokens of the entries 0 up to its length. Contracts see it as the schema, the
+/// A copy of the prefix of a table's log: the tokens of the entries 0 up to its length. Contracts see it as the schema, the
 /// entries, the newest first, and the cells that hold them. The entries are lawful.
 #[derive(Drop)]
 pub struct LogCopy {
@@ -113,7 +113,7 @@ impl LogCopy {
         self.makers.get(&NameKey::of(name)).copied()
     }
 
-    /// Whether a drop that stands behind the place takes the name away.
+    /// Whether a drop that comes after the place takes the name away.
     pub fn dropped_after(&self, i: usize, name: &PartName) -> bool
         ensures { IsTrue result ↔ DroppedAfter self.now.log i name.now }
     {

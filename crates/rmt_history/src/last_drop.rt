@@ -10,7 +10,7 @@ pub(crate) struct LastDrop {
     pub number: u32,
 }
 
-/// Whether the drop stands behind the place and takes the name away.
+/// Whether the drop comes after the place and takes the name away.
 pub(crate) fn takes_after(last: Option<LastDrop>, i: usize, name: &PartName) -> bool
     ensures { result ≡ takes_after_of last i name.now }
 {

@@ -1,8 +1,6 @@
 -- The greatest and the least of the literals that terms give.
-use Rattle.std.proofs.Common.{◌≡◌, ℕ, true, false, List, [], ◌∷◌, ◌++◌, is_lt, refl, sym, ap, ◌∙◌, subst, inl, inr, append_assoc}
-use Rattle.std.specs.Prelude.{nat_eq}
+use Rattle.std.proofs.Common.{◌≡◌, true, false, List, [], ◌∷◌, ◌++◌, is_lt, refl, sym, ap, ◌∙◌, subst, inl, inr, append_assoc}
 use Rattle.std.specs.Option.{option_to_list}
-use Rattle.std.proofs.lemmas.Bool.{cond-true, cond-false, eq-eqb}
 use Rattle.std.specs.declared.option.Option.{Option}
 use Rattle.std.specs.declared.option.Option.TheVariants.{Some, None}
 use Rattle.std.specs.declared.cmp.Ordering.{Ordering}
@@ -10,18 +8,10 @@ use Rattle.std.specs.declared.cmp.Ordering.TheVariants.{Less, Equal, Greater}
 use Rattle.std.specs.Ordering.{is_gt, ordering_reverse}
 use Rattle.std.proofs.lemmas.Cmp.{tied_itself, upto as upto_total}
 use Rattle.rmt_values.specs.declared.value.Value.{Value}
-use Rattle.rmt_values.specs.declared.cmp.Cmp.{Cmp}
-use Rattle.rmt_values.specs.declared.checked.Checked.{Checked}
-use Rattle.rmt_values.specs.declared.checked.Checked.TheVariants.{Test}
 use Rattle.rmt_values.specs.Rows.{value_cmp}
 use Rattle.rmt_values.proofs.Sorting.{gt-from-lt}
 use Rattle.rmt_values.proofs.Totals.{value_cmp_total}
-use Rattle.rmt_keyrange.specs.Ranges.{terms, bounds_by, lower_of, upper_of, given, IsAmong, NoneAbove, NoneBelow, IsGreatest, IsLeast}
-
-pub given-append : (bound : Checked → Option Value) (ts us : List Checked) → given bound (ts ++ us) ≡ given bound ts ++ given bound us
-given-append bound [] us = refl
-given-append bound (t ∷ ts) us =
-    ap (λ (l : List Value). option_to_list (bound t) ++ l) (given-append bound ts us) ∙ sym (append_assoc (option_to_list (bound t)) (given bound ts) (given bound us))
+use Rattle.rmt_keyrange.specs.Ranges.{IsAmong, NoneAbove, NoneBelow, IsGreatest, IsLeast}
 
 among-left : (v : Value) (xs ys : List Value) → IsAmong v xs → IsAmong v (xs ++ ys)
 among-left v [] ys h = absurd h
@@ -100,28 +90,12 @@ least-second v w xs ys gt h k = (among-right w xs ys k.0, below-append w xs ys (
 pub least-first : (v w : Value) (xs ys : List Value) → is_gt (value_cmp v w) ≡ false → IsLeast (Some v) xs → IsLeast (Some w) ys → IsLeast (Some v) (xs ++ ys)
 least-first v w xs ys gt h k = (among-left v xs ys h.0, below-append v xs ys h.1 (below-down w v ys gt k.1))
 
--- ---- one term
+-- ---- one literal
 
-one-greatest : (o : Option Value) → IsGreatest o (option_to_list o ++ [])
-one-greatest None = refl
-one-greatest (Some v) = (inl refl, (ap is_gt (tied_itself value_cmp_total v), tt))
+pub one_greatest : (o : Option Value) → IsGreatest o (option_to_list o)
+one_greatest None = refl
+one_greatest (Some v) = (inl refl, (ap is_gt (tied_itself value_cmp_total v), tt))
 
-one-least : (o : Option Value) → IsLeast o (option_to_list o ++ [])
-one-least None = refl
-one-least (Some v) = (inl refl, (ap is_lt (tied_itself value_cmp_total v), tt))
-
-pub test-low : (column at : ℕ) (cmp : Cmp) (value : Value) → at ≡ column → IsGreatest ((bounds_by cmp value).low) (given (lower_of column) (terms (Test at cmp value)))
-test-low column at cmp value e =
-    subst (λ (o : Option Value). IsGreatest ((bounds_by cmp value).low) (option_to_list o ++ [])) (sym (cond-true _ _ _ (eq-eqb at column e))) (one-greatest ((bounds_by cmp value).low))
-
-pub test-high : (column at : ℕ) (cmp : Cmp) (value : Value) → at ≡ column → IsLeast ((bounds_by cmp value).high) (given (upper_of column) (terms (Test at cmp value)))
-test-high column at cmp value e =
-    subst (λ (o : Option Value). IsLeast ((bounds_by cmp value).high) (option_to_list o ++ [])) (sym (cond-true _ _ _ (eq-eqb at column e))) (one-least ((bounds_by cmp value).high))
-
-pub other-low : (column at : ℕ) (cmp : Cmp) (value : Value) → nat_eq at column ≡ false → IsGreatest None (given (lower_of column) (terms (Test at cmp value)))
-other-low column at cmp value e =
-    subst (λ (o : Option Value). IsGreatest None (option_to_list o ++ [])) (sym (cond-false _ _ _ e)) refl
-
-pub other-high : (column at : ℕ) (cmp : Cmp) (value : Value) → nat_eq at column ≡ false → IsLeast None (given (upper_of column) (terms (Test at cmp value)))
-other-high column at cmp value e =
-    subst (λ (o : Option Value). IsLeast None (option_to_list o ++ [])) (sym (cond-false _ _ _ e)) refl
+pub one_least : (o : Option Value) → IsLeast o (option_to_list o)
+one_least None = refl
+one_least (Some v) = (inl refl, (ap is_lt (tied_itself value_cmp_total v), tt))

@@ -1,4 +1,4 @@
--- Rows between the bounds stand in the granules that are chosen.
+-- Rows between the bounds are in the granules that are chosen.
 use Rattle.std.specs.Prelude.{◌↔◌}
 use Rattle.std.proofs.Math.Nat.{div-add-mod, mod-lt, mul-le-mul_right, suc-mul, mul_comm}
 use Rattle.std.proofs.lemmas.Bool.{cases_lt}
@@ -10,9 +10,10 @@ use Rattle.rmt_values.specs.declared.value.Value.{Value}
 use Rattle.rmt_values.specs.Rows.{cell_cmp, key_cmp}
 use Rattle.rmt_values.proofs.Sorting.{gt-from-lt}
 use Rattle.rmt_values.proofs.Totals.{key_cmp_total}
-use Rattle.rmt_granules.specs.Granules.{PartView, IsPart, key_cell}
-use Rattle.rmt_granules.proofs.Marks.{part-mark-there, part-row-there, part-mark-cell, head-order}
-use Rattle.rmt_keyrange.specs.Chosen.{cell_most, cell_below, at_most, is_below, IsChosen, IsWithin}
+use Rattle.rmt_granules.specs.Granules.{PartView, IsPart}
+use Rattle.rmt_granules.proofs.Marks.{part-mark-there, part-row-there, part-mark-cell, head-order, key_cell}
+use Rattle.rmt_keyrange.specs.Chosen.{cell_most, cell_below, at_most, is_below, IsChosen}
+use Rattle.rmt_keyrange.proofs.Within.{IsWithin}
 use Rattle.rmt_keyrange.proofs.Parted.{most-down, below-down}
 
 not-true-false : (b : Bool) → (b ≡ true → ⊥) → b ≡ false

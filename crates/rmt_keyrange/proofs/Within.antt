@@ -1,5 +1,5 @@
 -- A row that a filter keeps lies between the filter's bounds.
-use Rattle.std.proofs.Common.{◌≡◌, ℕ, Bool, true, false, not, List, [], ◌∷◌, ◌++◌, slice_get, is_lt, refl, sym, ap, subst, inl, inr}
+use Rattle.std.proofs.Common.{◌≡◌, ℕ, Bool, true, false, not, List, [], ◌∷◌, ◌++◌, slice_get, is_lt, refl, sym, ap, ◌∙◌, subst, inl, inr}
 use Rattle.std.specs.Prelude.{◌⊎◌, nat_eq}
 use Rattle.std.specs.Option.{option_to_list}
 use Rattle.std.proofs.lemmas.Bool.{cases_Bool, and_parts, cond-true, cond-false, eqb-true}
@@ -12,28 +12,19 @@ use Rattle.rmt_values.specs.declared.value.Value.{Value}
 use Rattle.rmt_values.specs.declared.cmp.Cmp.{Cmp}
 use Rattle.rmt_values.specs.declared.cmp.Cmp.TheVariants as cmps
 use Rattle.rmt_values.specs.declared.checked.Checked.{Checked}
-use Rattle.rmt_values.specs.declared.checked.Checked.TheVariants.{Test, Both', Either', Not'}
+use Rattle.rmt_values.specs.declared.checked.Checked.TheOpen.{Checked-F, Test, Both, Either, Not}
+use Rattle.rmt_values.specs.declared.checked.Checked.TheViews.{roll-Checked}
+use Rattle.rmt_values.specs.declared.checked.Checked.TheFolds.{ind-Checked, map-Checked, fold-roll-Checked}
 use Rattle.rmt_values.specs.Rows.{value_cmp}
-use Rattle.rmt_values.specs.Filters.{holds, cell_holds}
+use Rattle.rmt_values.specs.Filters.{holds, keeps, cell_holds}
 use Rattle.rmt_keyrange.specs.declared.key_range.KeyRange.{KeyRange}
-use Rattle.rmt_keyrange.specs.Ranges.{terms, bounds_by, lower_of, upper_of, given, IsAmong, IsGreatest, IsLeast, IsRangeOf}
-use Rattle.rmt_keyrange.specs.Chosen.{cell_most, cell_below, IsWithin}
+use Rattle.rmt_keyrange.specs.Ranges.{bounds_by, lows_at, highs_at, lows, highs, IsAmong, IsGreatest, IsLeast, IsRangeOf}
+use Rattle.rmt_keyrange.specs.Chosen.{cell_most, cell_below}
+use Rattle.rmt_granules.proofs.Marks.{key_cell}
 
--- each of the terms keeps the row
-abbrev AllHold : List Value → List Checked → Type 0
-AllHold row [] = Unit {0}
-AllHold row (t ∷ ts) = (holds t row ≡ true) × AllHold row ts
-
-hold-append : (row : List Value) (ts us : List Checked) → AllHold row ts → AllHold row us → AllHold row (ts ++ us)
-hold-append row [] us h k = k
-hold-append row (t ∷ ts) us h k = (h.0, hold-append row ts us h.1 k)
-
-terms-hold : (f : Checked) (row : List Value) → holds f row ≡ true → AllHold row (terms f)
-terms-hold (Test at cmp value) row h = (h, tt)
-terms-hold (Both' p f q g) row h =
-    let w = and_parts (holds f row) (holds g row) h in hold-append row (terms f) (terms g) (terms-hold f row w.0) (terms-hold g row w.1)
-terms-hold (Either' p f q g) row h = (h, tt)
-terms-hold (Not' p f) row h = (h, tt)
+-- the value of a row in the key's first column lies between the bounds
+abbrev pub IsWithin : Option Value → Option Value → List ℕ → List Value → Type 0
+IsWithin low high key row = (cell_below low (key_cell key row) ≡ false) × (cell_most high (key_cell key row) ≡ true)
 
 among-append : (v : Value) (xs ys : List Value) → IsAmong v (xs ++ ys) → IsAmong v xs ⊎ IsAmong v ys
 among-append v [] ys h = inr h
@@ -104,55 +95,69 @@ high-term cmps.Ge (Some u) value v h m = absurd m
 same-column : (at c : ℕ) (row : List Value) → nat_eq at c ≡ true → slice_get row at ≡ slice_get row c
 same-column at c row e = ap (slice_get row) (eqb-true at c e)
 
-low-test : (c at : ℕ) (cmp : Cmp) (value v : Value) (row : List Value) → holds (Test at cmp value) row ≡ true → IsAmong v (option_to_list (lower_of c (Test at cmp value))) → cell_below (Some v) (slice_get row c) ≡ false
+low-test : (c at : ℕ) (cmp : Cmp) (value v : Value) (row : List Value) → cell_holds cmp (slice_get row at) value ≡ true → IsAmong v (lows_at c (Test at cmp value)) → cell_below (Some v) (slice_get row c) ≡ false
 low-test c at cmp value v row h m = elim (cases_Bool (nat_eq at c)) [
   | inl e ↦
       subst (λ (o : Option Value). cell_below (Some v) o ≡ false) (same-column at c row e)
-      (low-term cmp (slice_get row at) value v h (subst (λ (o : Option Value). IsAmong v (option_to_list o)) (cond-true _ _ _ e) m))
-  | inr e ↦ absurd (subst (λ (o : Option Value). IsAmong v (option_to_list o)) (cond-false _ _ _ e) m)
+      (low-term cmp (slice_get row at) value v h (subst (IsAmong v) (cond-true _ _ _ e) m))
+  | inr e ↦ absurd (subst (IsAmong v) (cond-false _ _ _ e) m)
 ]
 
-high-test : (c at : ℕ) (cmp : Cmp) (value v : Value) (row : List Value) → holds (Test at cmp value) row ≡ true → IsAmong v (option_to_list (upper_of c (Test at cmp value))) → cell_most (Some v) (slice_get row c) ≡ true
+high-test : (c at : ℕ) (cmp : Cmp) (value v : Value) (row : List Value) → cell_holds cmp (slice_get row at) value ≡ true → IsAmong v (highs_at c (Test at cmp value)) → cell_most (Some v) (slice_get row c) ≡ true
 high-test c at cmp value v row h m = elim (cases_Bool (nat_eq at c)) [
   | inl e ↦
       subst (λ (o : Option Value). cell_most (Some v) o ≡ true) (same-column at c row e)
-      (high-term cmp (slice_get row at) value v h (subst (λ (o : Option Value). IsAmong v (option_to_list o)) (cond-true _ _ _ e) m))
-  | inr e ↦ absurd (subst (λ (o : Option Value). IsAmong v (option_to_list o)) (cond-false _ _ _ e) m)
+      (high-term cmp (slice_get row at) value v h (subst (IsAmong v) (cond-true _ _ _ e) m))
+  | inr e ↦ absurd (subst (IsAmong v) (cond-false _ _ _ e) m)
 ]
 
-low-one : (c : ℕ) (t : Checked) (v : Value) (row : List Value) → holds t row ≡ true → IsAmong v (option_to_list (lower_of c t)) → cell_below (Some v) (slice_get row c) ≡ false
-low-one c (Test at cmp value) v row h m = low-test c at cmp value v row h m
-low-one c (Both' p f q g) v row h m = absurd m
-low-one c (Either' p f q g) v row h m = absurd m
-low-one c (Not' p f) v row h m = absurd m
+-- a row that the filter keeps is not below a literal that it has to exceed
+abbrev LowKept : ℕ → List Value → Checked → Type 0
+LowKept c row f = (v : Value) → holds f row ≡ true → IsAmong v (lows c f) → cell_below (Some v) (slice_get row c) ≡ false
 
-high-one : (c : ℕ) (t : Checked) (v : Value) (row : List Value) → holds t row ≡ true → IsAmong v (option_to_list (upper_of c t)) → cell_most (Some v) (slice_get row c) ≡ true
-high-one c (Test at cmp value) v row h m = high-test c at cmp value v row h m
-high-one c (Both' p f q g) v row h m = absurd m
-high-one c (Either' p f q g) v row h m = absurd m
-high-one c (Not' p f) v row h m = absurd m
+low-level : (c : ℕ) (row : List Value) (v : Value) (y : Checked-F ((f : Checked) × LowKept c row f))
+    → keeps row (map-Checked Checked Bool (λ f. holds f row) (map-Checked ((f : Checked) × LowKept c row f) Checked (λ e. e.0) y)) ≡ true
+    → IsAmong v (lows_at c (map-Checked Checked (List Value) (lows c) (map-Checked ((f : Checked) × LowKept c row f) Checked (λ e. e.0) y))) → cell_below (Some v) (slice_get row c) ≡ false
+low-level c row v (Test at cmp value) h m = low-test c at cmp value v row h m
+low-level c row v (Both f g) h m =
+    let w = and_parts (holds f.0 row) (holds g.0 row) h in
+    elim (among-append v (lows c f.0) (lows c g.0) m) [ inl l ↦ f.1 v w.0 l | inr r ↦ g.1 v w.1 r ]
+low-level c row v (Either f g) h m = absurd m
+low-level c row v (Not f) h m = absurd m
 
-low-all : (c : ℕ) (row : List Value) (ts : List Checked) (v : Value) → AllHold row ts → IsAmong v (given (lower_of c) ts) → cell_below (Some v) (slice_get row c) ≡ false
-low-all c row [] v h m = absurd m
-low-all c row (t ∷ ts) v h m = elim (among-append v (option_to_list (lower_of c t)) (given (lower_of c) ts) m) [
-  | inl l ↦ low-one c t v row h.0 l
-  | inr r ↦ low-all c row ts v h.1 r
-]
+low-kept : (c : ℕ) (row : List Value) (f : Checked) → LowKept c row f
+low-kept c row = ind-Checked (LowKept c row) (λ x y is.
+    subst (λ z. LowKept c row (roll-Checked z)) is (λ v h m.
+    low-level c row v y (sym (fold-roll-Checked Bool (keeps row) (map-Checked _ _ (λ e. e.0) y)) ∙ h)
+    (subst (IsAmong v) (fold-roll-Checked (List Value) (lows_at c) (map-Checked _ _ (λ e. e.0) y)) m)))
 
-high-all : (c : ℕ) (row : List Value) (ts : List Checked) (v : Value) → AllHold row ts → IsAmong v (given (upper_of c) ts) → cell_most (Some v) (slice_get row c) ≡ true
-high-all c row [] v h m = absurd m
-high-all c row (t ∷ ts) v h m = elim (among-append v (option_to_list (upper_of c t)) (given (upper_of c) ts) m) [
-  | inl l ↦ high-one c t v row h.0 l
-  | inr r ↦ high-all c row ts v h.1 r
-]
+-- a row that the filter keeps is at most a literal that it has to stay below
+abbrev HighKept : ℕ → List Value → Checked → Type 0
+HighKept c row f = (v : Value) → holds f row ≡ true → IsAmong v (highs c f) → cell_most (Some v) (slice_get row c) ≡ true
 
-low-within : (c : ℕ) (filter : Checked) (low : Option Value) (row : List Value) → IsGreatest low (given (lower_of c) (terms filter)) → holds filter row ≡ true → cell_below low (slice_get row c) ≡ false
+high-level : (c : ℕ) (row : List Value) (v : Value) (y : Checked-F ((f : Checked) × HighKept c row f))
+    → keeps row (map-Checked Checked Bool (λ f. holds f row) (map-Checked ((f : Checked) × HighKept c row f) Checked (λ e. e.0) y)) ≡ true
+    → IsAmong v (highs_at c (map-Checked Checked (List Value) (highs c) (map-Checked ((f : Checked) × HighKept c row f) Checked (λ e. e.0) y))) → cell_most (Some v) (slice_get row c) ≡ true
+high-level c row v (Test at cmp value) h m = high-test c at cmp value v row h m
+high-level c row v (Both f g) h m =
+    let w = and_parts (holds f.0 row) (holds g.0 row) h in
+    elim (among-append v (highs c f.0) (highs c g.0) m) [ inl l ↦ f.1 v w.0 l | inr r ↦ g.1 v w.1 r ]
+high-level c row v (Either f g) h m = absurd m
+high-level c row v (Not f) h m = absurd m
+
+high-kept : (c : ℕ) (row : List Value) (f : Checked) → HighKept c row f
+high-kept c row = ind-Checked (HighKept c row) (λ x y is.
+    subst (λ z. HighKept c row (roll-Checked z)) is (λ v h m.
+    high-level c row v y (sym (fold-roll-Checked Bool (keeps row) (map-Checked _ _ (λ e. e.0) y)) ∙ h)
+    (subst (IsAmong v) (fold-roll-Checked (List Value) (highs_at c) (map-Checked _ _ (λ e. e.0) y)) m)))
+
+low-within : (c : ℕ) (filter : Checked) (low : Option Value) (row : List Value) → IsGreatest low (lows c filter) → holds filter row ≡ true → cell_below low (slice_get row c) ≡ false
 low-within c filter None row g h = refl
-low-within c filter (Some v) row g h = low-all c row (terms filter) v (terms-hold filter row h) g.0
+low-within c filter (Some v) row g h = low-kept c row filter v h g.0
 
-high-within : (c : ℕ) (filter : Checked) (high : Option Value) (row : List Value) → IsLeast high (given (upper_of c) (terms filter)) → holds filter row ≡ true → cell_most high (slice_get row c) ≡ true
+high-within : (c : ℕ) (filter : Checked) (high : Option Value) (row : List Value) → IsLeast high (highs c filter) → holds filter row ≡ true → cell_most high (slice_get row c) ≡ true
 high-within c filter None row g h = refl
-high-within c filter (Some v) row g h = high-all c row (terms filter) v (terms-hold filter row h) g.0
+high-within c filter (Some v) row g h = high-kept c row filter v h g.0
 
 pub kept-within : (key : List ℕ) (filter : Checked) (range : KeyRange) (row : List Value) → IsRangeOf key filter range → holds filter row ≡ true → IsWithin range.low range.high key row
 kept-within [] filter range row r h = (ap (λ (low : Option Value). cell_below low None) r.0, ap (λ (high : Option Value). cell_most high None) r.1)

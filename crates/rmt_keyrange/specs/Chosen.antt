@@ -7,7 +7,6 @@ use Rattle.std.specs.declared.option.Option.{Option}
 use Rattle.std.specs.declared.option.Option.TheVariants.{Some, None}
 use Rattle.rmt_values.specs.declared.value.Value.{Value}
 use Rattle.rmt_values.specs.Rows.{cell_cmp}
-use Rattle.rmt_granules.specs.Granules.{key_cell}
 
 -- a value is at most the upper bound; one that is absent excludes nothing
 abbrev pub cell_most : Option Value → Option Value → Bool
@@ -33,7 +32,3 @@ abbrev pub IsChosen : Option Value → Option Value → List (List Value) → �
 IsChosen low high marks g =
     (at_most high (slice_index_or marks g []) ≡ true)
     × ((g + 1 ≡ length marks) ⊎ (is_below low (slice_index_or marks (g + 1) []) ≡ false))
-
--- the value of a row in the key's first column lies between the bounds
-abbrev pub IsWithin : Option Value → Option Value → List ℕ → List Value → Type 0
-IsWithin low high key row = (cell_below low (key_cell key row) ≡ false) × (cell_most high (key_cell key row) ≡ true)

@@ -10,16 +10,10 @@ use Rattle.rmt_values.specs.declared.value.Value.{Value}
 use Rattle.rmt_values.specs.declared.cmp.Cmp.{Cmp}
 use Rattle.rmt_values.specs.declared.cmp.Cmp.TheVariants as cmps
 use Rattle.rmt_values.specs.declared.checked.Checked.{Checked}
-use Rattle.rmt_values.specs.declared.checked.Checked.TheVariants.{Test, Both', Either', Not'}
+use Rattle.rmt_values.specs.declared.checked.Checked.TheOpen.{Checked-F, Test, Both, Either, Not}
+use Rattle.rmt_values.specs.declared.checked.Checked.TheFolds.{fold-Checked}
 use Rattle.rmt_values.specs.Rows.{value_cmp}
 use Rattle.rmt_keyrange.specs.declared.key_range.KeyRange.{KeyRange}
-
--- the top-level AND terms of a filter
-abbrev pub terms : Checked → List Checked
-terms (Test column cmp value) = Test column cmp value ∷ []
-terms (Both' p f q g) = terms f ++ terms g
-terms (Either' p f q g) = Either' p f q g ∷ []
-terms (Not' p f) = Not' p f ∷ []
 
 -- what a comparison with a value requires: the value to equal or exceed, and the one to equal or stay below
 abbrev pub bounds_by : Cmp → Value → KeyRange
@@ -30,24 +24,27 @@ bounds_by cmps.Le v = record { low = None; high = Some v }
 bounds_by cmps.Gt v = record { low = Some v; high = None }
 bounds_by cmps.Ge v = record { low = Some v; high = None }
 
--- the literal that a term requires a column to equal or exceed
-abbrev pub lower_of : ℕ → Checked → Option Value
-lower_of column (Test at cmp value) = cond (nat_eq at column) ((bounds_by cmp value).low) None
-lower_of column (Both' p f q g) = None
-lower_of column (Either' p f q g) = None
-lower_of column (Not' p f) = None
+-- the literals that one level requires a column to equal or exceed, from those of the filters inside it
+abbrev pub lows_at : ℕ → Checked-F (List Value) → List Value
+lows_at column (Test at cmp value) = cond (nat_eq at column) (option_to_list ((bounds_by cmp value).low)) []
+lows_at column (Both f g) = f ++ g
+lows_at column (Either f g) = []
+lows_at column (Not f) = []
 
--- the literal that a term requires a column to equal or stay below
-abbrev pub upper_of : ℕ → Checked → Option Value
-upper_of column (Test at cmp value) = cond (nat_eq at column) ((bounds_by cmp value).high) None
-upper_of column (Both' p f q g) = None
-upper_of column (Either' p f q g) = None
-upper_of column (Not' p f) = None
+-- the literals that the top-level AND terms of a filter require a column to equal or exceed
+abbrev pub lows : ℕ → Checked → List Value
+lows column filter = fold-Checked (List Value) (lows_at column) filter
 
--- the literals that terms give
-abbrev pub given : (Checked → Option Value) → List Checked → List Value
-given bound [] = []
-given bound (t ∷ ts) = option_to_list (bound t) ++ given bound ts
+-- the literals that one level requires a column to equal or stay below, from those of the filters inside it
+abbrev pub highs_at : ℕ → Checked-F (List Value) → List Value
+highs_at column (Test at cmp value) = cond (nat_eq at column) (option_to_list ((bounds_by cmp value).high)) []
+highs_at column (Both f g) = f ++ g
+highs_at column (Either f g) = []
+highs_at column (Not f) = []
+
+-- the literals that the top-level AND terms of a filter require a column to equal or stay below
+abbrev pub highs : ℕ → Checked → List Value
+highs column filter = fold-Checked (List Value) (highs_at column) filter
 
 -- it is one of them
 abbrev pub IsAmong : Value → List Value → Type 0
@@ -78,4 +75,4 @@ IsLeast (Some v) ws = IsAmong v ws × NoneBelow v ws
 -- from above; without a key column there are none
 abbrev pub IsRangeOf : List ℕ → Checked → KeyRange → Type 0
 IsRangeOf [] filter range = (range.low ≡ None) × (range.high ≡ None)
-IsRangeOf (c ∷ cs) filter range = IsGreatest range.low (given (lower_of c) (terms filter)) × IsLeast range.high (given (upper_of c) (terms filter))
+IsRangeOf (c ∷ cs) filter range = IsGreatest range.low (lows c filter) × IsLeast range.high (highs c filter)

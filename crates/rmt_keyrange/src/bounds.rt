@@ -1,7 +1,8 @@
 //! The bounds that a filter gives.
-ghost use Rattle.std.specs.Prelude.{◌≡◌, List, ◌++◌, IfOk};
+ghost use Rattle.std.specs.Prelude.{◌≡◌, List, [], ◌++◌, IfOk, cond, nat_eq};
+ghost use Rattle.std.specs.Option.{option_to_list};
 ghost use Rattle.rmt_values.specs.declared.value.Value.{Value as OneValue};
-ghost use Rattle.rmt_keyrange.specs.Ranges.{terms, lower_of, upper_of, given, bounds_by, IsGreatest, IsLeast, IsRangeOf};
+ghost use Rattle.rmt_keyrange.specs.Ranges.{lows, highs, bounds_by, IsGreatest, IsLeast, IsRangeOf};
 
 use crate::key_range::KeyRange;
 use rmt_values::{Checked, Cmp, Schema, Value};
@@ -23,27 +24,17 @@ pub fn range_of(filter: &Checked, schema: &Schema) -> Result<KeyRange, AllocErro
 
 /// The bounds that a filter gives on a column.
 fn bounds_on(filter: &Checked, column: u16) -> Result<KeyRange, AllocError>
-    ensures low { IfOk result (λ range. IsGreatest range.low (given (lower_of column) (terms filter.now))) }
-    ensures high { IfOk result (λ range. IsLeast range.high (given (upper_of column) (terms filter.now))) }
+    ensures low { IfOk result (λ range. IsGreatest range.low (lows column filter.now)) }
+    ensures high { IfOk result (λ range. IsLeast range.high (highs column filter.now)) }
 {
     match filter {
         Checked::Test {
             column: at,
             cmp,
             value,
-        } => {
-            if *at == column {
-                let range = compared(*cmp, value)?;
-                Ok(range)
-            } else {
-                Ok(KeyRange {
-                    low: None,
-                    high: None,
-                })
-            }
-        }
+        } => tested(*at, *cmp, value, column),
         Checked::Both(f, g) => {
-            let (first, second) = (bounds_on(f, column)?, bounds_on(g, column)?);
+            let (first, second) = (bounds_on(f.get(), column)?, bounds_on(g.get(), column)?);
             Ok(KeyRange {
                 low: greatest(first.low, second.low),
                 high: least(first.high, second.high),
@@ -54,6 +45,23 @@ fn bounds_on(filter: &Checked, column: u16) -> Result<KeyRange, AllocError>
             high: None,
         }),
     }
+}
+
+/// The bounds that a test of the column at a place gives on a column.
+#[tactic(auto, using(crate::proofs::GivenBounds::one_greatest, crate::proofs::GivenBounds::one_least))]
+fn tested(at: u16, cmp: Cmp, value: &Value, column: u16) -> Result<KeyRange, AllocError>
+    ensures low { IfOk result (λ range. IsGreatest range.low
+        (cond (nat_eq at column) (option_to_list ((bounds_by cmp value.now).low)) [])) }
+    ensures high { IfOk result (λ range. IsLeast range.high
+        (cond (nat_eq at column) (option_to_list ((bounds_by cmp value.now).high)) [])) }
+{
+    if at == column {
+        return compared(cmp, value);
+    }
+    Ok(KeyRange {
+        low: None,
+        high: None,
+    })
 }
 
 /// The bounds that a comparison with a value gives.

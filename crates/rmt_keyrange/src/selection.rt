@@ -90,6 +90,7 @@ mod tests {
     use super::*;
     use crate::bounds::range_of;
     use rmt_granules::{all_fit, from_unsorted_rows};
+    use rmt_list::Boxed;
     use rmt_values::{Blob, Checked, Cmp, Column, Kind, Name, Schema, Value};
     use std::alloc::{AllocError, Global};
     use std::test::Fail;
@@ -145,15 +146,15 @@ mod tests {
     }
 
     fn both(alloc: Global, f: Checked, g: Checked) -> Result<Checked, AllocError> {
-        Ok(Checked::Both(Box::new(alloc, f)?, Box::new(alloc, g)?))
+        Ok(Checked::Both(Boxed::new(alloc, f)?, Boxed::new(alloc, g)?))
     }
 
     fn either(alloc: Global, f: Checked, g: Checked) -> Result<Checked, AllocError> {
-        Ok(Checked::Either(Box::new(alloc, f)?, Box::new(alloc, g)?))
+        Ok(Checked::Either(Boxed::new(alloc, f)?, Boxed::new(alloc, g)?))
     }
 
     fn not(alloc: Global, f: Checked) -> Result<Checked, AllocError> {
-        Ok(Checked::Not(Box::new(alloc, f)?))
+        Ok(Checked::Not(Boxed::new(alloc, f)?))
     }
 
     /// The granules that a filter reads.

@@ -13,7 +13,7 @@ use Rattle.rmt_model.proofs.Lists.{Each-at}
 use Rattle.rmt_model.proofs.LiveLaws.{Tight, tight, accounted, drop-of, not-both, Pairwise-cases, covers-none-but-itself}
 use Rattle.rmt_model.proofs.VersionLaws.{live-made, made-sized}
 
--- where all is marked, each made name was made at a mark, and each drop stands at one
+-- where all is marked, each made name was made at a mark, and each drop is at one
 all-made : (log : List Entry) (marked : ℕ → Bool) (a : Name) → AllMarked log marked → Has (made log) a → MadeAtMark log marked a
 all-made [] marked a d h = absurd h
 all-made (Get p n digest source need ∷ log) marked a d (inl q) = inl (d (length log) (omega arith), ap Some q)

@@ -65,7 +65,7 @@ entry-below (x ∷ log) i e h = go (nat_eq i (length log)) refl h (entry-below l
     go true q k f = let r : i ≡ length log = grind (arith, nat_tests) in omega (arith, r)
     go false q k f = let r = f k in omega (arith, r)
 
--- an entry is the newest, or stands in the log before it
+-- an entry is the newest, or is in the log before it
 pub entry-cases : (x : Entry) (log : List Entry) (i : ℕ) (e : Entry) → entry_at (x ∷ log) i ≡ Some e → ((i ≡ length log) × (x ≡ e)) ⊎ (entry_at log i ≡ Some e)
 entry-cases x log i e q = go (nat_eq i (length log)) refl q
   where
@@ -73,7 +73,7 @@ entry-cases x log i e q = go (nat_eq i (length log)) refl q
     go true t k = inl (grind (arith, nat_tests), some-same x e k)
     go false t k = inr k
 
--- what stands at a place of a log stands there in a longer one
+-- what is at a place of a log is there in a longer one
 pub entry-older : (x : Entry) (log : List Entry) (i : ℕ) (e : Entry) → entry_at log i ≡ Some e → entry_at (x ∷ log) i ≡ Some e
 entry-older x log i e q =
     let k = entry-below log i e q in
@@ -144,7 +144,7 @@ marked-made [] marked a h = absurd h
 marked-made (e ∷ log) marked a (inl h) = newest-made e log a h.1
 marked-made (e ∷ log) marked a (inr h) = made-more e log a (marked-made log marked a h)
 
--- ---- drops behind a place
+-- ---- drops after a place
 
 pub dropped-place : (log : List Entry) (i : ℕ) (a : Name) → DroppedAfter log i a → i < length log
 dropped-place [] i a d = absurd d
@@ -161,7 +161,7 @@ dropped-number (Merge new sources count ∷ log) i a (inr d) = absurd d.1
 dropped-number (Mutate old new upto count mcount ∷ log) i a (inr d) = absurd d.1
 dropped-number (Mutation id numbers command ∷ log) i a (inr d) = absurd d.1
 
--- a name is dropped where a drop behind its maker takes it away
+-- a name is dropped where a drop after its maker takes it away
 pub after-dropped : (log : List Entry) (i : ℕ) (e : Entry) (a : Name) → entry_at log i ≡ Some e → result_name e ≡ Some a → DroppedAfter log i a → Dropped log a
 after-dropped [] i e a q r d = absurd d
 after-dropped (x ∷ log) i e a q r d = elim (entry-cases x log i e q) [

@@ -7,7 +7,6 @@ use Rattle.rmt_entries.specs.Entries.{result_name}
 use Rattle.rmt_entries.specs.declared.entry.Entry.{Entry}
 use Rattle.rmt_model.specs.Words.{Has, Each, Pairwise}
 use Rattle.rmt_model.specs.Live.{Before, made, TakesAway, Dropped}
-use Rattle.rmt_model.specs.Lawful.{Lawful}
 
 -- one of the names covers a
 pub record CoveredBy (names : List Name) (a : Name) : Type 0 where
@@ -33,11 +32,6 @@ pub record AreFair (log : List Entry) (marked : ℕ → Bool) (names : List Name
   pub made_here : Each (λ a. Has (made log) a) names
   pub kept : Each (λ a. DroppedAtMark log marked a → ⊥) names
   pub answered : (a : Name) → MadeAtMark log marked a → CoveredBy names a ⊎ Dropped log a
-
--- a replica's copy is lawful, and its active names are fair for the entries that it has done
-pub record IsStanding (schema : Shape) (log : List Entry) (done : ℕ → Bool) (active : List Name) : Type 0 where
-  pub lawful : Lawful schema log
-  pub fair : AreFair log done active
 
 -- every place of the log is marked
 abbrev pub AllMarked : List Entry → (ℕ → Bool) → Type 0

@@ -64,7 +64,7 @@ abbrev pub entry_at : List Entry → ℕ → Option Entry
 entry_at [] i = None
 entry_at (e ∷ log) i = cond (nat_eq i (length log)) (Some e) (entry_at log i)
 
--- a mutation with this number in p stands at this place
+-- a mutation with this number in p is at this place
 abbrev pub IsMutationWith : Option Entry → Option ℕ → ℕ → Type 0
 IsMutationWith None p n = ⊥
 IsMutationWith (Some (Mutation id numbers command)) p n = Has numbers (p, n)

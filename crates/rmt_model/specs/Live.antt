@@ -1,5 +1,5 @@
 -- What is live after a list of entries. A log is a list of entries, the newest first,
--- so the place of an entry is the number of those behind it.
+-- so the place of an entry is the number of those after it.
 use Rattle.std.specs.Prelude.{◌≡◌, ℕ, ◌<◌, ◌≤◌, ◌⊎◌, ◌&&◌, ◌||◌, Bool, cond, not, nat_eq, nat_lt, nat_le, List, [], ◌∷◌, filter, length}
 use Rattle.std.specs.declared.option.Option.{Option}
 use Rattle.std.specs.declared.option.Option.TheVariants.{Some, None}
@@ -67,7 +67,7 @@ abbrev pub Dropped : List Entry → Name → Type 0
 Dropped [] a = ⊥
 Dropped (e ∷ log) a = Dropped log a ⊎ (Has (made log) a × TakesAway e a)
 
--- a drop that stands behind the place takes the name away
+-- a drop that comes after the place takes the name away
 abbrev pub DroppedAfter : List Entry → ℕ → Name → Type 0
 DroppedAfter [] i a = ⊥
 DroppedAfter (e ∷ log) i a = DroppedAfter log i a ⊎ ((i < length log) × TakesAway e a)

@@ -1,4 +1,4 @@
--- Decimals: what stands in them, and which text is read as which number.
+-- Decimals: what is in them, and which text is read as which number.
 use Rattle.std.proofs.Common.{◌≡◌, ◌≢◌, ℕ, zero, suc, ◌<◌, ◌^◌, true, false, List, [], ◌∷◌, length, get_or, Some, Result, Ok, Err, IfSome, ap, sym, ◌∙◌, refl, arith}
 use Rattle.std.specs.Int.{IsInRange}
 use Rattle.std.specs.Fmt.{decimal}
@@ -13,7 +13,7 @@ use Rattle.std.proofs.lemmas.Str.Parse.{IsNumeralModel, numerals_by_value, tells
 own : IsNumeralModel (AllDigits 10) (digits_value 10)
 own = numerals_by_value (AllDigits 10) tells_digits
 
--- no byte but a digit stands in a decimal
+-- no byte but a digit is in a decimal
 pub decimal_lacks :
     (c n : ℕ) → ¬ (IsInRange 48 57 c) → n < 2 ^ 64 → (i : ℕ) → i < length (decimal n) → get_or (decimal n) i 0 ≢ c
 decimal_lacks c n other small = not_in_digits own (decimal n) c (digits_decimal own n small) other
@@ -32,7 +32,7 @@ pub decimal_only_zero :
 decimal_only_zero bs test n small is =
     ap Some (decimal_injective 0 n (omega arith) small (decimal_of_zero bs test ∙ sym is))
 
--- no sign stands in front of a decimal
+-- no sign comes before a decimal
 pub decimal_unsigned : (bs : List ℕ) (n : ℕ) → n < 2 ^ 64 → decimal n ≡ bs → get_or bs 0 0 ≢ 43
 decimal_unsigned bs n small is =
     rw (← is) (decimal_lacks 43 n (λ within. omega arith) small 0 (decimal_nonempty n small))
@@ -42,7 +42,7 @@ decimal_unpadded : (n : ℕ) → n < 2 ^ 64 → get_or (decimal n) 0 0 ≡ 48 �
 decimal_unpadded zero small padded = refl
 decimal_unpadded (suc n) small padded = absurd (omega (arith, first_decimal (suc n) (omega arith) small))
 
--- so no zero stands in front of another
+-- so no zero comes before another
 pub decimal_nonzero :
     (bs : List ℕ) (n : ℕ) → n < 2 ^ 64 → decimal n ≡ bs → bytes_eq bs (48 ∷ []) ≡ false → get_or bs 0 0 ≢ 48
 decimal_nonzero bs n small is test padded =
@@ -51,7 +51,7 @@ decimal_nonzero bs n small is test padded =
     let tested : bytes_eq bs (48 ∷ []) ≡ true = (bytes_eq-Decides bs (48 ∷ [])).1 text_is in
     cc
 
--- what std reads, with no sign and no zero in front, is the number of this decimal
+-- what std reads, with no sign and no zero at the start, is the number of this decimal
 pub decimal_read :
     {E : Type 0} (bs : List ℕ) (r : Result ℕ E) → ParsesUnsigned 64 10 bs r → get_or bs 0 0 ≢ 43
     → get_or bs 0 0 ≢ 48 → IfSome (result_ok r) (λ n. decimal n ≡ bs)

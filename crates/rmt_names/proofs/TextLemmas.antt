@@ -1,4 +1,4 @@
--- The text of a name: its fields one behind the other, and that it has one name.
+-- The text of a name: its fields one after the other, and that it has one name.
 use Rattle.std.proofs.Common.{◌≡◌, ◌≢◌, ℕ, zero, suc, ◌<◌, ◌^◌, true, List, [], ◌∷◌, ◌++◌, get_or, codes, Bor, Option, Some, None, IfSome, append_assoc, append-nil, sym, ◌∙◌, ap, refl, arith}
 use Rattle.std.specs.Fmt.{decimal}
 use Rattle.std.specs.Str.{bytes_eq}
@@ -43,7 +43,7 @@ pub IsField-partition : (p : Option ℕ) → IfSome p (λ n. n < 2 ^ 64) → IsF
 IsField-partition None small = record { lacks = all_lacks }
 IsField-partition (Some n) small = IsField-decimal n small
 
--- a mutation is written as a field behind an underscore
+-- a mutation is written as a field after an underscore
 mutation_text-suc : (m : ℕ) → mutation_text (suc m) ≡ 95 ∷ decimal (suc m)
 mutation_text-suc m = rw eqb-suc-zero refl
 
@@ -58,19 +58,19 @@ last_uncut bs split level (suc m) small is =
 
 -- with one left there is one, and not 0
 pub last_cut :
-    (bs : List ℕ) (front back : Bor (List ℕ)) → IsSplitOnceResult 95 bs (Some (front, back)) → (level mutation : ℕ)
+    (bs : List ℕ) (prefix back : Bor (List ℕ)) → IsSplitOnceResult 95 bs (Some (prefix, back)) → (level mutation : ℕ)
     → level < 2 ^ 32 → decimal level ++ mutation_text mutation ≡ bs
-    → (decimal level ≡ front.now) × (decimal mutation ≡ back.now) × (mutation ≢ 0)
-last_cut bs front back split level zero small is =
+    → (decimal level ≡ prefix.now) × (decimal mutation ≡ back.now) × (mutation ≢ 0)
+last_cut bs prefix back split level zero small is =
     let alone = sym is ∙ append-nil (decimal level) in
-    absurd (cut_none bs (decimal level) front back split alone (IsField-decimal level (omega arith)))
-last_cut bs front back split level (suc m) small is =
+    absurd (cut_none bs (decimal level) prefix back split alone (IsField-decimal level (omega arith)))
+last_cut bs prefix back split level (suc m) small is =
     let joined = sym (rw mutation_text-suc at is) in
     let field = IsField-decimal level (omega arith) in
-    let (front_is, back_is) = cut bs (decimal level) (decimal (suc m)) front back split joined field in
+    let (front_is, back_is) = cut bs (decimal level) (decimal (suc m)) prefix back split joined field in
     (sym front_is, sym back_is, λ none. omega arith)
 
--- two numbers written alike before an underscore are one, and so is what is behind it
+-- two numbers written alike before an underscore are one, and so is what is after it
 same_numbers :
     (m n : ℕ) (us vs : List ℕ) → m < 2 ^ 32 → n < 2 ^ 32 → decimal m ++ (95 ∷ us) ≡ decimal n ++ (95 ∷ vs)
     → (m ≡ n) × (us ≡ vs)
@@ -100,30 +100,30 @@ same_lasts k l (suc m) (suc n) k_fits l_fits m_fits n_fits is =
     let (level_is, text_is) = same_numbers k l (decimal (suc m)) (decimal (suc n)) k_fits l_fits joined in
     (level_is, decimal_injective (suc m) (suc n) (omega arith) (omega arith) text_is)
 
--- the text behind the highest number
+-- the text after the highest number
 abbrev pub behind_max : Name → List ℕ
 behind_max a = decimal a.level ++ mutation_text a.mutation
 
--- the text behind the lowest number
+-- the text after the lowest number
 abbrev pub behind_min : Name → List ℕ
 behind_min a = decimal a.max ++ (95 ∷ behind_max a)
 
--- the text behind the partition
+-- the text after the partition
 abbrev pub numbers : Name → List ℕ
 numbers a = decimal a.min ++ (95 ∷ behind_min a)
 
--- the whole text, read from the front
+-- the whole text, read from the start
 pub text_of-parts : (a : Name) → text_of a ≡ partition_text a.partition ++ (95 ∷ numbers a)
 text_of-parts a = simp append_assoc
 
 -- the first split of a name's text gives its partition and the rest
 pub cut_partition :
-    (bs : List ℕ) (front back : Bor (List ℕ)) → IsSplitOnceResult 95 bs (Some (front, back)) → (a : Name) → IsName a
-    → text_of a ≡ bs → (partition_text a.partition ≡ front.now) × (back.now ≡ numbers a)
-cut_partition bs front back split a is_name is =
+    (bs : List ℕ) (prefix back : Bor (List ℕ)) → IsSplitOnceResult 95 bs (Some (prefix, back)) → (a : Name) → IsName a
+    → text_of a ≡ bs → (partition_text a.partition ≡ prefix.now) × (back.now ≡ numbers a)
+cut_partition bs prefix back split a is_name is =
     let field = IsField-partition a.partition is_name.partition in
     let joined = sym is ∙ text_of-parts a in
-    let (front_is, back_is) = cut bs (partition_text a.partition) (numbers a) front back split joined field in
+    let (front_is, back_is) = cut bs (partition_text a.partition) (numbers a) prefix back split joined field in
     (sym front_is, back_is)
 
 -- and there is one

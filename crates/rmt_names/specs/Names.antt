@@ -59,12 +59,12 @@ pub record Spans (a : Name) (p : Option ℕ) (n : ℕ) : Type 0 where
   pub low : a.min ≤ n
   pub high : n ≤ a.max
 
--- the last of a name and those behind it
+-- the last of a name and those after it
 abbrev pub last : Name → List Name → Name
 last a [] = a
 last a (b ∷ rest) = last b rest
 
--- the greatest of a name and those behind it
+-- the greatest of a name and those after it
 abbrev pub highest : (Name → ℕ) → Name → List Name → ℕ
 highest of a [] = of a
 highest of a (b ∷ rest) = max (of a) (highest of b rest)

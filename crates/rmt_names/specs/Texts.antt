@@ -11,7 +11,7 @@ abbrev pub partition_text : Option ℕ → List ℕ
 partition_text None = codes "all"
 partition_text (Some p) = decimal p
 
--- a number behind an underscore
+-- a number after an underscore
 abbrev pub field : ℕ → List ℕ
 field n = codes "_" ++ decimal n
 
@@ -19,6 +19,6 @@ field n = codes "_" ++ decimal n
 abbrev pub mutation_text : ℕ → List ℕ
 mutation_text m = cond (nat_eq m 0) [] (field m)
 
--- the partition, the three numbers, and the mutation behind them
+-- the partition, the three numbers, and the mutation after them
 abbrev pub text_of : Name → List ℕ
 text_of a = partition_text a.partition ++ field a.min ++ field a.max ++ field a.level ++ mutation_text a.mutation

@@ -3,7 +3,7 @@ ghost use Rattle.std.specs.Prelude.{◌≡◌, ℕ, ◌<◌, ◌^◌, ◌++◌, 
 ghost use Rattle.std.specs.Fmt.{decimal};
 ghost use Rattle.rmt_names.specs.Texts.{partition_text, mutation_text};
 
-// The number that has this decimal. One below 2^64 has just one, with no sign and no zero in front.
+// The number that has this decimal. One below 2^64 has just one, with no sign and no zero at the start.
 fn read_number(text: &str) -> Option<u64>
     ensures read { IfSome result (λ n. decimal n ≡ text.now) }
     ensures only { (n : ℕ) → n < 2 ^ 64 → decimal n ≡ text.now → result ≡ Some n }
@@ -37,7 +37,7 @@ pub fn read_partition(text: &str) -> Option<Option<u64>>
     Some(Some(read_number(text)?))
 }
 
-/// The number in front of the first underscore, and what stands behind it.
+/// The number before the first underscore, and what comes after it.
 pub fn read_field(text: &str) -> Option<(u32, &str)>
     ensures read { IfSome result (λ r. text.now ≡ decimal r.0 ++ (codes "_" ++ r.1.now)) }
     ensures only { (n : ℕ) (behind : List ℕ) → n < 2 ^ 32

@@ -4,6 +4,7 @@ ghost use Rattle.rmt_names.specs.Names.{Name, IsName, Covers, covers as covers_o
 ghost use Rattle.rmt_names.specs.Texts.{field, text_of};
 
 use crate::fields::{read_field, read_last_fields, read_partition};
+use rmt_list::Equals;
 use std::alloc::{AllocError, Global};
 use std::marker::Model;
 
@@ -86,6 +87,12 @@ impl PartName {
     }
 }
 
+impl Equals for PartName {
+    fn equals(&self, other: &PartName) -> bool {
+        *self == *other
+    }
+}
+
 /// Whether the part `a` stands for all that `b` does: its partition, at least its blocks, merges and mutations.
 pub fn covers(a: &PartName, b: &PartName) -> bool
     ensures fact { IsTrue result ↔ Covers a.now b.now }
@@ -135,7 +142,7 @@ pub fn text(alloc: Global, name: &PartName) -> Result<String, AllocError>
     Ok(text)
 }
 
-// Writes a number behind an underscore.
+// Writes a number after an underscore.
 fn push_field(alloc: Global, text: &mut String, number: u32) -> Result<(), AllocError>
     ensures { OnOk result (string_bytes text.new ≡ string_bytes text.old ++ field number) }
 {
@@ -220,7 +227,7 @@ mod tests {
             "_all_0_0_0",
             "all_0_0_0_1_",
             "all_0_0_0_1_1",
-            // Zeros in front, signs and a mutation of 0.
+            // Zeros at the start, signs and a mutation of 0.
             "all_00_0_0",
             "all_0_0_0_0",
             "all_0_0_0_00",

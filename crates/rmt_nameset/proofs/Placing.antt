@@ -15,7 +15,7 @@ use Rattle.rmt_model.proofs.Drained.{cover-overlap}
 use Rattle.rmt_model.proofs.Drops.{some-same}
 use Rattle.rmt_nameset.specs.declared.range.Range.{Range}
 use Rattle.rmt_nameset.specs.NameSets.{AreApart, IsRange, CoversAt, IsCoveredBy, IsDroppedBy}
-use Rattle.rmt_nameset.proofs.Ranges.{Downward, Pairwise-to, Between, middle, below-le, front-kept, none-front}
+use Rattle.rmt_nameset.proofs.Ranges.{Downward, Pairwise-to, Between, middle, below-le, prefix-kept, none-prefix}
 
 inserted_is : (new : Name) (xs : List Name) → insert xs (prefix_len (λ a. before a new) xs) new ≡ inserted new xs
 inserted_is new [] = refl
@@ -47,7 +47,7 @@ before-parts new xs p = Pairwise-to Before (λ a b. before b new ≡ true → be
 pub behind-parts : (new : Name) (xs : List Name) → AreApart xs → Downward (is_not_behind new) xs
 behind-parts new xs p = Pairwise-to Before (λ a b. not (before new b) ≡ true → not (before new a) ≡ true) (λ a. a.min ≤ a.max) xs (λ a b s t h e. behind-down a b new s h e) p.apart p.sized
 
--- what a new name leaves lies before or behind it
+-- what a new name leaves lies before or after it
 left : (new a : Name) → new.min ≤ new.max → a.min ≤ a.max → (Overlap new a → Covers new a) → not (covers new a) ≡ (before a new || not (not (before new a)))
 left new a s t over = go (covers new a) refl
   where
@@ -70,7 +70,7 @@ placed-between new xs s p over = Each-all (Between (λ a. not (covers new a)) (i
 pub placed_is : (new : Name) (xs : List Name) → new.min ≤ new.max → AreApart xs → Each (λ a. Overlap new a → Covers new a) xs → insert (remove_range xs (prefix_len (is_before new) xs) (prefix_len (is_not_behind new) xs)) (prefix_len (is_before new) xs) new ≡ placed new xs
 placed_is new xs s p over =
     ap (λ ys. insert ys (prefix_len (is_before new) xs) new) (sym (middle keep (is_before new) (is_not_behind new) xs (before-parts new xs p) (behind-parts new xs p) w))
-    ∙ (ap (λ n. insert (filter keep xs) n new) (sym (front-kept keep (is_before new) xs (before-parts new xs p) (Each-all (λ a. before a new ≡ true → keep a ≡ true) xs (λ a h e. passes a (Each-at (Between keep (is_before new) (is_not_behind new)) xs a w h) e))))
+    ∙ (ap (λ n. insert (filter keep xs) n new) (sym (prefix-kept keep (is_before new) xs (before-parts new xs p) (Each-all (λ a. before a new ≡ true → keep a ≡ true) xs (λ a h e. passes a (Each-at (Between keep (is_before new) (is_not_behind new)) xs a w h) e))))
     ∙ inserted_is new (filter keep xs))
   where
     keep : Name → Bool
@@ -107,7 +107,7 @@ dropped-between p n a = (grind (arith, nat_tests), λ e. grind (arith, nat_tests
 pub all-between : (p : Option ℕ) (n : ℕ) (xs : List Name) → Each (Between (λ x. not (in_drop p n x)) (is_earlier p) (is_up_to p n)) xs
 all-between p n xs = Each-all (Between (λ x. not (in_drop p n x)) (is_earlier p) (is_up_to p n)) xs (λ a h. dropped-between p n a)
 
--- what a drop leaves is what stands outside a range
+-- what a drop leaves is what is outside a range
 pub dropped_is : (p : Option ℕ) (n : ℕ) (xs : List Name) → AreApart xs → remove_range xs (prefix_len (is_earlier p) xs) (prefix_len (is_up_to p n) xs) ≡ filter (λ a. not (in_drop p n a)) xs
 dropped_is p n xs q = sym (middle (λ a. not (in_drop p n a)) (is_earlier p) (is_up_to p n) xs (earlier-parts p xs q) (up-to-parts p n xs q) (all-between p n xs))
 
@@ -156,7 +156,7 @@ placed-apart new xs s p over = record {
       | inr o ↦ absurd (not-kept (covers new x) (covers-holds new x (Each-at (λ a. Overlap new a → Covers new a) xs x over h.0 (Overlap-sym x new o))) h.1)
     ]
 
--- the name that covers another is the last that doesn't lie behind it
+-- the name that covers another is the last that doesn't lie after it
 pub covering-at : (a x : Name) (xs : List Name) → a.min ≤ a.max → AreApart xs → Has xs x → Covers x a → (n : ℕ) × (prefix_len (is_not_behind a) xs ≡ suc n) × (slice_get xs n ≡ Some x)
 covering-at a x [] s p h c = absurd h
 covering-at a x (z ∷ xs) s p (inl q) c = (0, first, ap Some q)
@@ -171,7 +171,7 @@ covering-at a x (z ∷ xs) s p (inl q) c = (0, first, ap Some q)
     here = let k = over.min in let e : rank z.partition ≡ rank a.partition = ap rank over.partition in grind (arith, nat_tests)
 
     none : prefix_len (is_not_behind a) xs ≡ 0
-    none = none-front (is_not_behind a) xs (Each-all (λ y. is_not_behind a y ≡ false) xs (λ y h. behind y (Each-at (Before z) xs y p.apart.0 h)))
+    none = none-prefix (is_not_behind a) xs (Each-all (λ y. is_not_behind a y ≡ false) xs (λ y h. behind y (Each-at (Before z) xs y p.apart.0 h)))
 
     first : prefix_len (is_not_behind a) (z ∷ xs) ≡ 1
     first = ap (λ b. cond b (1 + prefix_len (is_not_behind a) xs) 0) here ∙ ap (λ n. 1 + n) none

@@ -7,7 +7,7 @@ use Rattle.std.proofs.lemmas.List.Sums.{prefix_len_is}
 use Rattle.rmt_model.specs.Words.{Has, Each, Pairwise}
 use Rattle.rmt_model.proofs.Lists.{Each-at, Each-all}
 
--- whoever passes the test has only those that pass it in front
+-- whoever passes the test has only those that pass it at the start
 abbrev pub Downward : {A : Type 0} → (A → Bool) → List A → Type 0
 Downward test xs = Pairwise (λ a b. test b ≡ true → test a ≡ true) xs
 
@@ -28,7 +28,7 @@ parted test (x ∷ xs) p zero (suc j) d le lt e = Each-at (λ b. test b ≡ true
 parted test (x ∷ xs) p (suc i) zero d le lt e = absurd (omega arith)
 parted test (x ∷ xs) p (suc i) (suc j) d le lt e = parted test xs p.1 i j d (omega arith) (omega arith) e
 
--- where a list is parted is how many pass from the front on
+-- where a list is parted is how many pass from the start on
 pub point_is : {A : Type 0} (test : A → Bool) (xs : List A) (n : ℕ) (d : A) → n ≤ length xs → IsPartitionPoint (λ a. test a ≡ true) (λ a. test a ≡ false) xs n → n ≡ prefix_len test xs
 point_is test xs n d within p = sym (prefix_len_is test xs n d within (λ k l. p.0 k d (omega arith) l) (λ l. p.1 n d (omega arith) l))
 
@@ -44,9 +44,9 @@ fails test z x f e = go (test x) f
     go true f = let q = f refl in absurd (cc)
     go false f = refl
 
-pub none-front : {A : Type 0} (test : A → Bool) (xs : List A) → Each (λ a. test a ≡ false) xs → prefix_len test xs ≡ 0
-none-front test [] e = refl
-none-front test (x ∷ xs) e = ap (λ b. cond b (1 + prefix_len test xs) 0) e.0
+pub none-prefix : {A : Type 0} (test : A → Bool) (xs : List A) → Each (λ a. test a ≡ false) xs → prefix_len test xs ≡ 0
+none-prefix test [] e = refl
+none-prefix test (x ∷ xs) e = ap (λ b. cond b (1 + prefix_len test xs) 0) e.0
 
 pub all-fail : {A : Type 0} (test : A → Bool) (z : A) (xs : List A) → Each (λ b. test b ≡ true → test z ≡ true) xs → test z ≡ false → Each (λ a. test a ≡ false) xs
 all-fail test z xs p e = Each-all (λ a. test a ≡ false) xs (λ x h. fails test z x (Each-at (λ b. test b ≡ true → test z ≡ true) xs x p h) e)
@@ -79,7 +79,7 @@ middle keep below upto (z ∷ xs) d u w = go (below z) (upto z) (keep z) refl re
     go : (b t k : Bool) → below z ≡ b → upto z ≡ t → k ≡ (b || not t) → filter keep xs ≡ remove_range xs n m → cond k (z ∷ filter keep xs) (filter keep xs) ≡ remove_range (z ∷ xs) (cond b (1 + n) 0) (cond t (1 + m) 0)
     go true false k e f g h = let q = w.0.1 e in absurd (cc)
     go true true k e f g h = rw (g, one-add, one-add) (ap (λ ys. z ∷ ys) h)
-    go false true k e f g h = rw (g, one-add) (h ∙ ap (λ i. remove_range xs i m) (none-front below xs (all-fail below z xs d.0 e)))
+    go false true k e f g h = rw (g, one-add) (h ∙ ap (λ i. remove_range xs i m) (none-prefix below xs (all-fail below z xs d.0 e)))
     go false false k e f g h = rw g (ap (λ ys. z ∷ ys) (filter-all keep xs (kept f)))
 
 pub below-le : {A : Type 0} (keep below upto : A → Bool) (xs : List A) → Each (Between keep below upto) xs → prefix_len below xs ≤ prefix_len upto xs
@@ -91,10 +91,10 @@ below-le keep below upto (z ∷ xs) w = go (below z) (upto z) w.0.1 (below-le ke
     go true false f h = let q = f refl in absurd (cc)
     go false t f h = omega arith
 
--- what is kept has as many in front
-pub front-kept : {A : Type 0} (keep below : A → Bool) (xs : List A) → Downward below xs → Each (λ a. below a ≡ true → keep a ≡ true) xs → prefix_len below (filter keep xs) ≡ prefix_len below xs
-front-kept keep below [] d w = refl
-front-kept keep below (z ∷ xs) d w = go (below z) (keep z) refl refl (front-kept keep below xs d.1 w.1)
+-- what is kept has as many at the start
+pub prefix-kept : {A : Type 0} (keep below : A → Bool) (xs : List A) → Downward below xs → Each (λ a. below a ≡ true → keep a ≡ true) xs → prefix_len below (filter keep xs) ≡ prefix_len below xs
+prefix-kept keep below [] d w = refl
+prefix-kept keep below (z ∷ xs) d w = go (below z) (keep z) refl refl (prefix-kept keep below xs d.1 w.1)
   where
     n : ℕ
     n = prefix_len below xs
@@ -103,4 +103,4 @@ front-kept keep below (z ∷ xs) d w = go (below z) (keep z) refl refl (front-ke
     go true true e f h = rw (e, h) refl
     go true false e f h = let q = w.0 e in absurd (cc)
     go false true e f h = ap (λ b. cond b (1 + prefix_len below (filter keep xs)) 0) e
-    go false false e f h = h ∙ none-front below xs (all-fail below z xs d.0 e)
+    go false false e f h = h ∙ none-prefix below xs (all-fail below z xs d.0 e)

@@ -19,7 +19,7 @@ pub record AreApart (names : List Name) : Type 0 where
   pub apart : Pairwise Before names
   pub sized : Each (λ a. a.min ≤ a.max) names
 
--- the range stands in a list of this length
+-- the range is in a list of this length
 pub record IsRange (range : Range) (len : ℕ) : Type 0 where
   pub order : range.from ≤ range.to
   pub bound : range.to ≤ len

@@ -3,8 +3,8 @@
 
 mod name_set;
 mod range;
-mod replacing;
-mod searching;
+mod replacement;
+mod search;
 
 pub use name_set::NameSet;
 pub use range::Range;

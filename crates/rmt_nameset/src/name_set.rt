@@ -5,8 +5,8 @@ ghost use Rattle.rmt_model.specs.Live.{placed, in_drop};
 ghost use Rattle.rmt_nameset.specs.NameSets.{AreApart, IsRange, IsCoveredAt, cut, put};
 
 use crate::range::Range;
-use crate::replacing::{covered_range, dropped_range, remove, replace};
-use crate::searching::count_not_behind;
+use crate::replacement::{covered_range, dropped_range, remove, replace};
+use crate::search::count_not_behind;
 use rmt_names::{PartName, PartitionId, covers};
 use std::alloc::{AllocError, Global};
 use std::marker::Model;

@@ -1,4 +1,4 @@
 pub use Rattle.std.specs.Io.KnownBytes
-pub mod Causes
-pub mod Told
-pub mod Ends
+pub mod Faults
+pub mod StreamBytes
+pub mod StreamViews

@@ -1,7 +1,7 @@
 ghost use Rattle.std.specs.Prelude.{Some, ◌≡◌, ◌↔◌, length, min, IsErr, IfOk, Contains};
 ghost use Rattle.std.specs.Io.{ReadsAtMost};
 ghost use Rattle.std.specs.Io.KnownBytes.{ReadConsumes};
-ghost use Rattle.rmt_outside.specs.Causes.{one_more, HasCause, CountsFault};
+ghost use Rattle.rmt_outside.specs.Faults.{one_more, HasCause, CountsOne};
 
 use crate::failed::Failed;
 use crate::sound_bytes::SoundBytes;
@@ -18,7 +18,7 @@ pub struct Bytes {
 }
 
 impl Model for Bytes {
-    ghost use Rattle.rmt_outside.specs.Ends.{Feed};
+    ghost use Rattle.rmt_outside.specs.StreamViews.{Feed};
 
     ghost Value = { Feed };
 
@@ -48,7 +48,7 @@ impl Source for Bytes {
         ensures bound { ReadsAtMost result buffer.new }
         ensures bytes { ReadConsumes (Some self.old.left) (Some self.new.left) result buffer.new }
         ensures cause { HasCause self.old.faults self.new.faults result }
-        ensures count { CountsFault self.old.faults self.new.faults result }
+        ensures count { CountsOne self.old.faults self.new.faults result }
         ensures fails { IsErr result ↔ Contains self.old.failing self.old.calls }
         ensures calls { self.new.calls ≡ one_more self.old.calls }
         ensures failing { self.new.failing ≡ self.old.failing }

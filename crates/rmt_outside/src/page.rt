@@ -1,8 +1,8 @@
 ghost use Rattle.std.specs.Prelude.{Some, ◌≡◌, [], IsErr, length, IfOk, Contains};
 ghost use Rattle.std.specs.Io.{WritesAtMost};
 ghost use Rattle.std.specs.Io.KnownBytes.{WriteAppends};
-ghost use Rattle.rmt_outside.specs.Causes.{one_more, HasCause, CountsFault};
-ghost use Rattle.rmt_outside.specs.Told.{TakesSome};
+ghost use Rattle.rmt_outside.specs.Faults.{one_more, HasCause, CountsOne};
+ghost use Rattle.rmt_outside.specs.StreamBytes.{TakesSome};
 
 use crate::failed::Failed;
 use crate::sink::Sink;
@@ -19,11 +19,16 @@ pub struct Page {
 }
 
 impl Model for Page {
-    ghost use Rattle.rmt_outside.specs.Ends.{Sheet};
+    ghost use Rattle.rmt_outside.specs.StreamViews.{Sheet};
 
     ghost Value = { Sheet };
 
-    ghost view = { λ p. record { written = p.written.items; failing = p.failing.items; calls = p.calls; faults = p.faults } };
+    ghost view = { λ p. record {
+      written = p.written.items;
+      failing = p.failing.items;
+      calls = p.calls;
+      faults = p.faults;
+    } };
 }
 
 impl Page {
@@ -57,8 +62,8 @@ impl Sink for Page {
         ensures some { TakesSome result bytes.now }
         ensures bytes { WriteAppends (Some self.old.written) (Some self.new.written) result bytes.now }
         ensures cause { HasCause self.old.faults self.new.faults result }
-        ensures count { CountsFault self.old.faults self.new.faults result }
-        // A call fails where it is listed, or where memory is wanted.
+        ensures count { CountsOne self.old.faults self.new.faults result }
+        // A call fails where it is listed, or where no memory is left.
         ensures fails { Contains self.old.failing self.old.calls → IsErr result }
         ensures calls { self.new.calls ≡ one_more self.old.calls }
         ensures failing { self.new.failing ≡ self.old.failing }

@@ -1,7 +1,7 @@
 ghost use Rattle.std.specs.Prelude.{Some, ◌≡◌, Ok, length, min};
 ghost use Rattle.std.specs.Io.{ReadsAtMost};
 ghost use Rattle.std.specs.Io.KnownBytes.{ReadConsumes};
-ghost use Rattle.rmt_outside.specs.Causes.{HasCause};
+ghost use Rattle.rmt_outside.specs.Faults.{HasCause};
 
 use crate::failed::Failed;
 use crate::source::Source;
@@ -48,8 +48,8 @@ impl Source for SoundBytes {
     {
         let (_, rest) = self.bytes.split_at(self.at);
         let count = buffer.len().min(rest.len());
-        let (front, _) = rest.split_at(count);
-        buffer[..count].copy_from_slice(front);
+        let (piece, _) = rest.split_at(count);
+        buffer[..count].copy_from_slice(piece);
         self.at += count;
         Ok(count)
     }

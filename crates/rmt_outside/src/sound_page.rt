@@ -1,13 +1,13 @@
 ghost use Rattle.std.specs.Prelude.{None, ◌≡◌, Ok, length};
 ghost use Rattle.std.specs.Io.{WritesAtMost};
 ghost use Rattle.std.specs.Io.KnownBytes.{WriteAppends};
-ghost use Rattle.rmt_outside.specs.Causes.{HasCause};
-ghost use Rattle.rmt_outside.specs.Told.{TakesSome};
+ghost use Rattle.rmt_outside.specs.Faults.{HasCause};
+ghost use Rattle.rmt_outside.specs.StreamBytes.{TakesSome};
 
 use crate::failed::Failed;
 use crate::sink::Sink;
 
-/// A sink that never fails. It keeps no bytes and tells none, since growth can be refused.
+/// A sink that never fails. It keeps no bytes, and none are known, since growth can be refused.
 #[derive(Clone, Copy, Debug, PartialEq, Eq)]
 pub struct SoundPage;
 

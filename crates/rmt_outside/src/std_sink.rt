@@ -1,8 +1,8 @@
 ghost use Rattle.std.specs.Prelude.{◌≡◌};
 ghost use Rattle.std.specs.Io.{WritesAtMost};
 ghost use Rattle.std.specs.Io.KnownBytes.{WriteAppends};
-ghost use Rattle.rmt_outside.specs.Causes.{HasCause, CountsFault};
-ghost use Rattle.rmt_outside.specs.Told.{TakesSome};
+ghost use Rattle.rmt_outside.specs.Faults.{HasCause, CountsOne};
+ghost use Rattle.rmt_outside.specs.StreamBytes.{TakesSome};
 
 use crate::failed::Failed;
 use crate::sink::Sink;
@@ -10,8 +10,8 @@ use std::io::Write;
 use std::marker::Model;
 
 /// A sink over a writer of std. Its faults are the writer's errors, an interrupted call included, and the calls
-/// that took nothing of a piece that isn't empty. It tells what the writer tells of its bytes, which over a file
-/// or a terminal is nothing.
+/// that took nothing of a piece that isn't empty. Its bytes are known where the writer's are: over a file or a
+/// terminal they aren't.
 #[derive(Drop)]
 pub struct StdSink<W: Write + Drop> {
     inner: W,
@@ -19,7 +19,7 @@ pub struct StdSink<W: Write + Drop> {
 }
 
 impl<W: Write + Drop> Model for StdSink<W> {
-    ghost use Rattle.rmt_outside.specs.Ends.{Outlet};
+    ghost use Rattle.rmt_outside.specs.StreamViews.{Outlet};
 
     ghost Value = { Outlet };
 
@@ -45,7 +45,7 @@ impl<W: Write + Drop> Sink for StdSink<W> {
         ensures some { TakesSome result bytes.now }
         ensures bytes { WriteAppends self.old.written self.new.written result bytes.now }
         ensures cause { HasCause self.old.faults self.new.faults result }
-        ensures count { CountsFault self.old.faults self.new.faults result }
+        ensures count { CountsOne self.old.faults self.new.faults result }
     {
         match self.inner.write(bytes) {
             Ok(count) if count > 0 || bytes.is_empty() => Ok(count),
@@ -60,7 +60,7 @@ impl<W: Write + Drop> Sink for StdSink<W> {
 #[cfg(test)]
 mod tests {
     use super::*;
-    use crate::writing::{WriteError, write_all_of};
+    use crate::write::{WriteError, write_all_of};
     use std::test::Fail;
 
     #[test]

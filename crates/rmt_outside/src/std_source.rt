@@ -1,7 +1,7 @@
 ghost use Rattle.std.specs.Prelude.{◌≡◌};
 ghost use Rattle.std.specs.Io.{ReadsAtMost};
 ghost use Rattle.std.specs.Io.KnownBytes.{ReadConsumes};
-ghost use Rattle.rmt_outside.specs.Causes.{HasCause, CountsFault};
+ghost use Rattle.rmt_outside.specs.Faults.{HasCause, CountsOne};
 
 use crate::failed::Failed;
 use crate::source::Source;
@@ -9,7 +9,7 @@ use std::io::Read;
 use std::marker::Model;
 
 /// A source over a reader of std. Its faults are the reader's errors, an interrupted call included.
-/// It tells what the reader tells of its bytes, which over a file or a terminal is nothing.
+/// Its bytes are known where the reader's are: over a file or a terminal they aren't.
 #[derive(Drop)]
 pub struct StdSource<R: Read + Drop> {
     inner: R,
@@ -17,7 +17,7 @@ pub struct StdSource<R: Read + Drop> {
 }
 
 impl<R: Read + Drop> Model for StdSource<R> {
-    ghost use Rattle.rmt_outside.specs.Ends.{Inlet};
+    ghost use Rattle.rmt_outside.specs.StreamViews.{Inlet};
 
     ghost Value = { Inlet };
 
@@ -42,7 +42,7 @@ impl<R: Read + Drop> Source for StdSource<R> {
         ensures bound { ReadsAtMost result buffer.new }
         ensures bytes { ReadConsumes self.old.left self.new.left result buffer.new }
         ensures cause { HasCause self.old.faults self.new.faults result }
-        ensures count { CountsFault self.old.faults self.new.faults result }
+        ensures count { CountsOne self.old.faults self.new.faults result }
     {
         match self.inner.read(buffer) {
             Ok(count) => Ok(count),
@@ -57,7 +57,7 @@ impl<R: Read + Drop> Source for StdSource<R> {
 #[cfg(test)]
 mod tests {
     use super::*;
-    use crate::reading::read_all;
+    use crate::read::read_all;
     use std::test::Fail;
 
     #[test]

@@ -3,8 +3,6 @@
 
 mod named_part;
 mod snapshot;
-#[cfg(test)]
-mod tests;
 
 pub use named_part::NamedPart;
 pub use snapshot::Snapshot;

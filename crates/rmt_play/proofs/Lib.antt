@@ -1,4 +1,4 @@
-pub mod Playing
+pub mod ScriptLemmas
 pub mod TableLemmas
 pub mod ActLemmas
 pub mod SendLemmas

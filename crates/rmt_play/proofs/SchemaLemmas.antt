@@ -11,9 +11,9 @@ use Rattle.rmt_values.specs.declared.schema_error.SchemaError.{SchemaError}
 use Rattle.rmt_values.specs.declared.schema_error.SchemaError.TheVariants.{UnknownColumn, DoubleColumn, WrongType, LimitReached}
 use Rattle.rmt_values.specs.Schemas.{schema_refusal, shape_of, no_columns, first_unknown, first_double, names_of, wrong_setting, too_many}
 use Rattle.rmt_play.specs.Checks.{is_empty}
-use Rattle.rmt_play.specs.Inside.{IsSaid, IsClipped}
+use Rattle.rmt_play.specs.PlayerSteps.{IsCreateRefusal, IsClipped}
 
--- ---- a CREATE with columns isn't refused for having none, nor for want of memory
+-- ---- a CREATE with columns isn't refused for having none, nor for lack of memory
 
 or-some : (P : SchemaError → Type 0) (a b : Option SchemaError) → ((e : SchemaError) → a ≡ Some e → P e) → ((e : SchemaError) → b ≡ Some e → P e) → (e : SchemaError) → option_or a b ≡ Some e → P e
 or-some P None b f g e q = g e q
@@ -23,26 +23,26 @@ named-some : (P : SchemaError → Type 0) (make : List ℕ → SchemaError) (o :
 named-some P make None f e q = absurd (cc)
 named-some P make (Some name) f e q = let same : make name ≡ e = cc in subst P same (f name)
 
-no-columns-said : (columns : List Column) → is_empty columns ≡ false → (e : SchemaError) → no_columns columns ≡ Some e → IsSaid e
-no-columns-said [] n e q = absurd (cc)
-no-columns-said (c ∷ columns) n e q = absurd (cc)
+no-columns-refuses : (columns : List Column) → is_empty columns ≡ false → (e : SchemaError) → no_columns columns ≡ Some e → IsCreateRefusal e
+no-columns-refuses [] n e q = absurd (cc)
+no-columns-refuses (c ∷ columns) n e q = absurd (cc)
 
-too-many-said : (columns : List Column) (e : SchemaError) → too_many columns ≡ Some e → IsSaid e
-too-many-said columns e q = go (nat_le (length columns) 64) q
+too-many-refuses : (columns : List Column) (e : SchemaError) → too_many columns ≡ Some e → IsCreateRefusal e
+too-many-refuses columns e q = go (nat_le (length columns) 64) q
   where
-    go : (b : Bool) → cond b None (Some (LimitReached limits.Columns 64)) ≡ Some e → IsSaid e
+    go : (b : Bool) → cond b None (Some (LimitReached limits.Columns 64)) ≡ Some e → IsCreateRefusal e
     go true k = absurd (cc)
-    go false k = let same : LimitReached limits.Columns 64 ≡ e = cc in subst IsSaid same tt
+    go false k = let same : LimitReached limits.Columns 64 ≡ e = cc in subst IsCreateRefusal same tt
 
-pub said : (columns : List Column) (key : List (List ℕ)) (granularity window : ℕ) (e : SchemaError) → is_empty columns ≡ false → schema_refusal columns key granularity window ≡ Some e → IsSaid e
+pub create-refusal : (columns : List Column) (key : List (List ℕ)) (granularity window : ℕ) (e : SchemaError) → is_empty columns ≡ false → schema_refusal columns key granularity window ≡ Some e → IsCreateRefusal e
 unfolding schema_refusal
-said columns key granularity window e n q =
-    or-some IsSaid _ _ (no-columns-said columns n)
-    (or-some IsSaid _ _ (named-some IsSaid (λ m. UnknownColumn m) (first_unknown (names_of columns) key) (λ m. tt))
-    (or-some IsSaid _ _ (named-some IsSaid (λ m. DoubleColumn m) (first_double (names_of columns)) (λ m. tt))
-    (or-some IsSaid _ _ (named-some IsSaid (λ m. DoubleColumn m) (first_double key) (λ m. tt))
-    (or-some IsSaid _ _ (named-some IsSaid (λ m. WrongType m) (wrong_setting granularity window) (λ m. tt))
-    (too-many-said columns))))) e q
+create-refusal columns key granularity window e n q =
+    or-some IsCreateRefusal _ _ (no-columns-refuses columns n)
+    (or-some IsCreateRefusal _ _ (named-some IsCreateRefusal (λ m. UnknownColumn m) (first_unknown (names_of columns) key) (λ m. tt))
+    (or-some IsCreateRefusal _ _ (named-some IsCreateRefusal (λ m. DoubleColumn m) (first_double (names_of columns)) (λ m. tt))
+    (or-some IsCreateRefusal _ _ (named-some IsCreateRefusal (λ m. DoubleColumn m) (first_double key) (λ m. tt))
+    (or-some IsCreateRefusal _ _ (named-some IsCreateRefusal (λ m. WrongType m) (wrong_setting granularity window) (λ m. tt))
+    (too-many-refuses columns))))) e q
 
 -- ---- a number that is out of range is refused as any other one is
 

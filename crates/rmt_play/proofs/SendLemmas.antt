@@ -3,7 +3,7 @@ use Rattle.std.proofs.Common.{◌≡◌, ◌∙◌, ℕ, suc, List, [], ◌∷�
 use Rattle.std.specs.Prelude.{slice_set, MatchOption}
 use Rattle.std.specs.declared.option.Option.{Option}
 use Rattle.std.specs.declared.option.Option.TheVariants.{Some, None}
-use Rattle.rmt_sql.specs.declared.sent.Sent.{Sent}
+use Rattle.rmt_statements.specs.declared.sent.Sent.{Sent}
 use Rattle.rmt_replicas.specs.Tables.{TableState}
 use Rattle.rmt_reply.specs.declared.line.Line.{Line}
 use Rattle.rmt_reply.specs.declared.line.Line.TheVariants as lines
@@ -13,7 +13,7 @@ use Rattle.rmt_play.specs.World.{Table, World}
 use Rattle.rmt_play.specs.Checks.{first_of, table_of, table_named, replica_at, unknown_replica, refused_without, refused_name, refused_act, act_refusal, sent_refusals}
 use Rattle.rmt_play.specs.Acts.{Acts}
 use Rattle.rmt_play.specs.Plays.{PerformsSent, Refuses}
-use Rattle.rmt_play.specs.Inside.{IsPlaceOf, ActsAt, Declines, TurnsSent}
+use Rattle.rmt_play.specs.PlayerSteps.{IsPlaceOf, ActsAt, Declines, ExecutesSent}
 use Rattle.rmt_play.proofs.TableLemmas.{set-same}
 
 alone : (o : Option Refusal) → first_of (o ∷ []) ≡ o
@@ -21,8 +21,8 @@ alone None = refl
 alone (Some refusal) = refl
 
 pub sends : (old new : World) (sent : Sent) (place replica : ℕ) (line : Line) → IsPlaceOf old.tables (table_named sent.act) place → replica_at old sent.replica ≡ Some (suc replica)
-    → ActsAt old place replica sent.act line new → TurnsSent old sent line new
-sends old new sent place replica line p at a = subst (λ (o : Option Refusal). MatchOption o (PerformsSent old sent line new) (λ refusal. Refuses old refusal line new)) (sym refusals) (go (act_refusal a.table.state.schema sent.act) a.turns)
+    → ActsAt old place replica sent.act line new → ExecutesSent old sent line new
+sends old new sent place replica line p at a = subst (λ (o : Option Refusal). MatchOption o (PerformsSent old sent line new) (λ refusal. Refuses old refusal line new)) (sym refusals) (go (act_refusal a.table.state.schema sent.act) a.executes)
   where
     same : p.table ≡ a.table
     same = let e = sym p.there ∙ a.there in cc
@@ -53,14 +53,14 @@ sends old new sent place replica line p at a = subst (λ (o : Option Refusal). M
     }
 
 -- a table that isn't there
-pub no-table : (old : World) (sent : Sent) (line : Line) → table_of old.tables (table_named sent.act) ≡ None → line ≡ lines.Refused (UnknownTable (table_named sent.act)) → TurnsSent old sent line old
+pub no-table : (old : World) (sent : Sent) (line : Line) → table_of old.tables (table_named sent.act) ≡ None → line ≡ lines.Refused (UnknownTable (table_named sent.act)) → ExecutesSent old sent line old
 no-table old sent line none e =
     subst (λ (o : Option Refusal). MatchOption o (PerformsSent old sent line old) (λ refusal. Refuses old refusal line old))
     (sym (ap (λ (o : Option Table). first_of (refused_without o (table_named sent.act) ∷ unknown_replica old sent.replica ∷ refused_act o sent.act ∷ [])) none))
     (record { reply = e; unchanged = refl })
 
 -- a replica that isn't there
-pub no-replica : (old : World) (sent : Sent) (place : ℕ) (refusal : Refusal) (line : Line) → IsPlaceOf old.tables (table_named sent.act) place → unknown_replica old sent.replica ≡ Some refusal → line ≡ lines.Refused refusal → TurnsSent old sent line old
+pub no-replica : (old : World) (sent : Sent) (place : ℕ) (refusal : Refusal) (line : Line) → IsPlaceOf old.tables (table_named sent.act) place → unknown_replica old sent.replica ≡ Some refusal → line ≡ lines.Refused refusal → ExecutesSent old sent line old
 no-replica old sent place refusal line p unknown e =
     subst (λ (o : Option Refusal). MatchOption o (PerformsSent old sent line old) (λ refusal. Refuses old refusal line old))
     (sym (ap (λ (o : Option Table). first_of (refused_without o (table_named sent.act) ∷ unknown_replica old sent.replica ∷ refused_act o sent.act ∷ [])) p.found

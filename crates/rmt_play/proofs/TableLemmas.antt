@@ -10,7 +10,7 @@ use Rattle.rmt_play.specs.World.{Table}
 use Rattle.rmt_reply.specs.Printed.{replica_text}
 use Rattle.rmt_play.specs.Checks.{table_of, replica_of}
 use Rattle.rmt_play.specs.Plays.{with_table}
-use Rattle.rmt_play.specs.Inside.{IsPlaceOf}
+use Rattle.rmt_play.specs.PlayerSteps.{IsPlaceOf}
 
 -- the first table of a name
 pub place-is : (tables : List Table) (name : List ℕ) (i : ℕ) → ((j : ℕ) (t : Table) → j < i → slice_get tables j ≡ Some t → bytes_eq t.name name ≡ false)

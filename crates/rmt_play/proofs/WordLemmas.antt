@@ -8,7 +8,7 @@ use Rattle.clap.specs.Simple.{subcommand_of, subcommand_rows_of}
 use Rattle.clap.specs.Takes.{takes}
 use Rattle.clap.proofs.OnLiterals.{clap_on_literals}
 use Rattle.rmt_play.specs.Runs.{has_form}
-use Rattle.rmt_play.specs.Words.{program}
+use Rattle.rmt_play.specs.CommandWords.{program}
 
 pub only_play : (words : List Text) → has_form words ≡ true → words ≡ codes "play" ∷ []
 only_play [] form = absurd cc
@@ -27,6 +27,6 @@ option_map-twice : {A B C : Type 0} (f : A → B) (g : B → C) (x : Option A) �
 option_map-twice f g None = refl
 option_map-twice f g (Some x) = refl
 
--- the name of a subcommand stands in its rows
+-- the name of a subcommand is in its rows
 pub name-in_rows : (m : ArgMatches) → option_map (λ p. p.0) (subcommand_rows_of m) ≡ subcommand_name_of m
 name-in_rows m = option_map-twice _ _ _

@@ -11,15 +11,15 @@ use Rattle.rmt_model.specs.Fair.{AreFair}
 use Rattle.rmt_queue.specs.Marks.{done_at}
 use Rattle.rmt_partset.specs.Snapshots.{all_rows}
 use Rattle.rmt_query.specs.Answers.{answer_of}
-use Rattle.rmt_query.specs.Explained.{AreCounted}
+use Rattle.rmt_query.specs.Explained.{AreExplained}
 use Rattle.rmt_replicas.specs.Tables.{TableState, known_at, rows_by_number, data_at, Accepts, synced}
-use Rattle.rmt_acts.specs.declared.act.Act.{Act}
-use Rattle.rmt_acts.specs.declared.act.Act.TheVariants as acts
-use Rattle.rmt_acts.specs.declared.insert.Insert.{Insert}
-use Rattle.rmt_acts.specs.declared.mode.Mode.TheVariants as modes
-use Rattle.rmt_data.specs.declared.rows_error.RowsError.TheVariants as offers
-use Rattle.rmt_data.specs.Offers.{all_names}
-use Rattle.rmt_data.specs.Data.{AreOffered, IsRefused}
+use Rattle.rmt_statements.specs.declared.act.Act.{Act}
+use Rattle.rmt_statements.specs.declared.act.Act.TheVariants as acts
+use Rattle.rmt_statements.specs.declared.insert.Insert.{Insert}
+use Rattle.rmt_statements.specs.declared.mode.Mode.TheVariants as modes
+use Rattle.rmt_sql_rows.specs.declared.rows_error.RowsError.TheVariants as errors
+use Rattle.rmt_sql_rows.specs.InsertedRows.{all_names}
+use Rattle.rmt_sql_rows.specs.Inserts.{AreInsertedRows, IsBadInsertRow}
 use Rattle.rmt_reply.specs.declared.line.Line.{Line}
 use Rattle.rmt_reply.specs.declared.line.Line.TheVariants as lines
 use Rattle.rmt_reply.specs.declared.piece.Piece.TheVariants as pieces
@@ -38,23 +38,23 @@ abbrev pub InsertsRows : TableState → ℕ → List Row → Line → TableState
 InsertsRows t r [] line u = (line ≡ lines.Inserted [] None) × (u ≡ t)
 InsertsRows t r (row ∷ rows) line u = InsertsBlock t r (row ∷ rows) line u
 
--- the rows offered are inserted
+-- the rows of the INSERT are inserted
 pub record Takes (t : TableState) (r : ℕ) (insert : Insert) (line : Line) (u : TableState) : Type 0 where
   pub rows : List Row
-  pub offered : AreOffered t.schema.columns (all_names t.schema.columns insert.columns) insert.rows rows
+  pub read : AreInsertedRows t.schema.columns (all_names t.schema.columns insert.columns) insert.rows rows
   pub inserts : InsertsRows t r rows line u
 
--- one of the rows offered is none, and this is the first; nothing changes
+-- one of the rows of the INSERT is bad, and this is the first; nothing changes
 pub record MeetsBadRow (t : TableState) (insert : Insert) (line : Line) (u : TableState) : Type 0 where
   pub row : ℕ
-  pub offered : IsRefused t.schema.columns (all_names t.schema.columns insert.columns) insert.rows (offers.BadRow row)
+  pub refused : IsBadInsertRow t.schema.columns (all_names t.schema.columns insert.columns) insert.rows (errors.BadRow row)
   pub reply : line ≡ lines.Refused (BadRow row)
   pub unchanged : u ≡ t
 
 -- ---- SELECT and EXPLAIN
 
--- SELECT .. SYNC: every place of the log is known at the replica then; the answer is the plain query over the rows of the
--- accepted blocks, each once
+-- SELECT .. SYNC: every place of the log is known at the replica then; the answer is the plain query over the rows of
+-- the accepted blocks, each once
 pub record Syncs (t : TableState) (r : ℕ) (query : Query) (line : Line) (u : TableState) : Type 0 where
   pub checked : CheckedQuery
   pub is : IsCheckedQuery t.schema query checked
@@ -70,12 +70,6 @@ pub record Reads (t : TableState) (r : ℕ) (query : Query) (line : Line) (u : T
   pub reply : line ≡ lines.Read names (answer_of t.schema checked (all_rows (map (data_at t) names)))
   pub unchanged : u ≡ t
 
--- parts with their counts of granules
-abbrev pub granules_of : List Name → List (ℕ × ℕ) → List (Name × ℕ × ℕ)
-granules_of [] counts = []
-granules_of (a ∷ names) [] = []
-granules_of (a ∷ names) (n ∷ counts) = (a, n.0, n.1) ∷ granules_of names counts
-
 -- EXPLAIN: for parts whose names are fair for the places known at the replica, the granules that the query's filter
 -- chooses, and all
 pub record Explains (t : TableState) (r : ℕ) (query : Query) (line : Line) (u : TableState) : Type 0 where
@@ -83,13 +77,13 @@ pub record Explains (t : TableState) (r : ℕ) (query : Query) (line : Line) (u 
   pub is : IsCheckedQuery t.schema query checked
   pub names : List Name
   pub fair : AreFair t.log (done_at (known_at t r)) names
-  pub counts : List (ℕ × ℕ)
-  pub counted : AreCounted checked.filter (map (data_at t) names) counts
-  pub reply : line ≡ lines.Granules (granules_of names counts)
+  pub counts : List (Name × ℕ × ℕ)
+  pub counted : AreExplained checked.filter names (map (data_at t) names) counts
+  pub reply : line ≡ lines.Granules counts
   pub unchanged : u ≡ t
 
 -- ---- what an act does to its table at a replica, counted from 0; the other acts aren't played
--- an act comes to this reply and this table
+-- an act gives this reply and this table
 abbrev pub Acts : TableState → ℕ → Act → Line → TableState → Type 0
 Acts t r (acts.Insert insert) line u = Takes t r insert line u ⊎ MeetsBadRow t insert line u
 Acts t r (acts.Select table query modes.Sync) line u = Syncs t r query line u

@@ -1,5 +1,6 @@
 -- Why a statement is refused. Each refusal has its test, and a statement meets the first in the order of the checks.
--- ClickHouse documentation: CREATE TABLE, INSERT INTO, SELECT, EXPLAIN. The refusals and their order are this program's own.
+-- ClickHouse documentation: CREATE TABLE, INSERT INTO, SELECT, EXPLAIN. The refusals and their order are this program's
+-- own.
 use Rattle.std.specs.Prelude.{ℕ, zero, suc, cond, not, nat_le, ◌&&◌, Bool, true, false, List, [], ◌∷◌, length}
 use Rattle.std.specs.declared.option.Option.{Option}
 use Rattle.std.specs.declared.option.Option.TheVariants.{Some, None}
@@ -12,16 +13,16 @@ use Rattle.rmt_values.specs.Schemas.{schema_refusal}
 use Rattle.rmt_expr.specs.declared.check_error.CheckError.{CheckError}
 use Rattle.rmt_expr.specs.declared.check_error.CheckError.TheVariants as checks
 use Rattle.rmt_expr.specs.Queries.{query_refusal}
-use Rattle.rmt_acts.specs.declared.act.Act.{Act}
-use Rattle.rmt_acts.specs.declared.act.Act.TheVariants as acts
-use Rattle.rmt_acts.specs.declared.mode.Mode.{Mode}
-use Rattle.rmt_acts.specs.declared.mode.Mode.TheVariants as modes
-use Rattle.rmt_sql.specs.declared.sent.Sent.{Sent}
-use Rattle.rmt_sql.specs.declared.statement.Statement.{Statement}
-use Rattle.rmt_sql.specs.declared.statement.Statement.TheVariants as statements
-use Rattle.rmt_data.specs.declared.rows_error.RowsError.{RowsError}
-use Rattle.rmt_data.specs.declared.rows_error.RowsError.TheVariants as offers
-use Rattle.rmt_data.specs.Offers.{names_refusal}
+use Rattle.rmt_statements.specs.declared.act.Act.{Act}
+use Rattle.rmt_statements.specs.declared.act.Act.TheVariants as acts
+use Rattle.rmt_statements.specs.declared.mode.Mode.{Mode}
+use Rattle.rmt_statements.specs.declared.mode.Mode.TheVariants as modes
+use Rattle.rmt_statements.specs.declared.sent.Sent.{Sent}
+use Rattle.rmt_statements.specs.declared.statement.Statement.{Statement}
+use Rattle.rmt_statements.specs.declared.statement.Statement.TheVariants as statements
+use Rattle.rmt_sql_rows.specs.declared.rows_error.RowsError.{RowsError}
+use Rattle.rmt_sql_rows.specs.declared.rows_error.RowsError.TheVariants as errors
+use Rattle.rmt_sql_rows.specs.InsertedRows.{names_refusal}
 use Rattle.rmt_reply.specs.declared.refusal.Refusal.{Refusal}
 use Rattle.rmt_reply.specs.declared.refusal.Refusal.TheVariants.{Syntax, UnknownTable, TableExists, UnknownReplica, UnknownColumn, WrongType, LimitReached, DoubleColumn}
 use Rattle.rmt_reply.specs.Printed.{replica_text}
@@ -58,11 +59,12 @@ is_played_act (acts.Select table query mode) = is_played_mode mode
 is_played_act (acts.Explain table query) = true
 is_played_act act = false
 
--- REPLICAS with 1 to 8 replicas and before all tables; CREATE without partitions and with the default window; and what is
--- sent to a replica
+-- REPLICAS with 1 to 8 replicas and before all tables; CREATE without partitions and with the default window; and what
+-- is sent to a replica
 abbrev pub is_played : World → Statement → Bool
 is_played world (statements.Replicas count) = (nat_le 1 count && nat_le count 8) && is_empty world.tables
-is_played world (statements.Create table columns partition key granularity window) = (not (is_empty columns) && is_absent partition) && is_absent window
+is_played world (statements.Create table columns partition key granularity window) =
+    (not (is_empty columns) && is_absent partition) && is_absent window
 is_played world (statements.At sent) = is_played_act sent.act
 is_played world statement = false
 
@@ -167,8 +169,8 @@ table_named (acts.StartFetches table) = table
 
 -- the refusal of the columns that an INSERT names
 abbrev pub refused_names : Option RowsError → Option Refusal
-refused_names (Some (offers.UnknownColumn name)) = Some (UnknownColumn name)
-refused_names (Some (offers.DoubleColumn name)) = Some (DoubleColumn name)
+refused_names (Some (errors.UnknownColumn name)) = Some (UnknownColumn name)
+refused_names (Some (errors.DoubleColumn name)) = Some (DoubleColumn name)
 refused_names refusal = None
 
 -- the refusal of a query
@@ -192,7 +194,8 @@ refused_act (Some t) act = act_refusal t.state.schema act
 -- the refusals of what is sent to a replica, in their order
 abbrev pub sent_refusals : World → Sent → List (Option Refusal)
 sent_refusals world sent =
-    unknown_table world (table_named sent.act) ∷ unknown_replica world sent.replica ∷ refused_act (table_of world.tables (table_named sent.act)) sent.act ∷ []
+    unknown_table world (table_named sent.act)
+    ∷ unknown_replica world sent.replica ∷ refused_act (table_of world.tables (table_named sent.act)) sent.act ∷ []
 
 -- the refusals of a statement that is played, in their order
 abbrev pub refusals : World → Statement → List (Option Refusal)

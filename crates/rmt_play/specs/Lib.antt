@@ -1,7 +1,7 @@
-pub use Rattle.rmt_outside.specs.Causes
-pub use Rattle.rmt_outside.specs.Told
+pub use Rattle.rmt_outside.specs.Faults
+pub use Rattle.rmt_outside.specs.StreamBytes
 pub use Rattle.rmt_sql.specs.Script
-pub use Rattle.rmt_data.specs.Data
+pub use Rattle.rmt_sql_rows.specs.Inserts
 pub use Rattle.rmt_expr.specs.Queries
 pub use Rattle.rmt_query.specs.Answers
 pub use Rattle.rmt_query.specs.Explained
@@ -12,7 +12,7 @@ pub mod Checks
 pub mod Acts
 pub mod Plays
 pub mod Runs
-pub mod Asked
-pub mod Inside
-pub mod Endings
-pub mod Words
+pub mod QueryAnswers
+pub mod PlayerSteps
+pub mod ScriptEnds
+pub mod CommandWords

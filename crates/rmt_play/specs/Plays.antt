@@ -7,9 +7,9 @@ use Rattle.rmt_values.specs.Schemas.{shape_of}
 use Rattle.rmt_replicas.specs.Tables.{TableState}
 use Rattle.rmt_sql.specs.declared.parsed.Parsed.{Parsed}
 use Rattle.rmt_sql.specs.declared.parsed.Parsed.TheVariants as parsed
-use Rattle.rmt_sql.specs.declared.sent.Sent.{Sent}
-use Rattle.rmt_sql.specs.declared.statement.Statement.{Statement}
-use Rattle.rmt_sql.specs.declared.statement.Statement.TheVariants as statements
+use Rattle.rmt_statements.specs.declared.sent.Sent.{Sent}
+use Rattle.rmt_statements.specs.declared.statement.Statement.{Statement}
+use Rattle.rmt_statements.specs.declared.statement.Statement.TheVariants as statements
 use Rattle.rmt_sql.specs.Script.{ReadsAt}
 use Rattle.rmt_reply.specs.declared.line.Line.{Line}
 use Rattle.rmt_reply.specs.declared.line.Line.TheVariants as lines
@@ -66,15 +66,16 @@ Performs old statement line new = ⊥
 -- ---- a script
 
 -- a statement is refused with the first refusal that it meets, or does what it says
-abbrev pub TurnsStatement : World → Statement → ℕ → Line → World → Type 0
-TurnsStatement old statement first line new =
-    MatchOption (refusal_of old statement first) (Performs old statement line new) (λ refusal. Refuses old refusal line new)
+abbrev pub ExecutesStatement : World → Statement → ℕ → Line → World → Type 0
+ExecutesStatement old statement first line new =
+    MatchOption (refusal_of old statement first) (Performs old statement line new)
+    (λ refusal. Refuses old refusal line new)
 
 -- what was read replies and changes
-abbrev pub Turns : World → Parsed → Line → World → Type 0
-Turns old (parsed.Statement statement first end) line new = TurnsStatement old statement first line new
-Turns old (parsed.Syntax offset end) line new = Refuses old (Syntax offset) line new
-Turns old parsed.End line new = ⊥
+abbrev pub Executes : World → Parsed → Line → World → Type 0
+Executes old (parsed.Statement statement first end) line new = ExecutesStatement old statement first line new
+Executes old (parsed.Syntax offset end) line new = Refuses old (Syntax offset) line new
+Executes old parsed.End line new = ⊥
 
 -- what was read ends at this place
 abbrev pub EndsAt : Parsed → ℕ → Type 0
@@ -82,20 +83,21 @@ EndsAt (parsed.Statement statement first end) at = at ≡ end
 EndsAt (parsed.Syntax offset end) at = at ≡ end
 EndsAt parsed.End at = ⊥
 
--- one statement: it stands at a place of the script, ends at another, and has this reply
+-- one statement: it begins at a place of the script, ends at another, and has this reply
 pub record Step (script : List ℕ) (from : ℕ) (old : World) (line : Line) (at : ℕ) (new : World) : Type 0 where
   pub found : Parsed
   pub reads : ReadsAt script from found
   pub ends : EndsAt found at
-  pub turns : Turns old found line new
+  pub executes : Executes old found line new
 
--- some first statements of a script, up to a place: their replies, the newest first, and the world behind them
+-- some first statements of a script, up to a place: their replies, the newest first, and the world after them
 abbrev pub Played : List ℕ → List Line → ℕ → World → Type 0
 Played script [] at world = (at ≡ 0) × (world ≡ start)
 Played script (line ∷ lines) at world =
     (from : ℕ) × (before : World) × Played script lines from before × Step script from before line at world
 
--- the reply is a refusal
+-- the reply tells of a refusal; an INSERT may print the parts of its first blocks before it
 abbrev pub is_refused : Line → Bool
 is_refused (lines.Refused refusal) = true
+is_refused (lines.Inserted pieces (Some refusal)) = true
 is_refused line = false

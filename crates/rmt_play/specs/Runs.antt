@@ -1,9 +1,9 @@
 -- A whole run: the words, the script, and what is written.
-use Rattle.std.specs.Prelude.{◌≡◌, ◌⊎◌, ℕ, List, [], ◌∷◌, ◌++◌, count_by, codes, Bool, false, MatchOption}
+use Rattle.std.specs.Prelude.{◌≡◌, ◌⊎◌, ℕ, ◌≤◌, List, [], ◌∷◌, ◌++◌, length, count_by, codes, Bool, false, MatchOption}
 use Rattle.std.specs.declared.option.Option.{Option}
 use Rattle.std.specs.Str.{bytes_eq}
 use Rattle.std.specs.Io.KnownBytes.{Appends}
-use Rattle.rmt_outside.specs.Told.{AppendsFront}
+use Rattle.rmt_outside.specs.StreamBytes.{AppendsPrefix}
 use Rattle.rmt_sql.specs.declared.parsed.Parsed.TheVariants as parsed
 use Rattle.rmt_sql.specs.Script.{ReadsAt}
 use Rattle.rmt_reply.specs.declared.line.Line.{Line}
@@ -21,11 +21,15 @@ abbrev pub output : List Line → List ℕ
 output [] = []
 output (line ∷ lines) = output lines ++ printed line
 
--- The script is what the source gives, where that is told.
+-- The script is what the source gives, where that is known.
 pub record GivesScript (left : Option (List ℕ)) (P : List ℕ → Type 0) : Type 0 where
   pub script : List ℕ
   pub given : MatchOption left (Unit {0}) (λ bytes. script ≡ bytes)
   pub holds : P script
+
+-- a script of at most so many bytes that the source gives
+abbrev pub GivesScriptWithin : ℕ → Option (List ℕ) → (List ℕ → Type 0) → Type 0
+GivesScriptWithin limit left P = GivesScript left (λ script. (length script ≤ limit) × P script)
 
 -- The whole script was played, its replies were written, and so many of its statements were refused.
 pub record PlayedWhole (script : List ℕ) (before after : Option (List ℕ)) (refused : ℕ) : Type 0 where
@@ -37,13 +41,21 @@ pub record PlayedWhole (script : List ℕ) (before after : Option (List ℕ)) (r
   pub written : Appends before after (output lines)
   pub counted : refused ≡ count_by is_refused lines
 
--- A front of what some first statements of the script reply was written.
-pub record CutShort (script : List ℕ) (before after : Option (List ℕ)) : Type 0 where
+-- Some first statements of the script were played, and their replies were written.
+pub record PlayedInPart (before after : Option (List ℕ)) (script : List ℕ) : Type 0 where
   pub lines : List Line
   pub at : ℕ
   pub world : World
   pub played : Played script lines at world
-  pub written : AppendsFront before after (output lines)
+  pub written : Appends before after (output lines)
+
+-- A prefix of what some first statements of the script reply was written.
+pub record CutShort (before after : Option (List ℕ)) (script : List ℕ) : Type 0 where
+  pub lines : List Line
+  pub at : ℕ
+  pub world : World
+  pub played : Played script lines at world
+  pub written : AppendsPrefix before after (output lines)
 
 -- the codes that there are
 abbrev pub IsCode : ℕ → Type 0

@@ -19,4 +19,5 @@ start = record { replicas = 2; tables = [] }
 
 -- a table without rows, at so many replicas
 abbrev pub empty_table : ℕ → List ℕ → Shape → Table
-empty_table replicas name schema = record { name = name; state = record { schema = schema; log = []; blocks = []; known = replicate replicas [] } }
+empty_table replicas name schema =
+    record { name = name; state = record { schema = schema; log = []; blocks = []; known = replicate replicas [] } }

@@ -2,7 +2,7 @@
 ghost use Rattle.std.specs.Prelude.{◌≡◌};
 ghost use Rattle.rmt_play.specs.Checks.{is_played_act as act_test, table_named};
 
-use rmt_sql::{Act, Mode};
+use rmt_statements::{Act, Mode};
 use rmt_values::Name;
 
 /// Whether an act is played: an INSERT or a SELECT without settings, or an EXPLAIN.

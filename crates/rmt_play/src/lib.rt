@@ -1,17 +1,19 @@
 //! Plays scripts: what each statement replies, what it changes, and the top call of the program.
 #![tactic(auto)]
 
-mod acting;
-mod asking;
-mod creating;
+mod act;
 mod end;
-mod ending;
 mod forms;
-mod inserting;
+mod insert;
 mod named_table;
+mod outcome;
 mod player;
+mod progress;
+mod query;
 mod replicas;
+mod schema;
 mod script;
+mod script_end;
 mod status;
 #[cfg(test)]
 mod tests;

@@ -13,18 +13,27 @@ ghost use Rattle.rmt_play.specs.Checks.{
   unknown_replica,
   table_named,
 };
-ghost use Rattle.rmt_play.specs.Plays.{Counts, Creates, TurnsStatement};
-ghost use Rattle.rmt_play.specs.Inside.{ActsAt, IsCount, IsFound, IsSaid, TurnsCreate, TurnsSent};
+ghost use Rattle.rmt_play.specs.Plays.{Counts, Creates, ExecutesStatement};
+ghost use Rattle.rmt_play.specs.PlayerSteps.{
+  ActsAt,
+  IsCount,
+  IsFound,
+  IsCreateRefusal,
+  ExecutesCreate,
+  ExecutesPlayed,
+  ExecutesSent,
+};
 
-use crate::acting::act_in;
-use crate::creating::new_schema;
+use crate::act::act_in;
 use crate::forms::{is_played_act, table_of};
 use crate::named_table::NamedTable;
 use crate::replicas::replica_named;
+use crate::schema::new_schema;
+use rmt_list::List;
 use rmt_replicas::Table;
 use rmt_reply::{Line, Refusal};
-use rmt_sql::{Act, Columns, Sent, Statement};
-use rmt_values::{Limit, Name, Names, Schema, SchemaError};
+use rmt_statements::{Act, Sent, Statement};
+use rmt_values::{Column, Limit, Name, Schema, SchemaError};
 use std::alloc::{AllocError, Global};
 use std::marker::Model;
 use std::sync::Arc;
@@ -44,7 +53,7 @@ pub(crate) struct Player {
 
 impl Model for Player {
     ghost use Rattle.rmt_play.specs.World.{World};
-    ghost use Rattle.rmt_play.specs.Inside.{IsPlayed};
+    ghost use Rattle.rmt_play.specs.PlayerSteps.{IsSoundWorld};
     ghost use Rattle.std.specs.Coded.{codes};
     ghost use Rattle.rmt_values.specs.contracts.checked.Checked as filter;
 
@@ -54,7 +63,7 @@ impl Model for Player {
 
     ghost view = { λ p. record { replicas = p.replicas; tables = p.tables.items } };
 
-    ghost invariant = { λ p. IsPlayed (record { replicas = p.replicas; tables = p.tables.items }) };
+    ghost invariant = { λ p. IsSoundWorld (record { replicas = p.replicas; tables = p.tables.items }) };
 }
 
 /// The place of the table of this name.
@@ -91,7 +100,7 @@ impl Player {
         Line::Okay
     }
 
-    /// The refusal of one more table, where there are as many as there may be.
+    /// The refusal of another table, where there are as many as there may be.
     fn full(&self) -> Option<Refusal>
         ensures { result ≡ too_many_tables self.now.tables }
     {
@@ -107,9 +116,9 @@ impl Player {
 
     /// Why no table is made of a schema that is refused.
     fn refusal_of(&self, error: SchemaError) -> Refusal
-        requires { IsSaid error }
-        ensures { first_of (refused_schema (Some error) ∷ too_many_tables self.now.tables ∷ refused_columns (Some error) ∷ [])
-            ≡ Some result }
+        requires { IsCreateRefusal error }
+        ensures { first_of (refused_schema (Some error)
+            ∷ too_many_tables self.now.tables ∷ refused_columns (Some error) ∷ []) ≡ Some result }
     {
         match error {
             SchemaError::UnknownColumn(name) => Refusal::UnknownColumn(name),
@@ -124,12 +133,11 @@ impl Player {
     }
 
     /// Adds a table without rows.
-    fn add(&mut self, alloc: Global, name: &Name, schema: Schema) -> Result<Line, AllocError>
-        ensures { IfOk result (λ line. Creates self.old name.now schema line self.new) }
+    fn add(&mut self, alloc: Global, name: Name, schema: Schema) -> Result<Line, AllocError>
+        ensures { IfOk result (λ line. Creates self.old name schema line self.new) }
     {
         let schema = Arc::new(alloc, schema)?;
         let table = Table::new(alloc, schema, self.replicas)?;
-        let name = name.copy()?;
         self.tables.push(NamedTable { name, table })?;
         Ok(Line::Okay)
     }
@@ -138,16 +146,17 @@ impl Player {
     fn create(
         &mut self,
         alloc: Global,
-        table: &Name,
-        columns: &Columns,
-        key: &Names,
+        table: Name,
+        columns: List<Column>,
+        key: List<Name>,
         granularity: Option<u128>,
     ) -> Result<Line, AllocError>
-        requires { is_empty columns.now ≡ false }
-        ensures { IfOk result (λ line. TurnsCreate self.old table.now columns.now key.now granularity line self.new) }
+        requires { is_empty columns ≡ false }
+        ensures { IfOk result (λ line.
+            ExecutesCreate self.old table columns key granularity line self.new) }
     {
-        if place_of(&self.tables, table).is_some() {
-            return Ok(Line::Refused(Refusal::TableExists(table.copy()?)));
+        if place_of(&self.tables, &table).is_some() {
+            return Ok(Line::Refused(Refusal::TableExists(table)));
         }
         match new_schema(alloc, columns, key, granularity)? {
             Err(error) => Ok(Line::Refused(self.refusal_of(error))),
@@ -158,12 +167,14 @@ impl Player {
         }
     }
 
-    /// The place of the replica of this name, counted from 0, the first one where none is named, or the refusal of one that
-    /// isn't there.
+    /// The place of the replica of this name, counted from 0, the first one where none is named, or the refusal of one
+    /// that isn't there.
     fn replica(&self, name: &Option<Name>) -> Result<Result<usize, Refusal>, AllocError>
-        ensures at { IfOk result (λ found. IfOk found (λ r. replica_at self.now name.now ≡ Some (suc r))) }
+        ensures at { IfOk result (λ found.
+            IfOk found (λ r. replica_at self.now name.now ≡ Some (suc r))) }
         ensures there { IfOk result (λ found. IfOk found (λ r. r < self.now.replicas)) }
-        ensures refused { IfOk result (λ found. IfErr found (λ e. unknown_replica self.now name.now ≡ Some e)) }
+        ensures refused { IfOk result (λ found.
+            IfErr found (λ e. unknown_replica self.now name.now ≡ Some e)) }
     {
         let count = self.replicas;
         let Some(name) = name else {
@@ -197,7 +208,7 @@ impl Player {
     /// Plays what is sent to a replica.
     fn send(&mut self, alloc: Global, sent: &Sent) -> Result<Line, AllocError>
         requires { act_test sent.now.act ≡ true }
-        ensures { IfOk result (λ line. TurnsSent self.old sent.now line self.new) }
+        ensures { IfOk result (λ line. ExecutesSent self.old sent.now line self.new) }
     {
         let table = table_of(&sent.act);
         let Some(place) = place_of(&self.tables, table) else {
@@ -231,29 +242,39 @@ impl Player {
         }
     }
 
+    /// Plays a statement of a form that is played.
+    fn perform(&mut self, alloc: Global, statement: Statement) -> Result<Line, AllocError>
+        requires { statement_test self.old statement ≡ true }
+        ensures { IfOk result (λ line. ExecutesPlayed self.old statement line self.new) }
+    {
+        match statement {
+            Statement::Replicas { count } => Ok(self.count(count)),
+            Statement::Create {
+                table,
+                columns,
+                partition: _partition,
+                key,
+                granularity,
+                window: _window,
+            } => self.create(alloc, table, columns, key, granularity),
+            Statement::At(sent) => self.send(alloc, &sent),
+            _other => unreachable!(),
+        }
+    }
+
     /// Plays a statement that begins at this place of its script.
     pub(crate) fn play(
         &mut self,
         alloc: Global,
-        statement: &Statement,
+        statement: Statement,
         start: usize,
     ) -> Result<Line, AllocError>
-        ensures { IfOk result (λ line. TurnsStatement self.old statement.now start line self.new) }
+        ensures { IfOk result (λ line. ExecutesStatement self.old statement start line self.new) }
     {
-        if !self.is_played(statement) {
-            return Ok(Line::Refused(Refusal::Syntax { offset: start }));
-        }
-        match statement {
-            Statement::Replicas { count } => Ok(self.count(*count)),
-            Statement::Create {
-                table,
-                columns,
-                key,
-                granularity,
-                ..
-            } => self.create(alloc, table, columns, key, *granularity),
-            Statement::At(sent) => self.send(alloc, sent),
-            _ => unreachable!(),
+        if self.is_played(&statement) {
+            self.perform(alloc, statement)
+        } else {
+            Ok(Line::Refused(Refusal::Syntax { offset: start }))
         }
     }
 }

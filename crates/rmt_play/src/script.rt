@@ -1,33 +1,64 @@
-ghost use Rattle.std.specs.Prelude.{◌≡◌, ◌≤◌, ◌<◌, ◌+◌, ◌-◌, ◌^◌, length, IfOk, IfSome, MatchOption, if◌then◌else◌};
+ghost use Rattle.std.specs.Prelude.{
+  ◌≡◌,
+  ◌≢◌,
+  ◌≤◌,
+  ◌<◌,
+  ◌+◌,
+  ◌-◌,
+  ◌^◌,
+  length,
+  IfOk,
+  IfSome,
+  MatchOption,
+  if◌then◌else◌,
+};
 ghost use Rattle.rmt_sql.specs.declared.parsed.Parsed.TheVariants as parsed;
 ghost use Rattle.rmt_sql.specs.Script.{ReadsAt};
-ghost use Rattle.rmt_play.specs.Plays.{Step, is_refused as refused_test};
+ghost use Rattle.rmt_play.specs.Plays.{Step, is_refused};
 ghost use Rattle.rmt_reply.specs.Printed.{printed};
-ghost use Rattle.rmt_play.specs.Endings.{IsTurn, IsEnding};
+ghost use Rattle.rmt_play.specs.declared.progress.Progress.TheVariants as progress;
+ghost use Rattle.rmt_play.specs.declared.script_end.ScriptEnd.TheVariants as ends;
+ghost use Rattle.rmt_outside.specs.Faults.{Rose};
+ghost use Rattle.rmt_play.specs.ScriptEnds.{is_refusal, IsProgress, IsScriptEnd};
 
-use crate::ending::{Ending, Turned};
+use crate::outcome::Outcome;
 use crate::player::Player;
-use rmt_outside::{Sink, write_all_of};
+use crate::progress::Progress;
+use crate::script_end::ScriptEnd;
+use rmt_outside::{Sink, WriteError, write_all_of};
 use rmt_reply::{Line, Refusal, print_line};
 use rmt_sql::{Parsed, next_statement};
 use std::alloc::{AllocError, Global};
 
-/// Whether the reply is a refusal.
-fn is_refused(line: &Line) -> bool
-    ensures { result ≡ refused_test line.now }
+/// Whether the statement of this reply did what it says. An INSERT that prints a refusal after its parts didn't.
+fn outcome_of(line: &Line) -> Outcome
+    ensures { is_refusal result ≡ is_refused line.now }
 {
-    matches!(line, Line::Refused(_))
+    match line {
+        Line::Refused(_) => Outcome::Refused,
+        Line::Inserted { refused, .. } => {
+            if refused.is_some() {
+                Outcome::Refused
+            } else {
+                Outcome::Accepted
+            }
+        }
+        _ => Outcome::Accepted,
+    }
 }
 
-/// One more, where there is one.
-fn counted(count: u64, one_more: bool) -> u64
+/// How many statements were refused, with one of this outcome.
+fn counted(count: u64, outcome: Outcome) -> u64
     requires { count < 2 ^ 64 - 1 }
-    ensures { result ≡ count + (if one_more then 1 else 0) }
+    ensures { result ≡ count + (if is_refusal outcome then 1 else 0) }
 {
-    if one_more { count + 1 } else { count }
+    match outcome {
+        Outcome::Accepted => count,
+        Outcome::Refused => count + 1,
+    }
 }
 
-/// Plays the next statement, and gives its reply and the place behind it; none at the end of the script.
+/// Plays the next statement, and gives its reply and the place after it; none at the end of the script.
 fn next_line(
     alloc: Global,
     player: &mut Player,
@@ -37,7 +68,8 @@ fn next_line(
     requires { at ≤ length script.now }
     ensures step { IfOk result (λ next. MatchOption next (ReadsAt script.now at parsed.End)
         (λ x. Step script.now at player.old x.0 x.1 player.new)) }
-    ensures further { IfOk result (λ next. IfSome next (λ x. (at < x.1) × (x.1 ≤ length script.now))) }
+    ensures further { IfOk result (λ next. IfSome next (λ x.
+        (at < x.1) × (x.1 ≤ length script.now))) }
 {
     match next_statement(alloc, script, at)? {
         Parsed::End => Ok(None),
@@ -46,7 +78,7 @@ fn next_line(
             start,
             end,
         } => {
-            let line = player.play(alloc, &statement, start)?;
+            let line = player.play(alloc, statement, start)?;
             Ok(Some((line, end)))
         }
         Parsed::Syntax { offset, end } => {
@@ -55,63 +87,58 @@ fn next_line(
     }
 }
 
-/// A reply as it is printed.
-fn told(alloc: Global, line: &Line) -> Result<Vec<u8>, AllocError>
-    ensures { IfOk result (λ out. out.items ≡ printed line.now) }
-{
-    let mut out = Vec::new(alloc);
-    print_line(alloc, &mut out, line)?;
-    Ok(out)
-}
-
 /// Plays the next statement, and writes its reply.
-fn turn<K: Sink>(
+fn play_next<K: Sink>(
     alloc: Global,
     player: &mut Player,
     script: &[u8],
     at: usize,
     sink: &mut K,
-) -> Turned
+) -> Progress
     requires { at ≤ length script.now }
-    ensures turn { IsTurn script.now at player.old player.new (K.written sink.old) (K.written sink.new)
-        (K.faults sink.old) (K.faults sink.new) result }
+    ensures progress { IsProgress script.now at player.old player.new
+        (K.written sink.old) (K.written sink.new) result }
+    ensures cause { result ≡ progress.WriteFault → Rose (K.faults sink.old) (K.faults sink.new) }
+    ensures quiet { result ≢ progress.WriteFault → K.faults sink.new ≡ K.faults sink.old }
     ensures later { K.faults sink.old ≤ K.faults sink.new }
 {
     let (line, end) = match next_line(alloc, player, script, at) {
         Ok(Some(next)) => next,
-        Ok(None) => return Turned::AtEnd,
-        Err(_) => return Turned::Memory,
+        Ok(None) => return Progress::AtEnd,
+        Err(AllocError) => return Progress::Memory,
     };
-    let Ok(out) = told(alloc, &line) else {
-        return Turned::Memory;
+    let Ok(out) = print_line(alloc, &line) else {
+        return Progress::Memory;
     };
     match write_all_of(sink, &out) {
-        Ok(()) => Turned::On {
+        Ok(()) => Progress::On {
             end,
-            is_refused: is_refused(&line),
+            outcome: outcome_of(&line),
         },
-        Err(_) => Turned::WriteFault,
+        Err(WriteError::WriteFault) => Progress::WriteFault,
+        Err(WriteError::Memory) => unreachable!(),
     }
 }
 
 /// Plays a script to its end, each reply written before the next statement begins.
-pub(crate) fn play<K: Sink>(alloc: Global, script: &[u8], sink: &mut K) -> Ending
-    ensures ending { IsEnding script.now (K.written sink.old) (K.written sink.new)
-        (K.faults sink.old) (K.faults sink.new) result }
+pub(crate) fn play<K: Sink>(alloc: Global, script: &[u8], sink: &mut K) -> ScriptEnd
+    ensures end { IsScriptEnd script.now (K.written sink.old) (K.written sink.new) result }
+    ensures cause { result ≡ ends.WriteFault → Rose (K.faults sink.old) (K.faults sink.new) }
+    ensures quiet { result ≢ ends.WriteFault → K.faults sink.new ≡ K.faults sink.old }
     ensures later { K.faults sink.old ≤ K.faults sink.new }
 {
     let mut player = Player::new(alloc);
     let mut at = 0;
     let mut refused = 0;
     'statements: loop {
-        match turn(alloc, &mut player, script, at, sink) {
-            Turned::AtEnd => return Ending::Whole { refused },
-            Turned::On { end, is_refused } => {
+        match play_next(alloc, &mut player, script, at, sink) {
+            Progress::AtEnd => return ScriptEnd::Whole { refused },
+            Progress::On { end, outcome } => {
                 at = end;
-                refused = counted(refused, is_refused);
+                refused = counted(refused, outcome);
             }
-            Turned::WriteFault => return Ending::WriteFault,
-            Turned::Memory => return Ending::Memory,
+            Progress::WriteFault => return ScriptEnd::WriteFault,
+            Progress::Memory => return ScriptEnd::Memory,
         }
     }
 }

@@ -57,7 +57,7 @@ fn scripts_write_their_replies(rt: HostRuntime) -> Result<(), Fail> {
             0,
             0,
         ),
-        // The first token that can't follow; reading goes on behind the next `;`.
+        // The first token that can't follow; reading goes on after the next `;`.
         (
             " \n insert t; CREATE TABLE t (c UInt64) ENGINE = ReplicatedMergeTree ORDER BY c; ",
             "refused 1 Syntax 10\nok\n",
@@ -138,9 +138,10 @@ fn scripts_write_their_replies(rt: HostRuntime) -> Result<(), Fail> {
             2,
             3,
         ),
-        // One replica; no rows make no block; REPLICAS stands first or nowhere.
+        // One replica; no rows make no block; REPLICAS comes first or nowhere.
         (
-            "REPLICAS 1; CREATE TABLE t (c UInt64) ENGINE = ReplicatedMergeTree ORDER BY c; @r2 SELECT c FROM t; @r1 INSERT INTO t FORMAT CSV\n\
+            "REPLICAS 1; CREATE TABLE t (c UInt64) ENGINE = ReplicatedMergeTree ORDER BY c; \
+                @r2 SELECT c FROM t; @r1 INSERT INTO t FORMAT CSV\n\
                 \n;\nSELECT c FROM t SYNC; REPLICAS 2;",
             "ok\nok\nrefused 4 UnknownReplica r2\nnothing\nrows 0\n\
                 refused 1 Syntax 154\n",
@@ -150,7 +151,8 @@ fn scripts_write_their_replies(rt: HostRuntime) -> Result<(), Fail> {
         // Forms that nothing plays so far are refused at their first token.
         (
             "CREATE TABLE t (c UInt64) ENGINE = ReplicatedMergeTree PARTITION BY c ORDER BY c; KILL r1; \
-                CREATE TABLE t (c UInt64) ENGINE = ReplicatedMergeTree ORDER BY tuple() SETTINGS replicated_deduplication_window = 1; \
+                CREATE TABLE t (c UInt64) ENGINE = ReplicatedMergeTree ORDER BY tuple() \
+                SETTINGS replicated_deduplication_window = 1; \
                 CREATE TABLE t (c UInt64) ENGINE = ReplicatedMergeTree ORDER BY c; \
                 INSERT INTO t SETTINGS insert_quorum = 2 VALUES (1); ALTER TABLE t DELETE WHERE c = 1",
             "refused 1 Syntax 0\nrefused 1 Syntax 82\nrefused 1 Syntax 91\nok\n\
@@ -258,7 +260,7 @@ fn a_read_that_fails_writes_nothing(rt: HostRuntime) -> Result<(), Fail> {
 }
 
 #[test]
-fn a_write_that_fails_leaves_a_front(rt: HostRuntime) -> Result<(), Fail> {
+fn a_write_that_fails_leaves_a_prefix(rt: HostRuntime) -> Result<(), Fail> {
     for write in 0..3 {
         let (status, page) = played(rt.alloc(), FIRST, [write].to_vec(rt.alloc())?)?;
         assert_eq!(rt;

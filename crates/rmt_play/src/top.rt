@@ -1,14 +1,22 @@
-ghost use Rattle.std.specs.Prelude.{◌≡◌, ◌⊎◌, ◌≤◌, ◌<◌, ◌+◌, ◌↔◌, map, length, false};
+ghost use Rattle.std.specs.Prelude.{◌≡◌, ◌≢◌, ◌⊎◌, ◌≤◌, ◌<◌, ◌+◌, ◌↔◌, map, false};
 ghost use Rattle.std.specs.String.{string_bytes};
 ghost use Rattle.std.specs.Io.KnownBytes.{IsAtEnd};
-ghost use Rattle.rmt_outside.specs.Causes.{Rose};
-ghost use Rattle.rmt_outside.specs.Told.{ConsumesUpTo, ConsumesExactly};
-ghost use Rattle.rmt_play.specs.Runs.{has_form as form_test, GivesScript, PlayedWhole, CutShort, IsCode};
-ghost use Rattle.rmt_play.specs.Endings.{IsStatusOf};
+ghost use Rattle.rmt_outside.specs.Faults.{Rose};
+ghost use Rattle.rmt_outside.specs.StreamBytes.{ConsumesUpTo, ConsumesExactly};
+ghost use Rattle.rmt_play.specs.Runs.{
+  has_form as form_test,
+  GivesScript,
+  GivesScriptWithin,
+  PlayedWhole,
+  PlayedInPart,
+  CutShort,
+  IsCode,
+};
+ghost use Rattle.rmt_play.specs.ScriptEnds.{IsStatusOf};
 
 use crate::end::End;
-use crate::ending::Ending;
 use crate::script::play;
+use crate::script_end::ScriptEnd;
 use crate::status::Status;
 use crate::words::{has_form, read_words};
 use rmt_outside::{Gate, ReadError, Sink, Source, read_all};
@@ -25,22 +33,23 @@ fn ended(code: u8) -> Status
 }
 
 /// The status of a script that was played.
-fn status_of(ending: Ending) -> Status
-    ensures { IsStatusOf ending result }
+fn status_of(end: ScriptEnd) -> Status
+    ensures { IsStatusOf end result }
 {
-    match ending {
-        Ending::Whole { refused } => Status {
+    match end {
+        ScriptEnd::Whole { refused } => Status {
             code: if refused == 0 { 0 } else { 2 },
             refused,
         },
-        Ending::WriteFault => ended(5),
-        Ending::Memory => ended(6),
+        ScriptEnd::WriteFault => ended(5),
+        ScriptEnd::Memory => ended(6),
     }
 }
 
 /// Runs the command: plays the script that `source` gives, and writes the replies to `sink`. `words` are the words
-/// behind the program's name, read with `clap`; only `play` has a form. The source is read to its end before the first statement is
-/// played. No gate is passed yet.
+/// after the program's name, read with `clap`; only `play` has a form. The source is read to its end before the first
+/// statement is played. No gate is passed yet.
+#[tactic(auto, using(crate::proofs::ScriptLemmas::none_played))]
 pub fn run<S: Source, K: Sink, G: Gate + Sync>(
     alloc: Global,
     words: &[String],
@@ -49,34 +58,50 @@ pub fn run<S: Source, K: Sink, G: Gate + Sync>(
     _gate: &G,
 ) -> (Status, End)
     // The script was played to its end; none of its statements were refused, or some.
-    ensures accepted { result.0.code ≡ 0 → GivesScript (S.left source.old) (λ script.
-        (length script ≤ LONGEST) × PlayedWhole script (K.written sink.old) (K.written sink.new) 0) × (result.0.refused ≡ 0) }
-    ensures refused { result.0.code ≡ 2 → GivesScript (S.left source.old) (λ script.
-        (length script ≤ LONGEST) × PlayedWhole script (K.written sink.old) (K.written sink.new) result.0.refused) × (0 < result.0.refused) }
-    ensures read { (result.0.code ≡ 0) ⊎ (result.0.code ≡ 2) → IsAtEnd (S.left source.new) }
+    ensures accepted { result.0.code ≡ 0 → GivesScriptWithin LONGEST (S.left source.old)
+        (λ script. PlayedWhole script (K.written sink.old) (K.written sink.new) 0) }
+    ensures refused { result.0.code ≡ 2 → GivesScriptWithin LONGEST (S.left source.old)
+        (λ script. PlayedWhole script (K.written sink.old) (K.written sink.new) result.0.refused) }
+    ensures some_refused { result.0.code ≡ 2 → 0 < result.0.refused }
+    ensures none_refused { result.0.code ≢ 2 → result.0.refused ≡ 0 }
 
-    // The words have no form: nothing is read or written.
+    // The words have no form: nothing is read.
     ensures words { (result.0.code ≡ 3) ↔ (form_test (map string_bytes words.now) ≡ false) }
-    ensures untouched { result.0.code ≡ 3 → (source.new ≡ source.old) × (sink.new ≡ sink.old) }
+    ensures unread { result.0.code ≡ 3 → source.new ≡ source.old }
 
-    // A read fault within the limit: nothing is written.
-    ensures read_fault { result.0.code ≡ 4 → Rose (S.faults source.old) (S.faults source.new)
-        × ConsumesUpTo (S.left source.old) (S.left source.new) LONGEST × (sink.new ≡ sink.old) }
+    // A read fault. No other code hides one.
+    ensures read_fault { result.0.code ≡ 4 → Rose (S.faults source.old) (S.faults source.new) }
+    ensures no_read_fault { result.0.code ≢ 4 → S.faults source.new ≡ S.faults source.old }
 
-    // More than the limit was given before a read failed: nothing is written.
-    ensures too_long { result.0.code ≡ 7 → ConsumesExactly (S.left source.old) (S.left source.new) (LONGEST + 1)
-        × (sink.new ≡ sink.old) }
+    // More than the limit was given before a read failed. No other code hides that.
+    ensures too_long { result.0.code ≡ 7
+        → ConsumesExactly (S.left source.old) (S.left source.new) (LONGEST + 1) }
+    ensures within { result.0.code ≢ 7
+        → ConsumesUpTo (S.left source.old) (S.left source.new) LONGEST }
 
-    // A write fault: a front of an allowed output was written.
-    ensures write_fault { result.0.code ≡ 5 → GivesScript (S.left source.old) (λ script.
-        (length script ≤ LONGEST) × CutShort script (K.written sink.old) (K.written sink.new)) × Rose (K.faults sink.old) (K.faults sink.new) }
+    // No script was read: nothing is written.
+    ensures unwritten { (result.0.code ≡ 3) ⊎ (result.0.code ≡ 4) ⊎ (result.0.code ≡ 7)
+        → sink.new ≡ sink.old }
 
-    // Want of memory: a front of an allowed output was written.
-    ensures memory { result.0.code ≡ 6 → GivesScript (S.left source.old) (λ script.
-        CutShort script (K.written sink.old) (K.written sink.new)) }
+    // A write fault: a prefix of an allowed output was written. No other code hides one.
+    ensures write_fault { result.0.code ≡ 5 → Rose (K.faults sink.old) (K.faults sink.new) }
+    ensures no_write_fault { result.0.code ≢ 5 → K.faults sink.new ≡ K.faults sink.old }
+    ensures cut_short { result.0.code ≡ 5 → GivesScriptWithin LONGEST (S.left source.old)
+        (CutShort (K.written sink.old) (K.written sink.new)) }
+
+    // The script was read to its end before any of it was played.
+    ensures read { (result.0.code ≡ 0) ⊎ (result.0.code ≡ 2) ⊎ (result.0.code ≡ 5)
+        → IsAtEnd (S.left source.new) }
+
+    // Out of memory: whole replies were written, none before the script was read to its end.
+    ensures memory { result.0.code ≡ 6 → GivesScript (S.left source.old)
+        (PlayedInPart (K.written sink.old) (K.written sink.new)) }
+    ensures memory_unread { result.0.code ≡ 6
+        → (IsAtEnd (S.left source.new)) ⊎ (sink.new ≡ sink.old) }
 
     ensures codes { IsCode result.0.code }
-    ensures faults { (S.faults source.old ≤ S.faults source.new) × (K.faults sink.old ≤ K.faults sink.new) }
+    ensures source_faults { S.faults source.old ≤ S.faults source.new }
+    ensures sink_faults { K.faults sink.old ≤ K.faults sink.new }
 {
     if !has_form(words) {
         return (ended(3), End::Nothing);

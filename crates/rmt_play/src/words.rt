@@ -2,7 +2,7 @@ ghost use Rattle.std.specs.Prelude.{◌≡◌, map, codes, IfOk, IfErr, Some, tr
 ghost use Rattle.std.specs.String.{string_bytes};
 ghost use Rattle.clap.specs.Words.{app_of, kind_of, subcommand_name_of};
 ghost use Rattle.rmt_play.specs.Runs.{has_form as form_test};
-ghost use Rattle.rmt_play.specs.Words.{program};
+ghost use Rattle.rmt_play.specs.CommandWords.{program};
 
 use clap::error::ErrorKind;
 use clap::{ArgMatches, Command, Error};
@@ -27,7 +27,7 @@ fn command<'a>(alloc: Global) -> Result<Command<'a>, AllocError>
         .subcommand(Command::new(alloc, "play"))
 }
 
-/// Reads words that have a form. The only error is want of memory.
+/// Reads words that have a form. The only error is that no memory is left.
 pub(crate) fn read_words<'a>(alloc: Global, words: &'a [String]) -> Result<ArgMatches<'a>, Error>
     requires form { form_test (map string_bytes words.now) ≡ true }
     ensures plays { IfOk result (λ matches. subcommand_name_of matches ≡ Some (codes "play")) }

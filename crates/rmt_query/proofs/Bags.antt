@@ -1,11 +1,20 @@
 -- Equal bags: in order they are equal lists, and folds whose steps commute tell them alike.
 use Rattle.std.proofs.Common.{◌≡◌, ℕ, zero, suc, ◌+◌, Bool, true, false, cond, List, [], ◌∷◌, filter, is_lt, refl, sym, ap, ◌∙◌, arith}
 use Rattle.std.specs.declared.cmp.Ordering.{Ordering}
+use Rattle.std.specs.declared.cmp.Ordering.TheVariants.{Equal}
 use Rattle.std.specs.Ordering.{is_gt}
 use Rattle.std.specs.Cmp.{IsTotalOrder}
 use Rattle.std.specs.List.Sorted.{ties}
-use Rattle.rmt_values.specs.Order.{sink, in_order, tally, SameBag, folded, IsExact, Commutes}
+use Rattle.rmt_values.specs.Order.{sink, in_order, tally, SameBag, folded}
 use Rattle.rmt_values.proofs.Sorting.{tied, Up-in_order, filter-in_order, same_from_ties}
+
+-- what ties is the same
+abbrev pub IsExact : {X : Type 0} → (X → X → Ordering) → Type 0
+IsExact {X} cmp = (x y : X) → cmp x y ≡ Equal → x ≡ y
+
+-- two steps may change places
+abbrev pub Commutes : {X S : Type 0} → (X → S → S) → Type 0
+Commutes {X} {S} step = (x y : X) (s : S) → step x (step y s) ≡ step y (step x s)
 
 -- n times x
 abbrev times : {X : Type 0} → ℕ → X → List X

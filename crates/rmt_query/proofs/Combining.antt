@@ -12,10 +12,10 @@ use Rattle.rmt_values.specs.declared.cell.Cell.{Cell}
 use Rattle.rmt_values.specs.declared.cell.Cell.TheVariants.{UInt, Int, Text, Sum}
 use Rattle.rmt_values.specs.declared.checked_item.CheckedItem.{CheckedItem}
 use Rattle.rmt_values.specs.declared.checked_item.CheckedItem.TheVariants as item
-use Rattle.rmt_values.specs.Order.{sink, in_order, SameBag, IsExact, Commutes}
-use Rattle.rmt_query.specs.Cells.{cell_order, number_of, one, joined, plus, lesser, greater}
+use Rattle.rmt_values.specs.Order.{sink, in_order, SameBag}
+use Rattle.rmt_query.specs.Cells.{cell_order, number_of, one, joined, added, lesser, greater}
 use Rattle.rmt_query.specs.Answers.{add_row}
-use Rattle.rmt_query.proofs.Bags.{bag-order}
+use Rattle.rmt_query.proofs.Bags.{bag-order, IsExact, Commutes}
 use Rattle.rmt_query.proofs.CellOrder.{cell_order_total, cell_order_exact}
 
 -- ---- the lesser of two, by an order
@@ -81,10 +81,10 @@ greater-left = low-left (flip_args cell_order) (back_total cell_order_total) fli
 
 -- ---- items
 
-sum-comm : (a b : ℤ) → plus (Sum a) (Sum b) ≡ plus (Sum b) (Sum a)
+sum-comm : (a b : ℤ) → added (Sum a) (Sum b) ≡ added (Sum b) (Sum a)
 sum-comm a b = ap (λ (z : ℤ). Sum z) (omega (arith, ints))
 
-sum-left : (a b : ℤ) (c : Cell) → plus (Sum a) (plus (Sum b) c) ≡ plus (Sum b) (plus (Sum a) c)
+sum-left : (a b : ℤ) (c : Cell) → added (Sum a) (added (Sum b) c) ≡ added (Sum b) (added (Sum a) c)
 sum-left a b (UInt n) = refl
 sum-left a b (Int z) = refl
 sum-left a b (Text t) = refl
@@ -112,7 +112,7 @@ add_row-commutes (i ∷ is) x y [] =
 add_row-commutes (i ∷ is) x y (c ∷ cs) =
     ap (λ (d : Cell). d ∷ add_row is x (add_row is y cs)) (one-left i x y c) ∙ ap (λ (l : List Cell). joined i (one i y) (joined i (one i x) c) ∷ l) (add_row-commutes is x y cs)
 
--- ---- the least of several rows, from the front on
+-- ---- the least of several rows, from the first on
 
 -- a least with the lesser of two is one with both
 pub lesser-assoc : (a b c : Cell) → lesser a (lesser b c) ≡ lesser (lesser a b) c

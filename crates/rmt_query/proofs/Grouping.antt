@@ -4,7 +4,8 @@ use Rattle.std.specs.declared.cmp.Ordering.{Ordering}
 use Rattle.std.specs.declared.cmp.Ordering.TheVariants.{Less, Equal, Greater}
 use Rattle.std.specs.Ordering.{ordering_reverse, is_gt}
 use Rattle.std.specs.Cmp.{IsTotalOrder}
-use Rattle.rmt_values.specs.Order.{IsExact, Commutes, folded}
+use Rattle.rmt_values.specs.Order.{folded}
+use Rattle.rmt_query.proofs.Bags.{IsExact, Commutes}
 use Rattle.rmt_query.specs.Groups.{enter, placed}
 use Rattle.rmt_values.proofs.Sorting.{Low}
 use Rattle.std.proofs.lemmas.Cmp.{on_total}
@@ -33,9 +34,9 @@ module _ {X K S : Type 0} (cmp : K → K → Ordering) (o : IsTotalOrder cmp) (e
   apart x y k p (inl q) = o.congr (key y) k (key x) q ∙ turned (key x) k Less p
   apart x y k p (inr q) = turned (key x) (key y) Less (o.trans (key x) k (key y) p (turned (key y) k Greater q))
 
-  -- both go in front
-  front : (x y : X) (l : List (K × S)) → put x l ≡ alone x ∷ l → put y l ≡ alone y ∷ l → put x (alone y ∷ l) ≡ put y (alone x ∷ l)
-  front x y l px py = go (cmp (key x) (key y)) refl where
+  -- both go first
+  both-first : (x y : X) (l : List (K × S)) → put x l ≡ alone x ∷ l → put y l ≡ alone y ∷ l → put x (alone y ∷ l) ≡ put y (alone x ∷ l)
+  both-first x y l px py = go (cmp (key x) (key y)) refl where
     go : (r : Ordering) → cmp (key x) (key y) ≡ r → put x (alone y ∷ l) ≡ put y (alone x ∷ l)
     go Less e = put-less x (alone y) l e ∙ sym (put-greater y (alone x) l (turned (key x) (key y) Less e) ∙ ap (λ (t : List (K × S)). alone x ∷ t) py)
     go Equal e =
@@ -45,7 +46,7 @@ module _ {X K S : Type 0} (cmp : K → K → Ordering) (o : IsTotalOrder cmp) (e
     go Greater e = put-greater x (alone y) l e ∙ ap (λ (t : List (K × S)). alone y ∷ t) px ∙ sym (put-less y (alone x) l (turned (key x) (key y) Greater e))
 
   pub put-commutes : Commutes put
-  put-commutes x y [] = front x y [] refl refl
+  put-commutes x y [] = both-first x y [] refl refl
   put-commutes x y (g ∷ gs) = go (cmp (key x) g.0) (cmp (key y) g.0) refl refl (put-commutes x y gs) where
     low-equal : (u v : X) → cmp (key u) g.0 ≡ Less → cmp (key v) g.0 ≡ Equal → put u (put v (g ∷ gs)) ≡ put v (put u (g ∷ gs))
     low-equal u v p q =
@@ -63,7 +64,7 @@ module _ {X K S : Type 0} (cmp : K → K → Ordering) (o : IsTotalOrder cmp) (e
         ∙ sym (ap (put v) (put-equal u g gs p) ∙ put-greater v (g.0, add u g.1) gs q)
 
     go : (a b : Ordering) → cmp (key x) g.0 ≡ a → cmp (key y) g.0 ≡ b → put x (put y gs) ≡ put y (put x gs) → put x (put y (g ∷ gs)) ≡ put y (put x (g ∷ gs))
-    go Less Less p q r = ap (put x) (put-less y g gs q) ∙ front x y (g ∷ gs) (put-less x g gs p) (put-less y g gs q) ∙ sym (ap (put y) (put-less x g gs p))
+    go Less Less p q r = ap (put x) (put-less y g gs q) ∙ both-first x y (g ∷ gs) (put-less x g gs p) (put-less y g gs q) ∙ sym (ap (put y) (put-less x g gs p))
     go Less Equal p q r = low-equal x y p q
     go Less Greater p q r = low-high x y p q
     go Equal Less p q r = sym (low-equal y x q p)

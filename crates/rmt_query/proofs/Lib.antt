@@ -4,6 +4,6 @@ pub mod CellOrder
 pub mod Combining
 pub mod Over
 pub mod RunLemmas
-pub mod KeptLemmas
+pub mod MatchLemmas
 pub mod BagLaws
 pub mod Counting

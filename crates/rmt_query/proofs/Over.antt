@@ -1,5 +1,5 @@
 -- What items are over several rows.
-use Rattle.std.proofs.Common.{◌≡◌, ℕ, zero, suc, ◌+◌, ◌<◌, Bool, true, false, cond, List, [], ◌∷◌, map, length, drop, get_or, slice_get, refl, sym, ap, ◌∙◌, arith}
+use Rattle.std.proofs.Common.{◌≡◌, ℕ, zero, suc, ◌+◌, ◌<◌, Bool, true, false, cond, List, [], ◌∷◌, map, length, drop, get_or, slice_get, refl, sym, ap, ap₂, ◌∙◌, arith, inl}
 use Rattle.std.specs.Prelude.{ℤ}
 use Rattle.std.proofs.lemmas.Int.{ints}
 use Rattle.std.specs.declared.option.Option.TheVariants.{Some}
@@ -14,9 +14,9 @@ use Rattle.rmt_values.specs.declared.checked_item.CheckedItem.{CheckedItem}
 use Rattle.rmt_values.specs.declared.checked_item.CheckedItem.TheVariants as item
 use Rattle.rmt_values.specs.Rows.{value_cmp}
 use Rattle.rmt_values.specs.Order.{folded}
-use Rattle.rmt_query.specs.Cells.{cell_order, cell_of, number_of, one, joined, lesser, greater}
+use Rattle.rmt_query.specs.Cells.{value_or_sum, value_or_sum_cmp, cell_order, cell_of, number_of, one, joined, lesser, greater}
 use Rattle.rmt_query.specs.Answers.{add_row}
-use Rattle.rmt_query.specs.Inside.{over, total}
+use Rattle.rmt_query.specs.OverRows.{over, total}
 use Rattle.rmt_query.proofs.Combining.{lesser-assoc, greater-assoc}
 
 add-first : (items : List CheckedItem) (x : List Value) → add_row items x [] ≡ map (λ i. over i (x ∷ [])) items
@@ -49,7 +49,7 @@ not-greater Less h = refl
 not-greater Equal h = refl
 not-greater Greater h = absurd (h refl)
 
--- the lesser of two rows stands for both
+-- the lesser of two rows is taken for both
 pub less-step : (k : ℕ) (b x : List Value) (xs : List (List Value)) → is_gt (cell_order (cell_of (slice_get b k)) (cell_of (slice_get x k))) ≡ false → over (item.Min k) (b ∷ x ∷ xs) ≡ over (item.Min k) (b ∷ xs)
 less-step k b x [] h = ap (λ (t : Bool). cond t (cell_of (slice_get x k)) (cell_of (slice_get b k))) h
 less-step k b x (y ∷ ys) h =
@@ -88,17 +88,14 @@ pub over-column : (k : ℕ) (x : List Value) (xs : List (List Value)) → over (
 over-column k x [] = refl
 over-column k x (y ∷ ys) = ap (lesser (cell_of (slice_get x k))) (over-column k y ys)
 
--- cells stand in the order of the values that they show
+shown : (a : Value) → value_or_sum (cell_of (Some a)) ≡ inl a
+shown (UInt a) = refl
+shown (Int a) = refl
+shown (Text a) = refl
+
+-- cells are in the order of the values that they show
 pub shown-order : (a b : Value) → cell_order (cell_of (Some a)) (cell_of (Some b)) ≡ value_cmp a b
-shown-order (UInt a) (UInt b) = refl
-shown-order (UInt a) (Int b) = refl
-shown-order (UInt a) (Text b) = refl
-shown-order (Int a) (UInt b) = refl
-shown-order (Int a) (Int b) = refl
-shown-order (Int a) (Text b) = refl
-shown-order (Text a) (UInt b) = refl
-shown-order (Text a) (Int b) = refl
-shown-order (Text a) (Text b) = refl
+shown-order a b = ap₂ value_or_sum_cmp (shown a) (shown b)
 
 pub over-count-of : (rows : List (List Value)) → 0 < length rows → over item.Count rows ≡ cells.UInt (length rows)
 over-count-of [] h = absurd (omega (arith, h))

@@ -14,12 +14,13 @@ use Rattle.rmt_values.specs.declared.value.Value.{Value}
 use Rattle.rmt_values.specs.declared.cell.Cell.{Cell}
 use Rattle.rmt_values.specs.declared.checked_item.CheckedItem.{CheckedItem}
 use Rattle.rmt_values.specs.Rows.{cell_cmp, key_of, key_cmp}
-use Rattle.rmt_values.specs.Order.{folded, Commutes}
+use Rattle.rmt_values.specs.Order.{folded}
+use Rattle.rmt_query.proofs.Bags.{Commutes}
 use Rattle.rmt_values.proofs.Sorting.{Low, Up}
 use Rattle.rmt_values.proofs.Totals.{cell_cmp_total, key_cmp_total, value_cmp_exact}
 use Rattle.rmt_query.specs.Groups.{enter, placed}
 use Rattle.rmt_query.specs.Answers.{add_row, groups_of}
-use Rattle.rmt_query.specs.Inside.{over}
+use Rattle.rmt_query.specs.OverRows.{over}
 use Rattle.rmt_query.proofs.Grouping.{Under, Under-folded, by_key_total, put-commutes}
 use Rattle.rmt_query.proofs.Combining.{add_row-commutes}
 use Rattle.rmt_query.proofs.Over.{folded-over}
@@ -66,19 +67,19 @@ module _ (items : List CheckedItem) (group : List ℕ) where
   pub put-may-change : Commutes put
   put-may-change = put-commutes by by_total by_exact (key_of group) [] (add_row items) (add_row-commutes items)
 
-  -- the first of the groups stands behind the key
-  abbrev Behind : Key → Groups → Type 0
-  Behind k [] = Unit {0}
-  Behind k (g ∷ gs) = by k g.0 ≡ Less
+  -- the first of the groups comes after the key
+  abbrev ComesAfter : Key → Groups → Type 0
+  ComesAfter k [] = Unit {0}
+  ComesAfter k (g ∷ gs) = by k g.0 ≡ Less
 
   -- the rows have this key
   abbrev AllTie : Key → List (List Value) → Type 0
   AllTie k [] = Unit {0}
   AllTie k (y ∷ ys) = (by k (key_of group y) ≡ Equal) × AllTie k ys
 
-  put-behind : (k : Key) (x : List Value) (gs : Groups) → by k (key_of group x) ≡ Equal → Behind k gs → put x gs ≡ (key_of group x, add_row items x []) ∷ gs
-  put-behind k x [] t b = refl
-  put-behind k x (g ∷ gs) t b =
+  put-before : (k : Key) (x : List Value) (gs : Groups) → by k (key_of group x) ≡ Equal → ComesAfter k gs → put x gs ≡ (key_of group x, add_row items x []) ∷ gs
+  put-before k x [] t b = refl
+  put-before k x (g ∷ gs) t b =
       ap (λ (r : Ordering). placed by (key_of group) [] (add_row items) r x g gs (put x gs)) (sym (by_total.congr k (key_of group x) g.0 t) ∙ b)
 
   put-tied : (k : Key) (x : List Value) (g : Key × List Cell) (gs : Groups) → by k (key_of group x) ≡ Equal → by k g.0 ≡ Equal → put x (g ∷ gs) ≡ (g.0, add_row items x g.1) ∷ gs
@@ -86,9 +87,9 @@ module _ (items : List CheckedItem) (group : List ℕ) where
       ap (λ (r : Ordering). placed by (key_of group) [] (add_row items) r x g gs (put x gs)) (sym (by_total.congr k (key_of group x) g.0 t) ∙ e)
 
   -- rows of one key become one group
-  run-folds : (k : Key) (x : List Value) (ys : List (List Value)) (gs : Groups) → AllTie k (x ∷ ys) → Behind k gs
+  run-folds : (k : Key) (x : List Value) (ys : List (List Value)) (gs : Groups) → AllTie k (x ∷ ys) → ComesAfter k gs
       → (j : Key) × (by k j ≡ Equal) × (folded put gs (x ∷ ys) ≡ (j, folded (add_row items) [] (x ∷ ys)) ∷ gs)
-  run-folds k x [] gs t b = (key_of group x, t.0, put-behind k x gs t.0 b)
+  run-folds k x [] gs t b = (key_of group x, t.0, put-before k x gs t.0 b)
   run-folds k x (y ∷ ys) gs t b =
       let r = run-folds k y ys gs t.1 b in
       (r.0, r.1, ap (put x) r.2 ∙ put-tied k x (r.0, folded (add_row items) [] (y ∷ ys)) gs t.0 r.1)
@@ -104,11 +105,11 @@ module _ (items : List CheckedItem) (group : List ℕ) where
   low-turn x [] h = tt
   low-turn x (y ∷ ys) h = (h.0, low-turn x ys h.1)
 
-  -- the groups of what stands behind a key stand behind it
-  behind : (k : Key) (rest : List (List Value)) → Up (key_cmp group) (key_cmp_total group) rest → (0 < length rest → by k (key_of group (get_or rest 0 [])) ≡ Less) → Behind k (folded put [] rest)
-  behind k [] u h = tt
-  behind k (z ∷ zs) u h = go (folded put [] (z ∷ zs)) (Under-folded by by_total by_exact (key_of group) [] (add_row items) (add_row-commutes items) z (z ∷ zs) (ap is_gt (tied_itself by_total (key_of group z)), low-turn z zs u.0)) where
-    go : (gs : Groups) → Under by by_total by_exact (key_of group) [] (add_row items) (add_row-commutes items) (key_of group z) gs → Behind k gs
+  -- the groups of what comes after a key come after it
+  comes-after : (k : Key) (rest : List (List Value)) → Up (key_cmp group) (key_cmp_total group) rest → (0 < length rest → by k (key_of group (get_or rest 0 [])) ≡ Less) → ComesAfter k (folded put [] rest)
+  comes-after k [] u h = tt
+  comes-after k (z ∷ zs) u h = go (folded put [] (z ∷ zs)) (Under-folded by by_total by_exact (key_of group) [] (add_row items) (add_row-commutes items) z (z ∷ zs) (ap is_gt (tied_itself by_total (key_of group z)), low-turn z zs u.0)) where
+    go : (gs : Groups) → Under by by_total by_exact (key_of group) [] (add_row items) (add_row-commutes items) (key_of group z) gs → ComesAfter k gs
     go [] w = tt
     go (g ∷ gs) w = less-le k (key_of group z) g.0 (h (omega arith)) w.0
 
@@ -142,7 +143,7 @@ module _ (items : List CheckedItem) (group : List ℕ) where
   le-not-eq Equal h n = absurd (n refl)
   le-not-eq Greater h n = absurd (cc)
 
-  -- the rows up to n have the first one's key, and the one behind them has another
+  -- the rows up to n have the first one's key, and the one after them has another
   pub record IsRun (rows : List (List Value)) (n : ℕ) : Type 0 where
     pub some : 0 < n
     pub within : n ≤ length rows
@@ -174,4 +175,4 @@ module _ (items : List CheckedItem) (group : List ℕ) where
           ∙ le-not-eq (by k (key_of group (get_or xs n []))) (low-at x xs n u.0 q) (λ e. r.apart (omega (arith, q)) e)
 
       group-is : (j : Key) × (by k j ≡ Equal) × (folded put (folded put [] rest) (x ∷ take n xs) ≡ (j, folded (add_row items) [] (x ∷ take n xs)) ∷ folded put [] rest)
-      group-is = run-folds k x (take n xs) (folded put [] rest) (tie-take k (x ∷ xs) (suc n) r.together r.within) (behind k rest (up-drop n xs u.1) less)
+      group-is = run-folds k x (take n xs) (folded put [] rest) (tie-take k (x ∷ xs) (suc n) r.together r.within) (comes-after k rest (up-drop n xs u.1) less)

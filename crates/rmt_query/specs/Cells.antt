@@ -1,8 +1,9 @@
 -- The cells of an answer: what an item is over rows.
 -- ClickHouse documentation: SELECT, GROUP BY; aggregate functions count, sum, min, max. That a sum is exact in 128 bits
 -- is this program's own.
-use Rattle.std.specs.Prelude.{◌+◌, ℤ, pos, ◌+ℤ◌, cond, List, [], slice_get}
-use Rattle.std.specs.Ordering.{nat_cmp, int_cmp, is_gt}
+use Rattle.std.specs.Prelude.{◌+◌, ◌⊎◌, ℤ, pos, ◌+ℤ◌, cond, List, [], slice_get}
+use mathlib.Core.Logic.{inl, inr}
+use Rattle.std.specs.Ordering.{int_cmp, is_gt}
 use Rattle.std.specs.Cmp.Lexicographic.{slice_cmp}
 use Rattle.std.specs.declared.option.Option.{Option}
 use Rattle.std.specs.declared.option.Option.TheVariants.{Some, None}
@@ -16,26 +17,25 @@ use Rattle.rmt_values.specs.declared.kind.Kind.{Kind}
 use Rattle.rmt_values.specs.declared.kind.Kind.TheVariants as kinds
 use Rattle.rmt_values.specs.declared.checked_item.CheckedItem.{CheckedItem}
 use Rattle.rmt_values.specs.declared.checked_item.CheckedItem.TheVariants as item
-use Rattle.rmt_values.specs.Rows.{Shape, kind_at}
+use Rattle.rmt_values.specs.Rows.{Shape, kind_at, value_cmp}
 
--- numbers as numbers, texts by their bytes; kinds stand apart
+-- a cell as a value, or as a sum
+abbrev pub value_or_sum : Cell → Value ⊎ ℤ
+value_or_sum (cells.UInt a) = inl (UInt a)
+value_or_sum (cells.Int a) = inl (Int a)
+value_or_sum (cells.Text a) = inl (Text a)
+value_or_sum (cells.Sum a) = inr a
+
+-- values in their order, then sums in theirs
+abbrev pub value_or_sum_cmp : Value ⊎ ℤ → Value ⊎ ℤ → Ordering
+value_or_sum_cmp (inl a) (inl b) = value_cmp a b
+value_or_sum_cmp (inl a) (inr b) = Less
+value_or_sum_cmp (inr a) (inl b) = Greater
+value_or_sum_cmp (inr a) (inr b) = int_cmp a b
+
+-- the order of cells: that of values, and sums after them
 abbrev pub cell_order : Cell → Cell → Ordering
-cell_order (cells.UInt a) (cells.UInt b) = nat_cmp a b
-cell_order (cells.UInt a) (cells.Int b) = Less
-cell_order (cells.UInt a) (cells.Text b) = Less
-cell_order (cells.UInt a) (cells.Sum b) = Less
-cell_order (cells.Int a) (cells.UInt b) = Greater
-cell_order (cells.Int a) (cells.Int b) = int_cmp a b
-cell_order (cells.Int a) (cells.Text b) = Less
-cell_order (cells.Int a) (cells.Sum b) = Less
-cell_order (cells.Text a) (cells.UInt b) = Greater
-cell_order (cells.Text a) (cells.Int b) = Greater
-cell_order (cells.Text a) (cells.Text b) = slice_cmp nat_cmp a b
-cell_order (cells.Text a) (cells.Sum b) = Less
-cell_order (cells.Sum a) (cells.UInt b) = Greater
-cell_order (cells.Sum a) (cells.Int b) = Greater
-cell_order (cells.Sum a) (cells.Text b) = Greater
-cell_order (cells.Sum a) (cells.Sum b) = int_cmp a b
+cell_order a b = value_or_sum_cmp (value_or_sum a) (value_or_sum b)
 
 -- tuples from left to right
 abbrev pub tuple_cmp : List Cell → List Cell → Ordering
@@ -63,11 +63,11 @@ one (item.Sum c) row = cells.Sum (number_of (slice_get row c))
 one (item.Min c) row = cell_of (slice_get row c)
 one (item.Max c) row = cell_of (slice_get row c)
 
--- what both come to
-abbrev pub plus : Cell → Cell → Cell
-plus (cells.UInt a) (cells.UInt b) = cells.UInt (a + b)
-plus (cells.Sum a) (cells.Sum b) = cells.Sum (a +ℤ b)
-plus a b = b
+-- the counts or the sums of both, added
+abbrev pub added : Cell → Cell → Cell
+added (cells.UInt a) (cells.UInt b) = cells.UInt (a + b)
+added (cells.Sum a) (cells.Sum b) = cells.Sum (a +ℤ b)
+added a b = b
 
 -- the lesser of two cells, the first where they are equal
 abbrev pub lesser : Cell → Cell → Cell
@@ -80,8 +80,8 @@ greater a b = cond (is_gt (cell_order b a)) b a
 -- what an item is over the rows of both; the rows of a group show one cell in each of its columns
 abbrev pub joined : CheckedItem → Cell → Cell → Cell
 joined (item.Column c) a b = lesser a b
-joined item.Count a b = plus a b
-joined (item.Sum c) a b = plus a b
+joined item.Count a b = added a b
+joined (item.Sum c) a b = added a b
 joined (item.Min c) a b = lesser a b
 joined (item.Max c) a b = greater a b
 

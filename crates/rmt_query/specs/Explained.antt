@@ -4,6 +4,7 @@ use Rattle.std.specs.Prelude.{◌≡◌, ℕ, ◌-◌, ◌<◌, ◌≤◌, ◌�
 use Rattle.std.specs.declared.option.Option.{Option}
 use Rattle.std.specs.declared.option.Option.TheVariants.{Some, None}
 use Rattle.rmt_values.specs.declared.checked.Checked.{Checked}
+use Rattle.rmt_names.specs.Names.{Name}
 use Rattle.rmt_granules.specs.Granules.{PartView}
 use Rattle.rmt_keyrange.specs.declared.key_range.KeyRange.{KeyRange}
 use Rattle.rmt_keyrange.specs.Ranges.{IsRangeOf}
@@ -25,9 +26,8 @@ abbrev pub IsCounted : Option Checked → PartView → ℕ × ℕ → Type 0
 IsCounted None part counts = (counts.0 ≡ length part.marks) × (counts.1 ≡ length part.marks)
 IsCounted (Some f) part counts = AreChosen part f counts.0 × (counts.1 ≡ length part.marks)
 
--- the counts of parts, one by one
-abbrev pub AreCounted : Option Checked → List PartView → List (ℕ × ℕ) → Type 0
-AreCounted condition [] [] = Unit {0}
-AreCounted condition [] (n ∷ ns) = ⊥
-AreCounted condition (p ∷ ps) [] = ⊥
-AreCounted condition (p ∷ ps) (n ∷ ns) = IsCounted condition p n × AreCounted condition ps ns
+-- parts of these names and data, one by one: each with its name, its granules that are read, and all of them
+abbrev pub AreExplained : Option Checked → List Name → List PartView → List (Name × ℕ × ℕ) → Type 0
+AreExplained condition [] [] [] = Unit {0}
+AreExplained condition (a ∷ names) (p ∷ ps) (n ∷ ns) = (n.0 ≡ a) × IsCounted condition p (n.1, n.2) × AreExplained condition names ps ns
+AreExplained condition names ps ns = ⊥

@@ -5,7 +5,7 @@ use Rattle.std.specs.declared.cmp.Ordering.{Ordering}
 use Rattle.std.specs.declared.cmp.Ordering.TheVariants.{Less, Equal, Greater}
 
 module _ {X K S : Type 0} (cmp : K → K → Ordering) (key : X → K) (start : S) (add : X → S → S) where
-  -- x before the group, in it, or among those behind it
+  -- x before the group, in it, or among those after it
   abbrev pub placed : Ordering → X → K × S → List (K × S) → List (K × S) → List (K × S)
   placed Less x g gs deeper = (key x, add x start) ∷ g ∷ gs
   placed Equal x g gs deeper = (g.0, add x g.1) ∷ gs

@@ -1,4 +1,4 @@
--- What holds of answers, in whatever order rows stand.
+-- What holds of answers, in whatever order rows are.
 use Rattle.std.specs.Prelude.{◌≡◌, List}
 use Rattle.rmt_values.specs.declared.value.Value.{Value}
 use Rattle.rmt_values.specs.declared.checked_query.CheckedQuery.{CheckedQuery}

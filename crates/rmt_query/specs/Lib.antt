@@ -3,4 +3,4 @@ pub mod Groups
 pub mod Answers
 pub mod Laws
 pub mod Explained
-pub mod Inside
+pub mod OverRows

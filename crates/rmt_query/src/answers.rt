@@ -5,9 +5,6 @@ ghost use Rattle.rmt_partset.specs.Snapshots.{all_rows, data_in};
 ghost use Rattle.rmt_query.specs.Cells.{zero_of};
 ghost use Rattle.rmt_query.specs.Answers.{
   answer_of,
-  is_aggregate as aggregates,
-  has_aggregate as any_aggregates,
-  is_grouping as puts_together,
   group_tuples as tuples_of_groups,
   tuple_of as tuple_of_row,
   tuples_of,
@@ -18,8 +15,8 @@ ghost use Rattle.rmt_values.specs.Rows.{key_cmp};
 ghost use Rattle.rmt_values.specs.Order.{in_order};
 
 use crate::cells::{one_cell, zero_cell};
-use crate::reading::kept_rows;
-use crate::runs::{group_order, tuples_of_runs};
+use crate::matches::matching_rows;
+use crate::runs::tuples_of_runs;
 use crate::tuple::Tuple;
 use rmt_partset::Snapshot;
 use rmt_values::{CheckedItem, CheckedQuery, Row, Schema};
@@ -38,13 +35,13 @@ pub fn answer(
     ensures { IfOk result (λ tuples. tuples.items
         ≡ answer_of schema.now query.now (all_rows (data_in snapshot.now))) }
 {
-    let rows = kept_rows(alloc, snapshot.parts(), &query.filter, schema)?;
+    let rows = matching_rows(alloc, snapshot.parts(), &query.filter, schema)?;
     let mut tuples = tuples_over(alloc, rows, query, schema)?;
     tuples.sort_by(|a, b| a.compare(b))?;
     Ok(tuples)
 }
 
-/// The tuples of a query over the rows that count.
+/// The tuples of a query over the matching rows.
 fn tuples_over(
     alloc: Global,
     rows: Vec<Row>,
@@ -54,7 +51,7 @@ fn tuples_over(
     ensures { IfOk result (λ tuples. tuples.items ≡ tuples_of schema.now query.now rows.items) }
 {
     let (items, group) = (query.items.as_slice(), query.group.as_slice());
-    if is_grouping(items, group) {
+    if query.is_grouping() {
         let tuples = group_tuples(alloc, rows, items, group, schema)?;
         Ok(tuples)
     } else {
@@ -85,7 +82,7 @@ fn group_sorted(rows: Vec<Row>, group: &[u16]) -> Result<Vec<Row>, AllocError>
     ensures sorted { IfOk result (λ sorted. IsSorted (key_cmp group.now) sorted.items) }
 {
     let mut rows = rows;
-    rows.sort_by(|a, b| group_order(group, a, b))?;
+    rows.sort_by(|a, b| a.compare_by(group, b))?;
     Ok(rows)
 }
 
@@ -141,35 +138,4 @@ fn row_tuple(alloc: Global, row: &Row, items: &[CheckedItem]) -> Result<Tuple, A
         cells.push(cell)?;
     }
     Ok(Tuple::new(cells))
-}
-
-/// Whether rows are put together: there is an aggregate or GROUP BY.
-fn is_grouping(items: &[CheckedItem], group: &[u16]) -> bool
-    ensures { result ≡ puts_together items.now group.now }
-{
-    has_aggregate(items) || !group.is_empty()
-}
-
-/// Whether an item puts rows together.
-fn has_aggregate(items: &[CheckedItem]) -> bool
-    ensures { result ≡ any_aggregates items.now }
-{
-    'items: for item in items {
-        if is_aggregate(*item) {
-            return true;
-        }
-    }
-    false
-}
-
-/// Whether the item puts rows together.
-fn is_aggregate(item: CheckedItem) -> bool
-    ensures { result ≡ aggregates item }
-{
-    match item {
-        CheckedItem::Column(_) => false,
-        CheckedItem::Count | CheckedItem::Sum(_) | CheckedItem::Min(_) | CheckedItem::Max(_) => {
-            true
-        }
-    }
 }

@@ -7,7 +7,7 @@ use rmt_values::{Blob, Cell, CheckedItem, Kind, Row, Schema, Value};
 use std::alloc::{AllocError, Global};
 use std::cmp::Ordering;
 
-/// The order of cells: numbers as numbers, Strings by their bytes. Cells of different kinds stand apart.
+/// The order of cells: numbers as numbers, Strings by their bytes. Sums come last.
 pub fn compare_cells(a: &Cell, b: &Cell) -> Ordering
     ensures { result ≡ cell_order a.now b.now }
 {

@@ -1,17 +1,17 @@
-//! Answers queries over the rows of parts, and tells which granules they read.
+//! Answers queries over the rows of parts, and counts the granules that they read.
 #![tactic(auto)]
 
 mod answers;
 mod cells;
-mod explaining;
+mod granule_counts;
 mod laws;
-mod reading;
+mod matches;
 mod runs;
 #[cfg(test)]
 mod tests;
 mod tuple;
 
 pub use answers::answer;
-pub use explaining::explain;
+pub use granule_counts::explain;
 pub use laws::same_bags_have_one_answer;
 pub use tuple::Tuple;

@@ -1,12 +1,12 @@
 //! Sorted rows in groups, each group a run of them.
-ghost use Rattle.std.specs.Prelude.{◌≡◌, ◌<◌, ◌≤◌, ◌+◌, ◌⊎◌, ℕ, [], map, length, slice_get, slice_index_or, IfOk};
+ghost use Rattle.std.specs.Prelude.{◌≡◌, ◌<◌, ◌≤◌, ◌+◌, ◌⊎◌, ℕ, [], map, length, slice_index_or, IfOk};
 ghost use Rattle.std.specs.List.{AllWithin};
 ghost use Rattle.std.specs.List.Sorted.{IsSorted};
 ghost use Rattle.std.specs.declared.cmp.Ordering.TheVariants.{Equal};
-ghost use Rattle.rmt_values.specs.Rows.{cell_cmp, key_cmp};
+ghost use Rattle.rmt_values.specs.Rows.{key_cmp};
 ghost use Rattle.rmt_query.specs.Cells.{one};
 ghost use Rattle.rmt_query.specs.Answers.{groups_of};
-ghost use Rattle.rmt_query.specs.Inside.{over, total};
+ghost use Rattle.rmt_query.specs.OverRows.{over, total};
 
 use crate::cells::{cell_at, compare_at, number_at};
 use crate::tuple::Tuple;
@@ -36,7 +36,7 @@ pub fn tuples_of_runs(
     Ok(tuples)
 }
 
-/// How many of the rows, from the first on, stand in its group.
+/// How many of the rows, from the first on, are in its group.
 fn run_end(rows: &[Row], group: &[u16]) -> usize
     requires { 0 < length rows.now }
     ensures some { 0 < result }
@@ -47,38 +47,12 @@ fn run_end(rows: &[Row], group: &[u16]) -> usize
 {
     let first = &rows[0];
     'rows: for i in 1..rows.len() {
-        match group_order(group, first, &rows[i]) {
+        match first.compare_by(group, &rows[i]) {
             Ordering::Equal => {}
             _ => return i,
         }
     }
     rows.len()
-}
-
-/// The order of two rows by these columns.
-pub fn group_order(group: &[u16], a: &Row, b: &Row) -> Ordering
-    ensures { result ≡ key_cmp group.now a.now b.now }
-{
-    'columns: for column in group {
-        match order_at(a, b, *column) {
-            Ordering::Equal => {}
-            unequal => return unequal,
-        }
-    }
-    Ordering::Equal
-}
-
-/// The order of the values of two rows in a column; a missing one comes first.
-fn order_at(a: &Row, b: &Row, column: u16) -> Ordering
-    ensures { result ≡ cell_cmp (slice_get a.now column) (slice_get b.now column) }
-{
-    let at = column as usize;
-    match (a.values().get(at), b.values().get(at)) {
-        (Some(a), Some(b)) => a.compare(b),
-        (Some(_), None) => Ordering::Greater,
-        (None, Some(_)) => Ordering::Less,
-        (None, None) => Ordering::Equal,
-    }
 }
 
 /// The tuple of a group of these rows.

@@ -5,14 +5,14 @@ ghost use Rattle.std.specs.declared.option.Option.TheVariants.{None};
 ghost use Rattle.rmt_names.specs.Names.{block_name as block_name_of};
 
 use crate::answers::answer;
-use crate::explaining::explain;
+use crate::granule_counts::explain;
 use crate::tuple::Tuple;
 use rmt_granules::{all_fit, from_unsorted_rows};
+use rmt_list::List;
 use rmt_names::block_name;
 use rmt_partset::{NamedPart, Snapshot};
 use rmt_values::{
-    Blob, Cell, Checked, CheckedItem, CheckedItems, CheckedQuery, Cmp, Column, Kind, Name, Places,
-    Row, Schema, Value,
+    Blob, Cell, Checked, CheckedItem, CheckedQuery, Cmp, Column, Kind, Name, Row, Schema, Value,
 };
 use std::alloc::{AllocError, Global};
 use std::sync::Arc;
@@ -87,9 +87,9 @@ fn query(
     group: &[u16],
 ) -> Result<CheckedQuery, AllocError> {
     Ok(CheckedQuery {
-        items: CheckedItems::new(Vec::from_slice(alloc, items)?),
+        items: List::new(Vec::from_slice(alloc, items)?),
         filter,
-        group: Places::new(Vec::from_slice(alloc, group)?),
+        group: List::new(Vec::from_slice(alloc, group)?),
     })
 }
 
@@ -202,8 +202,14 @@ fn explain_counts_granules(rt: HostRuntime) -> Result<(), Fail> {
     let schema = schema(alloc)?;
     let parts = two(alloc, &schema, &FIRST, &SECOND)?;
     let counts = explain(alloc, &parts, &query(alloc, &ALL, is(1), &[])?, &schema)?;
-    assert_eq!(rt; counts.as_slice(), [(1, 2), (1, 1)].as_slice());
+    assert_eq!(rt;
+        counts.as_slice(),
+        [(block_name(None, 0), 1, 2), (block_name(None, 1), 1, 1)].as_slice()
+    );
     let counts = explain(alloc, &parts, &query(alloc, &ALL, None, &[])?, &schema)?;
-    assert_eq!(rt; counts.as_slice(), [(2, 2), (1, 1)].as_slice());
+    assert_eq!(rt;
+        counts.as_slice(),
+        [(block_name(None, 0), 2, 2), (block_name(None, 1), 1, 1)].as_slice()
+    );
     Ok(())
 }

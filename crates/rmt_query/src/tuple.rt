@@ -22,7 +22,7 @@ impl Model for Tuple {
 }
 
 impl Tuple {
-    /// Takes these cells over.
+    /// Makes a tuple of these cells.
     pub fn new(cells: Vec<Cell>) -> Tuple
         ensures { result ≡ cells.items }
     {

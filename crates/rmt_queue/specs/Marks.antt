@@ -20,8 +20,8 @@ pub record IsLowest (marks : List Bool) (i : ℕ) : Type 0 where
 abbrev pub grown : List Bool → ℕ → List Bool
 grown marks len = marks ++ replicate (len - length marks) false
 
--- how many are done from the front on: all places below are, and this one isn't, where there is one
-pub record IsFront (marks : List Bool) (front : ℕ) : Type 0 where
-  pub within : front ≤ length marks
-  pub below : (k : ℕ) → k < front → done_at marks k ≡ true
-  pub pending : front < length marks → done_at marks front ≡ false
+-- how many are done from the start on: all places below are, and this one isn't, where there is one
+pub record IsDonePrefix (marks : List Bool) (prefix : ℕ) : Type 0 where
+  pub within : prefix ≤ length marks
+  pub below : (k : ℕ) → k < prefix → done_at marks k ≡ true
+  pub pending : prefix < length marks → done_at marks prefix ≡ false

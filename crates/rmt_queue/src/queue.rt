@@ -1,5 +1,5 @@
 ghost use Rattle.std.specs.Prelude.{◌≡◌, ℕ, ◌<◌, ◌≤◌, [], true, length, slice_set, MatchOption, OnOk, OnErr};
-ghost use Rattle.rmt_queue.specs.Marks.{done_at, grown, AllDone, IsLowest, IsFront};
+ghost use Rattle.rmt_queue.specs.Marks.{done_at, grown, AllDone, IsLowest, IsDonePrefix};
 
 use std::alloc::{AllocError, Global};
 use std::marker::Model;
@@ -8,18 +8,18 @@ use std::marker::Model;
 #[derive(Debug, Drop)]
 pub struct Queue {
     marks: Vec<bool>,
-    front: usize,
+    prefix: usize,
 }
 
 impl Model for Queue {
     ghost use Rattle.std.specs.Prelude.{List, Bool};
-    ghost use Rattle.rmt_queue.specs.Marks.{IsFront};
+    ghost use Rattle.rmt_queue.specs.Marks.{IsDonePrefix};
 
     ghost Value = { List Bool };
 
     ghost view = { λ q. q.marks.items };
 
-    ghost invariant = { λ q. IsFront q.marks.items q.front };
+    ghost invariant = { λ q. IsDonePrefix q.marks.items q.prefix };
 }
 
 impl Queue {
@@ -29,7 +29,7 @@ impl Queue {
     {
         Queue {
             marks: Vec::new(alloc),
-            front: 0,
+            prefix: 0,
         }
     }
 
@@ -58,7 +58,7 @@ impl Queue {
         ensures { self.new ≡ slice_set self.old i true }
     {
         self.marks[i] = true;
-        self.front = front_from(&self.marks, self.front);
+        self.prefix = prefix_from(&self.marks, self.prefix);
     }
 
     /// Whether a place is done.
@@ -73,8 +73,8 @@ impl Queue {
     pub fn lowest(&self) -> Option<usize>
         ensures { MatchOption result (AllDone self.now) (IsLowest self.now) }
     {
-        if self.front < self.marks.len() {
-            Some(self.front)
+        if self.prefix < self.marks.len() {
+            Some(self.prefix)
         } else {
             None
         }
@@ -82,10 +82,10 @@ impl Queue {
 }
 
 /// The lowest place that isn't done, or the length where all are, given that those below `from` are done.
-fn front_from(marks: &[bool], from: usize) -> usize
+fn prefix_from(marks: &[bool], from: usize) -> usize
     requires bound { from ≤ length marks.now }
     requires below { (k : ℕ) → k < from → done_at marks.now k ≡ true }
-    ensures { IsFront marks.now result }
+    ensures { IsDonePrefix marks.now result }
 {
     'places: for i in from..marks.len() {
         if !marks[i] {

@@ -1,4 +1,4 @@
--- Steps of a replica, and what stands after each.
+-- Steps of a replica, and what is after each.
 use Rattle.std.proofs.Common.{◌≡◌, ℕ, zero, suc, ◌+◌, ◌-◌, ◌≤◌, Bool, false, List, [], ◌∷◌, ◌++◌, length, take, refl, sym, ap, subst, arith, ◌∙◌}
 use Rattle.std.specs.Prelude.{replicate}
 use Rattle.rmt_entries.specs.declared.entry.Entry.{Entry}
@@ -9,7 +9,7 @@ use Rattle.rmt_model.proofs.Standing.{fair-more, fair-fewer}
 use Rattle.rmt_history.specs.Copies.{History}
 use Rattle.rmt_queue.specs.Marks.{done_at, grown}
 use Rattle.rmt_replica.specs.Parts.{BlockPart, IsBlockPart, part_names}
-use Rattle.rmt_replica.specs.Staged.{Staged}
+use Rattle.rmt_replica.specs.StagedBlocks.{Staged}
 use Rattle.rmt_replica.specs.Replicas.{ReplicaView, IsOfCopy, IsStandingReplica, HasMarks, IsReplica, replica_of}
 use Rattle.rmt_replica.proofs.MarkLemmas.{past-false, false-behind, take-grown, done-snoc}
 

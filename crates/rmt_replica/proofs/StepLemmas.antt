@@ -20,12 +20,12 @@ use Rattle.rmt_model.proofs.Standing.{with_mark, fair-marked, fair-looked, fair-
 use Rattle.rmt_history.specs.Copies.{History, MakesAt}
 use Rattle.rmt_queue.specs.Marks.{done_at}
 use Rattle.rmt_replica.specs.declared.supply.Supply.{Supply}
-use Rattle.rmt_replica.specs.declared.state.State.{State}
-use Rattle.rmt_replica.specs.declared.state.State.TheVariants as states
+use Rattle.rmt_replica.specs.declared.entry_state.EntryState.{EntryState}
+use Rattle.rmt_replica.specs.declared.entry_state.EntryState.TheVariants as states
 use Rattle.rmt_replica.specs.Parts.{BlockPart, IsBlockPart, part_names, Installs, TakesParts}
 use Rattle.rmt_replica.specs.Replicas.{ReplicaView, IsOfCopy, IsStandingReplica, HasMarks, IsReplica, replica_of}
-use Rattle.rmt_replica.specs.Answers.{IsMutationEntry, IsAlready, IsEmptied, CanSettle, CanInstall, IsState, IsStateWithout, settled, released, InstallsSupplied, PartsAfter}
-use Rattle.rmt_replica.specs.Staged.{Staged}
+use Rattle.rmt_replica.specs.Answers.{IsMutationEntry, IsAlready, IsEmptied, CanSettle, CanInstall, IsEntryState, IsEntryStateWithout, settled, released, InstallsSupplied, PartsAfter}
+use Rattle.rmt_replica.specs.StagedBlocks.{Staged}
 use Rattle.rmt_replica.proofs.MarkLemmas.{done-set, done-take, length-set-is, take-set, set-past}
 
 -- ---- entries
@@ -65,13 +65,13 @@ is-open r i a d m n (inl e) = absurd (cc)
 is-open r i a d m n (inr (inl k)) = not-looked r i a m k
 is-open r i a d m n (inr (inr k)) = n (subst (CoveredBy (part_names r.parts)) (makes-one r.log i k.name a k.makes m) k.covered)
 
-pub state-covered : (r : ReplicaView) (i : ℕ) (a : Name) → MakesAt r.log i a → CoveredBy (part_names r.parts) a → IsState r i states.Already
+pub state-covered : (r : ReplicaView) (i : ℕ) (a : Name) → MakesAt r.log i a → CoveredBy (part_names r.parts) a → IsEntryState r i states.Already
 state-covered r i a m c = inr (inr (record { name = a; makes = m; covered = c }))
 
-pub state-dropped : (r : ReplicaView) (i : ℕ) (a : Name) → done_at r.done i ≡ false → MakesAt r.log i a → (CoveredBy (part_names r.parts) a → ⊥) → DroppedAfter r.log i a → IsState r i states.Dropped
+pub state-dropped : (r : ReplicaView) (i : ℕ) (a : Name) → done_at r.done i ≡ false → MakesAt r.log i a → (CoveredBy (part_names r.parts) a → ⊥) → DroppedAfter r.log i a → IsEntryState r i states.Dropped
 state-dropped r i a d m n k = (is-open r i a d m n, record { name = a; makes = m; dropped = after-dropped r.log i m.entry a m.stands m.makes k })
 
-pub state-waits : (r : ReplicaView) (i : ℕ) (a : Name) → IsStandingReplica r → done_at r.done i ≡ false → MakesAt r.log i a → (CoveredBy (part_names r.parts) a → ⊥) → (DroppedAfter r.log i a → ⊥) → IsState r i (states.Waits a)
+pub state-waits : (r : ReplicaView) (i : ℕ) (a : Name) → IsStandingReplica r → done_at r.done i ≡ false → MakesAt r.log i a → (CoveredBy (part_names r.parts) a → ⊥) → (DroppedAfter r.log i a → ⊥) → IsEntryState r i (states.Waits a)
 state-waits r i a s d m n k = (
   record {
     open_entry = is-open r i a d m n;
@@ -80,9 +80,9 @@ state-waits r i a s d m n k = (
   m,
 )
 
-pub state-without : (r : ReplicaView) (i : ℕ) (e : Entry) (state : State) → done_at r.done i ≡ false → entry_at r.log i ≡ Some e → result_name e ≡ None → IsStateWithout e state → IsState r i state
-state-without r i (Mutation id numbers command) state d q n t = subst (IsState r i) (sym t) (inr (inl (record { entry = Mutation id numbers command; stands = q; is = refl })))
-state-without r i (DropRange p k) state d q n t = subst (IsState r i) (sym t) (
+pub state-without : (r : ReplicaView) (i : ℕ) (e : Entry) (state : EntryState) → done_at r.done i ≡ false → entry_at r.log i ≡ Some e → result_name e ≡ None → IsEntryStateWithout e state → IsEntryState r i state
+state-without r i (Mutation id numbers command) state d q n t = subst (IsEntryState r i) (sym t) (inr (inl (record { entry = Mutation id numbers command; stands = q; is = refl })))
+state-without r i (DropRange p k) state d q n t = subst (IsEntryState r i) (sym t) (
   record {
     open_entry = λ a. not-already a;
     not_dropped = λ x. let e = sym x.makes.makes ∙ ap result_name (some-same x.makes.entry (DropRange p k) (sym x.makes.stands ∙ q)) in absurd (cc);

@@ -21,12 +21,12 @@ use Rattle.rmt_replica.specs.declared.applied.Applied.{Applied}
 use Rattle.rmt_replica.specs.declared.applied.Applied.TheVariants as applied
 use Rattle.rmt_replica.specs.declared.apply_error.ApplyError.{ApplyError}
 use Rattle.rmt_replica.specs.declared.apply_error.ApplyError.TheVariants as errors
-use Rattle.rmt_replica.specs.declared.state.State.{State}
-use Rattle.rmt_replica.specs.declared.state.State.TheVariants as states
+use Rattle.rmt_replica.specs.declared.entry_state.EntryState.{EntryState}
+use Rattle.rmt_replica.specs.declared.entry_state.EntryState.TheVariants as states
 use Rattle.rmt_replica.specs.declared.why.Why.{Why}
 use Rattle.rmt_replica.specs.declared.why.Why.TheVariants as whys
 use Rattle.rmt_replica.specs.Parts.{BlockPart, IsBlockPart, IsFirstInactive, part_names, Installs, TakesParts}
-use Rattle.rmt_replica.specs.Staged.{Staged, staged_at, without}
+use Rattle.rmt_replica.specs.StagedBlocks.{Staged, staged_at, without}
 use Rattle.rmt_replica.specs.Replicas.{ReplicaView, IsOfCopy}
 
 -- ---- how an entry stands
@@ -77,7 +77,7 @@ CanBeDone r i supply = ((p : Option ℕ) × (n : ℕ) × (entry_at r.log i ≡ S
 
 -- ---- apply
 
--- each answer and its cause; want of memory is free where the replica is up
+-- each answer and its cause; out of memory is free where the replica is up
 abbrev pub IsAnswer : ReplicaView → ℕ → Supply → Result Applied ApplyError → Type 0
 IsAnswer r i supply (Err errors.Down) = r.up ≡ false
 IsAnswer r i supply (Err errors.Memory) = r.up ≡ true
@@ -151,19 +151,19 @@ IsWhy r i whys.Ready = Waits r i × IfSome (entry_at r.log i) (IsReady r)
 IsWhy r i (whys.NeedsPart a) = Waits r i × IfSome (entry_at r.log i) (λ e. Lacks r e a)
 
 -- how an entry stands
-abbrev pub IsState : ReplicaView → ℕ → State → Type 0
-IsState r i states.Already = IsAlready r i
-IsState r i states.Dropped = (IsAlready r i → ⊥) × IsDroppedEntry r i
-IsState r i (states.Drops p n) = Waits r i × (entry_at r.log i ≡ Some (DropRange p n))
-IsState r i (states.Waits a) = Waits r i × MakesAt r.log i a
+abbrev pub IsEntryState : ReplicaView → ℕ → EntryState → Type 0
+IsEntryState r i states.Already = IsAlready r i
+IsEntryState r i states.Dropped = (IsAlready r i → ⊥) × IsDroppedEntry r i
+IsEntryState r i (states.Drops p n) = Waits r i × (entry_at r.log i ≡ Some (DropRange p n))
+IsEntryState r i (states.Waits a) = Waits r i × MakesAt r.log i a
 
 -- an entry that makes no part is a Mutation, or a drop
-abbrev pub IsStateWithout : Entry → State → Type 0
-IsStateWithout (Mutation id numbers command) state = state ≡ states.Already
-IsStateWithout (DropRange p n) state = state ≡ states.Drops p n
-IsStateWithout (Get p n digest source need) state = ⊥
-IsStateWithout (Merge new sources count) state = ⊥
-IsStateWithout (Mutate old new upto count mcount) state = ⊥
+abbrev pub IsEntryStateWithout : Entry → EntryState → Type 0
+IsEntryStateWithout (Mutation id numbers command) state = state ≡ states.Already
+IsEntryStateWithout (DropRange p n) state = state ≡ states.Drops p n
+IsEntryStateWithout (Get p n digest source need) state = ⊥
+IsEntryStateWithout (Merge new sources count) state = ⊥
+IsEntryStateWithout (Mutate old new upto count mcount) state = ⊥
 
 -- the entry is a drop, and no active part is in its range
 pub record IsEmptied (r : ReplicaView) (i : ℕ) : Type 0 where

@@ -7,7 +7,7 @@ pub use Rattle.rmt_model.specs.Live
 pub use Rattle.rmt_model.specs.Lawful
 pub use Rattle.rmt_model.specs.Fair
 pub mod Parts
-pub mod Staged
+pub mod StagedBlocks
 pub mod Replicas
 pub mod Supplies
 pub mod Answers

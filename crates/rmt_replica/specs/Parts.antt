@@ -6,7 +6,7 @@ use Rattle.std.specs.declared.option.Option.TheVariants.{Some}
 use Rattle.rmt_values.specs.declared.value.Value.{Value}
 use Rattle.rmt_values.specs.Rows.{Shape, in_key_order}
 use Rattle.rmt_granules.specs.Granules.{PartView}
-use Rattle.rmt_granules.specs.Making.{data_of}
+use Rattle.rmt_granules.specs.MadePart.{data_of}
 use Rattle.rmt_partset.specs.Snapshots.{NamedData}
 use Rattle.rmt_names.specs.Names.{Name, Covers}
 use Rattle.rmt_entries.specs.Entries.{result_name}
@@ -76,8 +76,8 @@ pub record IsCovering (parts : List BlockPart) (a : Name) (part : BlockPart) : T
 
 -- these names are active, and this one, which is the next, isn't
 pub record IsFirstInactive (active names : List Name) (a : Name) : Type 0 where
-  pub front : List Name
+  pub prefix : List Name
   pub behind : List Name
-  pub parts : names ≡ front ++ a ∷ behind
-  pub before : Each (Has active) front
+  pub parts : names ≡ prefix ++ a ∷ behind
+  pub before : Each (Has active) prefix
   pub inactive : Has active a → ⊥

@@ -10,7 +10,7 @@ use Rattle.rmt_model.specs.Fair.{AreFair, AllMarked}
 use Rattle.rmt_history.specs.Copies.{History}
 use Rattle.rmt_queue.specs.Marks.{done_at}
 use Rattle.rmt_replica.specs.Parts.{BlockPart, IsBlockPart, part_names}
-use Rattle.rmt_replica.specs.Staged.{Staged}
+use Rattle.rmt_replica.specs.StagedBlocks.{Staged}
 
 -- a replica: its number, whether it is up, its copy of the log, the newest entry first, with the cells of the entries, a
 -- done mark for each place, its active parts, and its staged blocks

@@ -11,7 +11,7 @@ pub enum ApplyError {
     Down,
     /// The entry makes this part, and no part was supplied that covers it and was made within the copy.
     NeedsPart(PartName),
-    /// Want of memory.
+    /// Out of memory.
     Memory,
 }
 

@@ -4,17 +4,15 @@
 mod applied;
 mod apply_error;
 mod block_number;
+mod entry_state;
 pub mod laws;
 mod part;
 mod part_set;
 mod replica;
 mod replica_error;
-mod showing;
-mod staging;
-mod state;
+mod staged;
 mod supply;
-#[cfg(test)]
-mod tests;
+mod views;
 mod why;
 
 pub use applied::Applied;

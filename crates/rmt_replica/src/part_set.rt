@@ -7,7 +7,7 @@ ghost use Rattle.rmt_nameset.specs.NameSets.{IsRange, cut, put};
 ghost use Rattle.rmt_replica.specs.Parts.{BlockPart, Installs, TakesParts, IsCovering, IsFirstInactive, part_names, shown};
 
 use crate::part::Part;
-use crate::showing::named_parts;
+use crate::views::named_parts;
 use rmt_names::{PartName, PartitionId};
 use rmt_nameset::{NameSet, Range};
 use rmt_partset::Snapshot;

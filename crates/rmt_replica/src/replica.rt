@@ -9,9 +9,9 @@ ghost use Rattle.rmt_queue.specs.Marks.{done_at};
 ghost use Rattle.rmt_replica.specs.declared.replica_error.ReplicaError.TheVariants as errors;
 ghost use Rattle.std.specs.declared.result.Result.TheVariants.{Err};
 ghost use Rattle.rmt_replica.specs.Parts.{IsCovering, Installs, TakesParts, part_names, shown};
-ghost use Rattle.rmt_replica.specs.Staged.{staged_at, with_staged, without};
+ghost use Rattle.rmt_replica.specs.StagedBlocks.{staged_at, with_staged, without};
 ghost use Rattle.rmt_replica.specs.Replicas.{IsStandingReplica, IsDrained};
-ghost use Rattle.rmt_replica.specs.Answers.{IsState, IsStateWithout, CanSettle, CanInstall, Waits, IsOfTable, IsAnswer, IsChange, IsReady, Lacks, IsWhy, settled, released};
+ghost use Rattle.rmt_replica.specs.Answers.{IsEntryState, IsEntryStateWithout, CanSettle, CanInstall, Waits, IsOfTable, IsAnswer, IsChange, IsReady, Lacks, IsWhy, settled, released};
 ghost use Rattle.rmt_replica.specs.Supplies.{supplied};
 ghost use Rattle.rmt_entries.specs.Entries.{result_name};
 ghost use Rattle.rmt_entries.specs.declared.entry.Entry.TheVariants.{DropRange};
@@ -20,11 +20,11 @@ ghost use Rattle.std.specs.declared.option.Option.TheVariants.{Some, None};
 use crate::applied::Applied;
 use crate::apply_error::ApplyError;
 use crate::block_number::BlockNumber;
+use crate::entry_state::EntryState;
 use crate::part::Part;
 use crate::part_set::PartSet;
 use crate::replica_error::ReplicaError;
-use crate::staging::Staging;
-use crate::state::State;
+use crate::staged::Staging;
 use crate::supply::Supply;
 use crate::why::Why;
 use rmt_block::Block;
@@ -147,7 +147,7 @@ impl Replica {
     ///
     /// # Errors
     ///
-    /// Down where it isn't up, or want of memory. The replica stays as it was, and the token is gone.
+    /// Down where it isn't up, or out of memory. The replica stays as it was, and the token is gone.
     pub fn extend(&mut self, next: Seen<Entry>) -> Result<(), ReplicaError>
         requires place { next.place ≡ length self.old.log }
         requires lawful { Lawful self.old.schema (next.value ∷ self.old.log) }
@@ -167,7 +167,7 @@ impl Replica {
     ///
     /// # Errors
     ///
-    /// Down where it isn't up, or want of memory. The replica stays as it was.
+    /// Down where it isn't up, or out of memory. The replica stays as it was.
     pub fn stage(&mut self, number: u32, block: Arc<Block, Global>) -> Result<(), ReplicaError>
         ensures ok { OnOk result (self.new ≡ record self.old { staged = with_staged self.old.staged (record { partition = (arc_value block).partition; number = number }) (arc_value block) }) }
         ensures err { OnErr result (self.new ≡ self.old) }
@@ -207,24 +207,24 @@ impl Replica {
     }
 
     /// How the entry at a place stands.
-    fn state(&self, i: usize) -> State
+    fn state(&self, i: usize) -> EntryState
         requires { i < length self.now.log }
-        ensures { IsState self.now i result }
+        ensures { IsEntryState self.now i result }
     {
         if self.queue.done(i) {
-            return State::Already;
+            return EntryState::Already;
         }
         let entry = self.copy.entry(i).unwrap().value();
         let Some(name) = result_of(entry) else {
             return state_without(entry);
         };
         if self.parts.is_covered(&name) {
-            return State::Already;
+            return EntryState::Already;
         }
         if self.copy.dropped_after(i, &name) {
-            return State::Dropped;
+            return EntryState::Dropped;
         }
-        State::Waits(name)
+        EntryState::Waits(name)
     }
 
     /// The first part that an entry needs and that isn't here: the block that isn't staged, or the first source that isn't
@@ -253,10 +253,10 @@ impl Replica {
         ensures { IsWhy self.now i result }
     {
         match self.state(i) {
-            State::Already => Why::Covered,
-            State::Dropped => Why::Dropped,
-            State::Drops { .. } => Why::Ready,
-            State::Waits(_) => match self.lack(self.copy.entry(i).unwrap().value()) {
+            EntryState::Already => Why::Covered,
+            EntryState::Dropped => Why::Dropped,
+            EntryState::Drops { .. } => Why::Ready,
+            EntryState::Waits(_) => match self.lack(self.copy.entry(i).unwrap().value()) {
                 None => Why::Ready,
                 Some(part) => Why::NeedsPart(part),
             },
@@ -325,7 +325,7 @@ impl Replica {
     ///
     /// # Errors
     ///
-    /// Down where it isn't up; the part that is needed; or want of memory. The replica stays as it was.
+    /// Down where it isn't up; the part that is needed; or out of memory. The replica stays as it was.
     pub fn apply(&mut self, i: usize, supply: Supply) -> Result<Applied, ApplyError>
         requires place { i < length self.old.log }
         requires of_table { IfSome (supplied supply) (IsOfTable self.old) }
@@ -336,35 +336,35 @@ impl Replica {
             return Err(ApplyError::Down);
         }
         match self.state(i) {
-            State::Already => {
+            EntryState::Already => {
                 self.settle(i);
                 Ok(Applied::Already)
             }
-            State::Dropped => {
+            EntryState::Dropped => {
                 self.settle(i);
                 Ok(Applied::Dropped)
             }
-            State::Drops { partition, number } => {
+            EntryState::Drops { partition, number } => {
                 self.take_away(i, partition, number);
                 self.settle(i);
                 Ok(Applied::Installed)
             }
-            State::Waits(name) => self.install(i, name, supply),
+            EntryState::Waits(name) => self.install(i, name, supply),
         }
     }
 }
 
 /// How an entry stands that makes no part and isn't done.
-fn state_without(entry: &Entry) -> State
+fn state_without(entry: &Entry) -> EntryState
     requires { result_name entry.now ≡ None }
-    ensures { IsStateWithout entry.now result }
+    ensures { IsEntryStateWithout entry.now result }
 {
     match entry {
-        Entry::DropRange { partition, number } => State::Drops {
+        Entry::DropRange { partition, number } => EntryState::Drops {
             partition: *partition,
             number: *number,
         },
-        _ => State::Already,
+        _ => EntryState::Already,
     }
 }
 

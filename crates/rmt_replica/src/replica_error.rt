@@ -8,7 +8,7 @@ use std::alloc::AllocError;
 pub enum ReplicaError {
     /// The replica is down.
     Down,
-    /// Want of memory.
+    /// Out of memory.
     Memory,
 }
 

@@ -52,7 +52,7 @@ source-set log replicas r i old new was more s = go (nat_eq s.place r) refl
 pub fetched : (replicas : List ReplicaView) (log : List Entry) (i : ℕ) (x : ReplicaView) (part : BlockPart) → Each (Lags log) replicas → Has replicas x → IsPartAt x i part → IsFetched replicas log i part
 fetched replicas log i x part lag among p = record {
   held = record { holder = x; among = among; is_in = p.is_in };
-  of_copy = part-on x log part p.standing (Each-at (Lags log) replicas x lag among).front p.is_in;
+  of_copy = part-on x log part p.standing (Each-at (Lags log) replicas x lag among).copied p.is_in;
   covers = p.covers;
 }
 
@@ -102,10 +102,10 @@ caught-none olds r i log old was copy done = record {
   marks = refl;
 }
 
-front-true : (xs ys : List Bool) (j : ℕ) → done_at xs j ≡ true → done_at (xs ++ ys) j ≡ true
-front-true [] ys j e = absurd (cc)
-front-true (x ∷ xs) ys zero e = e
-front-true (x ∷ xs) ys (suc j) e = front-true xs ys j e
+prefix-true : (xs ys : List Bool) (j : ℕ) → done_at xs j ≡ true → done_at (xs ++ ys) j ≡ true
+prefix-true [] ys j e = absurd (cc)
+prefix-true (x ∷ xs) ys zero e = e
+prefix-true (x ∷ xs) ys (suc j) e = prefix-true xs ys j e
 
 -- a replica that has pulled the log begins at its first entry that isn't done
 pub drained-start : (olds : List ReplicaView) (r : ℕ) (log : List Entry) (first : ℕ) (old new : ReplicaView) → slice_get olds r ≡ Some old → Pulls old log new → IsStandingReplica new → ((j : ℕ) → j < first → done_at new.done j ≡ true) → DrainsTo olds r log first (slice_set olds r new)
@@ -121,7 +121,7 @@ drained-start olds r log first old new was p s f = record {
     up = p.up;
   };
   below = f;
-  more = λ j e. ap (λ (ds : List Bool). done_at ds j) p.done ∙ front-true old.done (replicate (length log - length old.done) false) j e;
+  more = λ j e. ap (λ (ds : List Bool). done_at ds j) p.done ∙ prefix-true old.done (replicate (length log - length old.done) false) j e;
   marks = s.marks ∙ ap (λ (x : List Entry). length x) p.copy;
 }
 
@@ -171,7 +171,7 @@ pub drained-lag : (olds mids : List ReplicaView) (r i : ℕ) (log : List Entry) 
 drained-lag olds mids r i log lag d =
     subst (Each (Lags log)) (sym d.change.others) (Each-set (Lags log) olds r d.change.new lag (record {
       is_up = d.change.up ∙ (Each-get (Lags log) olds r d.change.old lag d.change.was).is_up;
-      front = record { gained = []; is = sym d.change.copy };
+      copied = record { gained = []; is = sym d.change.copy };
     }))
 
 pub drained-sources : (olds mids : List ReplicaView) (r i j : ℕ) (log : List Entry) → HaveSources log olds → DrainsTo olds r log i mids → j < length log → HasSource log mids j

@@ -22,14 +22,14 @@ use Rattle.rmt_replica.specs.Parts.{BlockPart, IsBlockPart}
 use Rattle.rmt_replica.specs.Replicas.{ReplicaView, IsOfCopy, IsStandingReplica}
 use Rattle.rmt_replicas.specs.Following.{AreGets}
 
--- a front of a log of Gets is one
-pub gets-front : (xs log : List Entry) → AreGets (xs ++ log) → AreGets log
-gets-front [] log g = g
-gets-front (Get p n digest source need ∷ xs) log g = gets-front xs log g.2
-gets-front (Merge new sources count ∷ xs) log g = absurd g
-gets-front (Mutate old new upto count mcount ∷ xs) log g = absurd g
-gets-front (Mutation id numbers command ∷ xs) log g = absurd g
-gets-front (DropRange p n ∷ xs) log g = absurd g
+-- a prefix of a log of Gets is one
+pub gets-prefix : (xs log : List Entry) → AreGets (xs ++ log) → AreGets log
+gets-prefix [] log g = g
+gets-prefix (Get p n digest source need ∷ xs) log g = gets-prefix xs log g.2
+gets-prefix (Merge new sources count ∷ xs) log g = absurd g
+gets-prefix (Mutate old new upto count mcount ∷ xs) log g = absurd g
+gets-prefix (Mutation id numbers command ∷ xs) log g = absurd g
+gets-prefix (DropRange p n ∷ xs) log g = absurd g
 
 -- it has no drop
 pub gets-keep : (log : List Entry) (a : Name) → AreGets log → Dropped log a → ⊥
@@ -74,7 +74,7 @@ made-at-mark (x ∷ log) marked i e a q r m = elim (entry-cases x log i e q) [
   | inr k ↦ inr (made-at-mark log marked i e a k r m)
 ]
 
--- what stands in a front stands in the log
+-- what is in a prefix is in the log
 pub entry-on : (xs log : List Entry) (i : ℕ) (e : Entry) → entry_at log i ≡ Some e → entry_at (xs ++ log) i ≡ Some e
 entry-on [] log i e q = q
 entry-on (x ∷ xs) log i e q = entry-older x (xs ++ log) i e (entry-on xs log i e q)

@@ -31,36 +31,36 @@ take-drop zero xs = refl
 take-drop (suc n) [] = refl
 take-drop (suc n) (x ∷ xs) = ap (λ zs. x ∷ zs) (take-drop n xs)
 
--- the entries of the first tokens stand behind those of the others
+-- the entries of the first tokens come after those of the others
 pub entries-split : (n : ℕ) (tokens : List (Token Entry)) → entries tokens ≡ entries (drop n tokens) ++ entries (take n tokens)
 entries-split n tokens =
     ap entries (take-drop n tokens)
     ∙ (ap reverse (map-append-is (λ t. t.value) (take n tokens) (drop n tokens)) ∙ reverse-append (map (λ t. t.value) (take n tokens)) (map (λ t. t.value) (drop n tokens)))
 
-drop-front : {A : Type 0} (xs ys : List A) → drop (length xs) (xs ++ ys) ≡ ys
-drop-front [] ys = refl
-drop-front (x ∷ xs) ys = drop-front xs ys
+drop-prefix : {A : Type 0} (xs ys : List A) → drop (length xs) (xs ++ ys) ≡ ys
+drop-prefix [] ys = refl
+drop-prefix (x ∷ xs) ys = drop-prefix xs ys
 
 pub length-both : {A : Type 0} (xs ys : List A) → length (xs ++ ys) ≡ length xs + length ys
 length-both [] ys = omega arith
 length-both (x ∷ xs) ys = let r = length-both xs ys in omega (arith, r)
 
--- of two ways to part a list, equal lengths behind make equal lists behind
+-- of two ways to part a list, equal lengths after make equal lists after
 pub same-behind : {A : Type 0} (xs ys zs ws : List A) → xs ++ ys ≡ zs ++ ws → length ys ≡ length ws → ys ≡ ws
 same-behind xs ys zs ws e l =
     let a = length-both xs ys in
     let b = length-both zs ws in
     let c = ap (λ us. length us) e in
     let n : length xs ≡ length zs = omega (arith, a, b, c, l) in
-    sym (drop-front xs ys) ∙ (ap (λ k. drop k (xs ++ ys)) n ∙ (ap (λ us. drop (length zs) us) e ∙ drop-front zs ws))
+    sym (drop-prefix xs ys) ∙ (ap (λ k. drop k (xs ++ ys)) n ∙ (ap (λ us. drop (length zs) us) e ∙ drop-prefix zs ws))
 
 length-take-is : {A : Type 0} (n : ℕ) (xs : List A) → n ≤ length xs → length (take n xs) ≡ n
 length-take-is zero xs l = refl
 length-take-is (suc n) [] l = absurd (omega (arith, l))
 length-take-is (suc n) (x ∷ xs) l = ap suc (length-take-is n xs (omega (arith, l)))
 
-front-within : (log all : List Entry) → GoesOn log all → length log ≤ length all
-front-within log all g = let a = length-both g.gained log in let b = ap (λ us. length us) g.is in omega (arith, a, b)
+prefix-within : (log all : List Entry) → GoesOn log all → length log ≤ length all
+prefix-within log all g = let a = length-both g.gained log in let b = ap (λ us. length us) g.is in omega (arith, a, b)
 
 -- where a replica begins
 pub pulled-start : (old : ReplicaView) (tokens : List (Token Entry)) (start : ℕ) → IsStandingReplica old → GoesOn old.log (entries tokens) → start ≡ length old.log → PulledTo old tokens start old
@@ -75,14 +75,14 @@ pulled-start old tokens start s g e = record {
 }
   where
     within : start ≤ length tokens
-    within = let a = front-within old.log (entries tokens) g in let b = length-entries tokens in omega (arith, a, b, e)
+    within = let a = prefix-within old.log (entries tokens) g in let b = length-entries tokens in omega (arith, a, b, e)
 
 pub start-within : (old : ReplicaView) (tokens : List (Token Entry)) (start : ℕ) → GoesOn old.log (entries tokens) → start ≡ length old.log → start ≤ length tokens
-start-within old tokens start g e = let a = front-within old.log (entries tokens) g in let b = length-entries tokens in omega (arith, a, b, e)
+start-within old tokens start g e = let a = prefix-within old.log (entries tokens) g in let b = length-entries tokens in omega (arith, a, b, e)
 
-lawful-front : (schema : Shape) (xs ys : List Entry) → Lawful schema (xs ++ ys) → Lawful schema ys
-lawful-front schema [] ys l = l
-lawful-front schema (x ∷ xs) ys l = lawful-front schema xs ys l.0
+lawful-prefix : (schema : Shape) (xs ys : List Entry) → Lawful schema (xs ++ ys) → Lawful schema ys
+lawful-prefix schema [] ys l = l
+lawful-prefix schema (x ∷ xs) ys l = lawful-prefix schema xs ys l.0
 
 take-next : {A : Type 0} (i : ℕ) (xs : List A) (x : A) → slice_get xs i ≡ Some x → take (i + 1) xs ≡ take i xs ++ x ∷ []
 take-next zero [] x e = absurd (cc)
@@ -97,7 +97,7 @@ pub next-entry : (tokens : List (Token Entry)) (i : ℕ) (t : Token Entry) → s
 next-entry tokens i t e = ap entries (take-next i tokens t e) ∙ entries-snoc (take i tokens) t
 
 pub next-lawful : (schema : Shape) (tokens : List (Token Entry)) (i : ℕ) (t : Token Entry) → slice_get tokens i ≡ Some t → Lawful schema (entries tokens) → Lawful schema (t.value ∷ entries (take i tokens))
-next-lawful schema tokens i t e l = subst (Lawful schema) (next-entry tokens i t e) (lawful-front schema (entries (drop (i + 1) tokens)) (entries (take (i + 1) tokens)) (subst (Lawful schema) (entries-split (i + 1) tokens) l))
+next-lawful schema tokens i t e l = subst (Lawful schema) (next-entry tokens i t e) (lawful-prefix schema (entries (drop (i + 1) tokens)) (entries (take (i + 1) tokens)) (subst (Lawful schema) (entries-split (i + 1) tokens) l))
 
 pub next-place : (tokens : List (Token Entry)) (i : ℕ) → i ≤ length tokens → length (entries (take i tokens)) ≡ i
 next-place tokens i l = length-entries (take i tokens) ∙ length-take-is i tokens l

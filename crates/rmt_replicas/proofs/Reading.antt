@@ -5,7 +5,7 @@ use Rattle.std.proofs.lemmas.List.{append-nil}
 use Rattle.std.specs.List.{filter_map, cons_option}
 use Rattle.std.specs.List.{All}
 use Rattle.rmt_granules.specs.Granules.{PartView}
-use Rattle.rmt_granules.specs.Making.{data_of}
+use Rattle.rmt_granules.specs.MadePart.{data_of}
 use Rattle.rmt_partset.specs.Snapshots.{NamedData, names_in, data_in, all_rows}
 use Rattle.std.specs.Option.{option_and_then}
 use Rattle.std.specs.declared.option.Option.{Option}
@@ -21,7 +21,7 @@ use Rattle.rmt_model.specs.Live.{live}
 use Rattle.rmt_model.specs.Content.{Row, Blocks, changed, has_block, block_rows, joined, content, rows, snapshot}
 use Rattle.rmt_model.specs.Fair.{AreFair, AllMarked}
 use Rattle.rmt_model.proofs.Drained.{fair-live}
-use Rattle.rmt_model.proofs.Headline.{reads-plain-rows}
+use Rattle.rmt_laws.proofs.Headline.{reads-plain-rows}
 use Rattle.rmt_model.proofs.Standing.{fair-more}
 use Rattle.rmt_queue.specs.Marks.{done_at}
 use Rattle.rmt_replica.specs.Parts.{BlockPart, part_names, shown}
@@ -118,7 +118,7 @@ parts-hold schema log bs (p ∷ parts) g o h =
     ap (λ (d : PartView). d ∷ data_in (shown parts)) (part-holds schema log bs p g o h.0)
     ∙ ap (λ (ds : List PartView). data_of schema (content schema log (rows_by_number (accepted bs)) p.name) ∷ ds) (parts-hold schema log bs parts g o h.1)
 
--- ---- fair names of a front of the log are fair for the log
+-- ---- fair names of a prefix of the log are fair for the log
 
 fair-on : (gained log : List Entry) (marked : ℕ → Bool) (names : List Name) → ((i : ℕ) → length log ≤ i → marked i ≡ false) → AreFair log marked names → AreFair (gained ++ log) marked names
 fair-on [] log marked names f s = s
@@ -154,8 +154,8 @@ reading t r x k s = record {
 }
   where
     fair : AreFair t.log (done_at x.done) (names_in (shown x.parts))
-    fair = subst (AreFair t.log (done_at x.done)) (sym (names-shown x.parts)) (subst (λ (l : List Entry). AreFair l (done_at x.done) (part_names x.parts)) (sym k.follows.front.is)
-        (fair-on k.follows.front.gained x.log (done_at x.done) (part_names x.parts) (λ i l. past-false x.done i (let m = s.marks in omega (arith, m, l))) s.fair))
+    fair = subst (AreFair t.log (done_at x.done)) (sym (names-shown x.parts)) (subst (λ (l : List Entry). AreFair l (done_at x.done) (part_names x.parts)) (sym k.follows.copied.is)
+        (fair-on k.follows.copied.gained x.log (done_at x.done) (part_names x.parts) (λ i l. past-false x.done i (let m = s.marks in omega (arith, m, l))) s.fair))
 
     held : data_in (shown x.parts) ≡ map (λ (a : Name). data_of t.schema (content t.schema t.log (rows_by_number (accepted k.bs)) a)) (names_in (shown x.parts))
     held = parts-hold t.schema t.log k.bs x.parts k.gets k.of_blocks k.follows.blocks

@@ -67,7 +67,7 @@ follows-older : (schema : Shape) (log : List Entry) (e : Entry) (bs : List Block
 follows-older schema log e bs b r f = record {
   schema_is = f.schema_is;
   is_up = f.is_up;
-  front = record { gained = e ∷ f.front.gained; is = ap (λ (l : List Entry). e ∷ l) f.front.is };
+  copied = record { gained = e ∷ f.copied.gained; is = ap (λ (l : List Entry). e ∷ l) f.copied.is };
   blocks = Each-all (Holds schema (b ∷ bs)) r.parts (λ p h. holds-older schema b bs p (Each-at (Holds schema bs) r.parts p f.blocks h));
 }
 
@@ -75,17 +75,17 @@ follows-newest : (schema : Shape) (log : List Entry) (e : Entry) (bs : List Bloc
 follows-newest schema log e bs b r new l f t = record {
   schema_is = t.schema_is ∙ f.schema_is;
   is_up = t.up ∙ f.is_up;
-  front = record { gained = []; is = sym t.copy };
+  copied = record { gained = []; is = sym t.copy };
   blocks = Each-all (Holds schema (b ∷ bs)) new.parts (λ p h. elim (t.parts p h) [
     | inl k ↦ record { number = length (e ∷ log) - 1; block = b; there = block-newest b bs (length (e ∷ log) - 1) (omega (arith, l)); is = k }
     | inr k ↦ holds-older schema b bs p (Each-at (Holds schema bs) r.parts p f.blocks k)
   ]);
 }
 
-front-true : (xs ys : List Bool) (j : ℕ) → done_at xs j ≡ true → done_at (xs ++ ys) j ≡ true
-front-true [] ys j e = absurd (cc)
-front-true (x ∷ xs) ys zero e = e
-front-true (x ∷ xs) ys (suc j) e = front-true xs ys j e
+prefix-true : (xs ys : List Bool) (j : ℕ) → done_at xs j ≡ true → done_at (xs ++ ys) j ≡ true
+prefix-true [] ys j e = absurd (cc)
+prefix-true (x ∷ xs) ys zero e = e
+prefix-true (x ∷ xs) ys (suc j) e = prefix-true xs ys j e
 
 length-both : (xs ys : List Bool) → length (xs ++ ys) ≡ length xs + length ys
 length-both [] ys = omega arith
@@ -99,7 +99,7 @@ learned-here : (xs : List Bool) (n : ℕ) → done_at (slice_set (grown xs (suc 
 learned-here xs n = set-here (grown xs (suc n)) n (let a = length-both xs (replicate (suc n - length xs) false) in let b = length-replicate-is (suc n - length xs) false in omega (arith, a, b))
 
 learned-more : (xs : List Bool) (n j : ℕ) → done_at xs j ≡ true → done_at (slice_set (grown xs (suc n)) n true) j ≡ true
-learned-more xs n j e = set-more (grown xs (suc n)) n j (front-true xs (replicate (suc n - length xs) false) j e)
+learned-more xs n j e = set-more (grown xs (suc n)) n j (prefix-true xs (replicate (suc n - length xs) false) j e)
 
 -- each entry has its source, the newest one too
 sources-more : (log : List Entry) (e : Entry) (replicas : List ReplicaView) (r : ℕ) (old new : ReplicaView) → HaveSources log replicas → slice_get replicas r ≡ Some old → source_of e ≡ r + 1 → new.done ≡ slice_set (grown old.done (length (e ∷ log))) (length (e ∷ log) - 1) true → HaveSources (e ∷ log) (slice_set replicas r new)
@@ -213,15 +213,15 @@ all-true zero i l = absurd (omega (arith, l))
 all-true (suc n) zero l = refl
 all-true (suc n) (suc i) l = all-true n i (omega (arith, l))
 
-take-front : {A : Type 0} (xs ys : List A) → take (length xs) (xs ++ ys) ≡ xs
-take-front [] ys = refl
-take-front (x ∷ xs) ys = ap (λ zs. x ∷ zs) (take-front xs ys)
+take-prefix : {A : Type 0} (xs ys : List A) → take (length xs) (xs ++ ys) ≡ xs
+take-prefix [] ys = refl
+take-prefix (x ∷ xs) ys = ap (λ zs. x ∷ zs) (take-prefix xs ys)
 
 -- the replicas as they are written back: as many as there were
 pub written-back : (replicas news : List ReplicaView) (r n : ℕ) (log : List Entry) → n ≡ length replicas → Drains replicas r log news → take n (news ++ drop (length news) replicas) ≡ news
 written-back replicas news r n log e d =
     let len = ap (λ (rs : List ReplicaView). length rs) d.change.others ∙ length-set replicas r d.change.new in
-    ap (λ k. take k (news ++ drop (length news) replicas)) (e ∙ sym len) ∙ take-front news (drop (length news) replicas)
+    ap (λ k. take k (news ++ drop (length news) replicas)) (e ∙ sym len) ∙ take-prefix news (drop (length news) replicas)
 
 -- a table whose replica at a place is brought up to date
 pub drained-table : (schema : Shape) (tokens : List (Token Entry)) (bs : List BlockView) (replicas news : List ReplicaView) (r : ℕ) → IsTable schema tokens bs replicas → Drains replicas r (entries tokens) news → IsTable schema tokens bs news
@@ -233,7 +233,7 @@ drained-table schema tokens bs replicas news r k d = subst (IsTable schema token
   follow = Each-set (Follows schema (entries tokens) bs) replicas r new k.follow (record {
     schema_is = d.change.schema_is ∙ old.schema_is;
     is_up = d.change.up ∙ old.is_up;
-    front = record { gained = []; is = sym d.change.copy };
+    copied = record { gained = []; is = sym d.change.copy };
     blocks = Each-all (Holds schema bs) new.parts (λ p h.
         let w = d.change.parts p h in
         Each-at (Holds schema bs) w.holder.parts p (Each-at (Follows schema (entries tokens) bs) replicas w.holder k.follow w.among).blocks w.is_in);
@@ -249,7 +249,7 @@ drained-table schema tokens bs replicas news r k d = subst (IsTable schema token
     old : Follows schema (entries tokens) bs d.change.old
     old = Each-get (Follows schema (entries tokens) bs) replicas r d.change.old k.follow d.change.was
 
--- one more block at the end is one more at the front of the list with the newest first
+-- one more block at the end is one more at the start of the list with the newest first
 pub reverse-more : {A : Type 0} (xs : List A) (x : A) → reverse (xs ++ x ∷ []) ≡ x ∷ reverse xs
 reverse-more xs x = reverse-append xs (x ∷ [])
 
@@ -259,9 +259,9 @@ map-more f (y ∷ xs) x = ap (λ zs. f y ∷ zs) (map-more f xs x)
 
 -- ---- the same of what a call hands over
 
--- each replica of a table is up and has a front of the log
+-- each replica of a table is up and has a prefix of the log
 pub all-lag : (schema : Shape) (log : List Entry) (bs : List BlockView) (replicas : List ReplicaView) → Each (Follows schema log bs) replicas → Each (Lags log) replicas
-all-lag schema log bs replicas k = Each-map (Follows schema log bs) (Lags log) replicas (λ x f. record { is_up = f.is_up; front = f.front }) k
+all-lag schema log bs replicas k = Each-map (Follows schema log bs) (Lags log) replicas (λ x f. record { is_up = f.is_up; copied = f.copied }) k
 
 pub known-length : (schema : Shape) (tokens : List (Token Entry)) (bs : List BlockView) (replicas : List ReplicaView) (self : TableState) → table_of schema tokens bs replicas ≡ self → length self.known ≡ length replicas
 known-length schema tokens bs replicas self e = sym (ap (λ (x : TableState). length x.known) e) ∙ length-map replicas (λ r. r.done)
@@ -284,8 +284,8 @@ pub record IsStep (schema : Shape) (tokens all : List (Token Entry)) (bs : List 
   pub next : ComesNext self r t b
   pub all_is : all ≡ tokens ++ t ∷ []
 
-pub step-front : (r : ReplicaView) (tokens all : List (Token Entry)) (t : Token Entry) → all ≡ tokens ++ t ∷ [] → GoesOn r.log (entries tokens) → GoesOn r.log (entries all)
-step-front r tokens all t e g = subst (λ (ts : List (Token Entry)). GoesOn r.log (entries ts)) (sym e) (record { gained = t.value ∷ g.gained; is = entries-snoc tokens t ∙ ap (λ (l : List Entry). t.value ∷ l) g.is })
+pub step-prefix : (r : ReplicaView) (tokens all : List (Token Entry)) (t : Token Entry) → all ≡ tokens ++ t ∷ [] → GoesOn r.log (entries tokens) → GoesOn r.log (entries all)
+step-prefix r tokens all t e g = subst (λ (ts : List (Token Entry)). GoesOn r.log (entries ts)) (sym e) (record { gained = t.value ∷ g.gained; is = entries-snoc tokens t ∙ ap (λ (l : List Entry). t.value ∷ l) g.is })
 
 pub step-numbered : (schema : Shape) (tokens all : List (Token Entry)) (bs : List BlockView) (replicas : List ReplicaView) (self : TableState) (r : ℕ) (t : Token Entry) (b : BlockView) → IsStep schema tokens all bs replicas self r t b → (i : ℕ) (u : Token Entry) → slice_get all i ≡ Some u → u.place ≡ i
 step-numbered schema tokens all bs replicas self r t b s i u q = numbered-snoc tokens t (next-of schema tokens bs replicas self r t b s.view s.next).place s.table.numbered i u (subst (λ (ts : List (Token Entry)). slice_get ts i ≡ Some u) s.all_is q)
@@ -402,7 +402,7 @@ none-follows : (schema : Shape) (r : ReplicaView) → IsNew schema r → Follows
 none-follows schema r n = record {
   schema_is = n.schema_is;
   is_up = n.is_up;
-  front = record { gained = []; is = sym n.log };
+  copied = record { gained = []; is = sym n.log };
   blocks = subst (Each (Holds schema [])) (sym n.parts) tt;
 }
 

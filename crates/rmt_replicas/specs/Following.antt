@@ -73,10 +73,10 @@ pub record HasSource (log : List Entry) (replicas : List ReplicaView) (i : ℕ) 
 abbrev pub HaveSources : List Entry → List ReplicaView → Type 0
 HaveSources log replicas = (i : ℕ) → i < length log → HasSource log replicas i
 
--- the replica is up and has a front of the log
+-- the replica is up and has a prefix of the log
 pub record Lags (log : List Entry) (r : ReplicaView) : Type 0 where
   pub is_up : r.up ≡ true
-  pub front : GoesOn r.log log
+  pub copied : GoesOn r.log log
 
 -- one of the replicas has the part
 pub record IsHeld (replicas : List ReplicaView) (part : BlockPart) : Type 0 where

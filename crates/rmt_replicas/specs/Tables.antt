@@ -13,7 +13,7 @@ use Rattle.rmt_block.specs.Blocks.{BlockView, kinds_of, block_of}
 use Rattle.rmt_model.specs.Content.{Row, Blocks, content, rows}
 use Rattle.rmt_model.specs.Fair.{AreFair, AllMarked}
 use Rattle.rmt_granules.specs.Granules.{PartView}
-use Rattle.rmt_granules.specs.Making.{data_of}
+use Rattle.rmt_granules.specs.MadePart.{data_of}
 use Rattle.rmt_partset.specs.Snapshots.{NamedData, names_in, data_in, all_rows}
 use Rattle.rmt_values.specs.Order.{SameBag}
 use Rattle.rmt_model.specs.Words.{Each}
@@ -120,11 +120,11 @@ pub record Holds (schema : Shape) (bs : List BlockView) (part : BlockPart) : Typ
   pub there : block_at bs number ≡ Some block
   pub is : IsPartOfBlock schema block number part
 
--- the replica is up and has a front of the log, and each active part is of one of the blocks
+-- the replica is up and has a prefix of the log, and each active part is of one of the blocks
 pub record Follows (schema : Shape) (log : List Entry) (bs : List BlockView) (r : ReplicaView) : Type 0 where
   pub schema_is : r.schema ≡ schema
   pub is_up : r.up ≡ true
-  pub front : GoesOn r.log log
+  pub copied : GoesOn r.log log
   pub blocks : Each (Holds schema bs) r.parts
 
 -- the log has the Gets of the blocks; each replica follows it, and each entry is done at its source

@@ -1,15 +1,10 @@
 //! Replicas of a table that follow its log: pulling entries, doing a Get, and draining with the parts of other replicas.
 #![tactic(auto)]
 
-mod accepting;
-mod doing;
-mod draining;
-mod pulling;
+mod acceptance;
+mod drains;
+mod get;
+mod pulls;
 mod table;
-#[cfg(test)]
-mod tests;
 
-pub use doing::do_get;
-pub use draining::drain;
-pub use pulling::pull;
 pub use table::Table;

@@ -5,13 +5,13 @@ ghost use Rattle.rmt_values.specs.Rows.{fits};
 ghost use Rattle.rmt_entries.specs.declared.entry.Entry.TheVariants.{Get};
 ghost use Rattle.rmt_replicas.specs.Tables.{Accepts, ComesNext, AreNew, IsReading, IsReplicaAt, synced, with_block};
 
-use crate::accepting::accept;
-use crate::draining::drain;
+use crate::acceptance::accept;
+use crate::drains::drain;
 use rmt_block::Block;
 use rmt_entries::Entry;
 use rmt_names::{PartName, block_name};
 use rmt_partset::Snapshot;
-use rmt_replica::Replica;
+use rmt_replica::{Replica, ReplicaError};
 use rmt_row::Seen;
 use rmt_values::{ReplicaId, Row, Schema};
 use std::alloc::{AllocError, Global};
@@ -158,7 +158,8 @@ impl Table {
         let _standing = replica.copy();
         match replica.snapshot(alloc) {
             Ok(snapshot) => Ok(snapshot),
-            Err(_) => Err(AllocError),
+            Err(ReplicaError::Memory) => Err(AllocError),
+            Err(ReplicaError::Down) => unreachable!(),
         }
     }
 }
@@ -175,7 +176,7 @@ fn fresh(alloc: Global, schema: &Arc<Schema, Global>, count: u8) -> Result<Vec<R
     Ok(replicas)
 }
 
-/// A number of 32 bits, or want of memory: no memory has so many blocks or rows.
+/// A number of 32 bits, or out of memory: no memory has so many blocks or rows.
 fn narrowed(number: usize) -> Result<u32, AllocError>
     ensures { IfOk result (λ n. n ≡ number) }
 {

@@ -1,4 +1,4 @@
--- Texts that stand behind one another, however they are grouped; what became of blocks is a text of its own.
+-- Texts one after the other, however they are grouped; what became of blocks is a text of its own.
 use Rattle.std.proofs.Common.{◌≡◌, ℕ, List, [], ◌∷◌, ◌++◌, Option, Some, None, append_assoc, refl}
 use Rattle.std.specs.List.{flat_map}
 use Rattle.rmt_reply.specs.Printed.{cut_text, ended, inserted_text, piece_text, two}
@@ -6,15 +6,15 @@ use Rattle.rmt_reply.specs.declared.piece.Piece.{Piece}
 use Rattle.rmt_reply.specs.declared.piece.Piece.TheVariants as pieces
 use Rattle.rmt_reply.specs.declared.refusal.Refusal.{Refusal}
 
--- two things behind a front, the second with a space before it
-pub two-behind : (out front first second : List ℕ) → (out ++ (front ++ first)) ++ 32 ∷ second ≡ out ++ (front ++ two first second)
-two-behind out front first second =
-    rw (append_assoc out (front ++ first) (32 ∷ second), append_assoc front first (32 ∷ second), append_assoc first (32 ∷ []) second) refl
+-- two things after a prefix, the second with a space before it
+pub two_later : (out prefix first second : List ℕ) → (out ++ (prefix ++ first)) ++ 32 ∷ second ≡ out ++ (prefix ++ two first second)
+two_later out prefix first second =
+    rw (append_assoc out (prefix ++ first) (32 ∷ second), append_assoc prefix first (32 ∷ second), append_assoc first (32 ∷ []) second) refl
 
--- lines, and a last one behind its front
-pub line-behind : (out lines front last : List ℕ) → ((out ++ lines) ++ front) ++ ended last ≡ out ++ (lines ++ ended (front ++ last))
-line-behind out lines front last =
-    rw (append_assoc (out ++ lines) front (ended last), append_assoc out lines (front ++ ended last), append_assoc front last (10 ∷ [])) refl
+-- lines, and a last one after its prefix
+pub line_later : (out lines prefix last : List ℕ) → ((out ++ lines) ++ prefix) ++ ended last ≡ out ++ (lines ++ ended (prefix ++ last))
+line_later out lines prefix last =
+    rw (append_assoc (out ++ lines) prefix (ended last), append_assoc out lines (prefix ++ ended last), append_assoc prefix last (10 ∷ [])) refl
 
 -- where there is a piece or a refusal, the pieces and the refusal are all
 pub inserted-some : (all : List Piece) (refused : Option Refusal) → (all ≡ [] → refused ≡ None → ⊥)

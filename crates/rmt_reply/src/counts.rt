@@ -4,38 +4,38 @@ ghost use Rattle.std.specs.List.{flat_map};
 ghost use Rattle.rmt_reply.specs.Printed.{ended, granules_line, granules_text, ratio_text, sum_of};
 
 use crate::granules::Granules;
-use crate::texts::{number, part, text};
+use crate::texts::{push_number, push_part, push_text};
 use rmt_names::PartName;
 use std::alloc::{AllocError, Global};
 
 /// Adds how many are chosen of how many, and ends the line.
-fn ratio(alloc: Global, out: &mut Vec<u8>, chosen: u128, all: u128) -> Result<(), AllocError>
+fn push_ratio(alloc: Global, out: &mut Vec<u8>, chosen: u128, all: u128) -> Result<(), AllocError>
     ensures { OnOk result (out.new.items ≡ out.old.items ++ ended (ratio_text chosen all)) }
 {
-    number(alloc, out, chosen)?;
-    text(out, b"/")?;
-    number(alloc, out, all)?;
-    text(out, b"\n")?;
+    push_number(alloc, out, chosen)?;
+    push_text(out, b"/")?;
+    push_number(alloc, out, all)?;
+    push_text(out, b"\n")?;
     Ok(())
 }
 
 /// Adds the line of one part.
-fn counted(
+fn push_counts(
     alloc: Global,
     out: &mut Vec<u8>,
     one: &(PartName, usize, usize),
 ) -> Result<(), AllocError>
     ensures { OnOk result (out.new.items ≡ out.old.items ++ granules_line one.now) }
 {
-    text(out, b"granules ")?;
-    part(alloc, out, &one.0)?;
-    text(out, b" ")?;
-    ratio(alloc, out, one.1 as u128, one.2 as u128)?;
+    push_text(out, b"granules ")?;
+    push_part(alloc, out, &one.0)?;
+    push_text(out, b" ")?;
+    push_ratio(alloc, out, one.1 as u128, one.2 as u128)?;
     Ok(())
 }
 
 /// Adds the lines of parts.
-fn each(
+fn push_each_count(
     alloc: Global,
     out: &mut Vec<u8>,
     parts: &[(PartName, usize, usize)],
@@ -43,7 +43,7 @@ fn each(
     ensures { OnOk result (out.new.items ≡ out.old.items ++ flat_map granules_line parts.now) }
 {
     'parts: for one in parts {
-        counted(alloc, out, one)?;
+        push_counts(alloc, out, one)?;
     }
     Ok(())
 }
@@ -71,7 +71,7 @@ fn all_in(parts: &[(PartName, usize, usize)]) -> u128
 }
 
 /// Adds the granules of each part, and their total.
-pub(crate) fn explained(
+pub(crate) fn push_counted_granules(
     alloc: Global,
     out: &mut Vec<u8>,
     granules: &Granules,
@@ -79,8 +79,8 @@ pub(crate) fn explained(
     ensures { OnOk result (out.new.items ≡ out.old.items ++ granules_text granules.now) }
 {
     let parts = granules.as_slice();
-    each(alloc, out, parts)?;
-    text(out, b"granules total ")?;
-    ratio(alloc, out, chosen_in(parts), all_in(parts))?;
+    push_each_count(alloc, out, parts)?;
+    push_text(out, b"granules total ")?;
+    push_ratio(alloc, out, chosen_in(parts), all_in(parts))?;
     Ok(())
 }

@@ -20,7 +20,7 @@ impl Model for Granules {
 }
 
 impl Granules {
-    /// Takes these parts over.
+    /// Makes a list of these parts.
     pub fn new(parts: Vec<(PartName, usize, usize)>) -> Granules
         ensures { result ≡ parts.items }
     {

@@ -5,20 +5,14 @@ mod counts;
 mod granules;
 mod line;
 mod piece;
-mod pieces;
-mod printing;
 mod records;
 mod refusal;
-mod refusing;
-mod rows;
-#[cfg(test)]
-mod tests;
+mod refusals;
+mod replies;
 mod texts;
 
 pub use granules::Granules;
 pub use line::Line;
 pub use piece::Piece;
-pub use pieces::Pieces;
-pub use printing::{print, print_line};
 pub use refusal::Refusal;
-pub use rows::Rows;
+pub use replies::{print, print_line};

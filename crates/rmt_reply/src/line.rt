@@ -1,8 +1,9 @@
 use crate::granules::Granules;
-use crate::pieces::Pieces;
+use crate::piece::Piece;
 use crate::refusal::Refusal;
-use crate::rows::Rows;
-use rmt_entries::Names;
+use rmt_list::List;
+use rmt_names::PartName;
+use rmt_query::Tuple;
 
 /// The reply of a statement.
 #[derive(Debug, Drop)]
@@ -11,20 +12,20 @@ pub enum Line {
     Okay,
     /// What became of the blocks of an INSERT, and the refusal that cut it short.
     Inserted {
-        pieces: Pieces,
+        pieces: List<Piece>,
         refused: Option<Refusal>,
     },
     /// The rows of an answer.
-    Rows(Rows),
+    Rows(List<Tuple>),
     /// The parts that were read, and the rows of the answer.
     Read {
-        parts: Names,
-        rows: Rows,
+        parts: List<PartName>,
+        rows: List<Tuple>,
     },
     /// How many granules of each part a query reads.
     Granules(Granules),
     /// Names of parts.
-    Parts(Names),
+    Parts(List<PartName>),
     /// It was refused.
     Refused(Refusal),
 }

@@ -2,18 +2,18 @@
 ghost use Rattle.std.specs.Prelude.{◌≡◌, ◌++◌, ◌∷◌, [], IfOk, OnOk, map};
 ghost use Rattle.csv.specs.Records.{fields_of, partial_of};
 ghost use Rattle.csv.specs.Writing.{default_writer, row_text};
-ghost use Rattle.rmt_reply.specs.Inside.{IsBetweenRecords, text_in};
+ghost use Rattle.rmt_reply.specs.RecordWriters.{IsBetweenRecords, text_in};
 ghost use Rattle.rmt_reply.specs.Printed.{answer_text, cell_text, records_text};
 
-use crate::rows::Rows;
-use crate::texts::{number, text};
-use csv::{ByteRecord, Writer, WriterBuilder};
+use crate::texts::{push_number, push_text};
+use csv::{ByteRecord, ErrorKind, Writer, WriterBuilder};
+use rmt_list::List;
 use rmt_query::Tuple;
 use rmt_values::Cell;
 use std::alloc::{AllocError, Global};
 
 /// Adds a field to a record, where no field is begun.
-fn push_text(fields: &mut ByteRecord, text: &[u8]) -> Result<(), AllocError>
+fn push_field(fields: &mut ByteRecord, text: &[u8]) -> Result<(), AllocError>
     requires { partial_of fields.old ≡ [] }
     ensures fields { OnOk result (fields_of fields.new ≡ fields_of fields.old ++ text.now ∷ []) }
     ensures partial { OnOk result (partial_of fields.new ≡ []) }
@@ -30,10 +30,10 @@ fn push_cell(alloc: Global, fields: &mut ByteRecord, cell: &Cell) -> Result<(), 
     ensures partial { OnOk result (partial_of fields.new ≡ []) }
 {
     match cell {
-        Cell::UInt(value) => push_text(fields, value.to_string(alloc)?.as_bytes())?,
-        Cell::Int(value) => push_text(fields, value.to_string(alloc)?.as_bytes())?,
-        Cell::Sum(value) => push_text(fields, value.to_string(alloc)?.as_bytes())?,
-        Cell::Text(value) => push_text(fields, value.as_bytes())?,
+        Cell::UInt(value) => push_field(fields, value.to_string(alloc)?.as_bytes())?,
+        Cell::Int(value) => push_field(fields, value.to_string(alloc)?.as_bytes())?,
+        Cell::Sum(value) => push_field(fields, value.to_string(alloc)?.as_bytes())?,
+        Cell::Text(value) => push_field(fields, value.as_bytes())?,
     }
     Ok(())
 }
@@ -57,7 +57,7 @@ fn writer_to(out: Vec<u8>) -> Writer<Vec<u8>>
     WriterBuilder::new().flexible(true).from_writer(out)
 }
 
-/// Writes a record. Over a `Vec` an error is want of memory.
+/// Writes a record. Over a `Vec` the only error is out of memory.
 fn write(writer: &mut Writer<Vec<u8>>, fields: &ByteRecord) -> Result<(), AllocError>
     requires { IsBetweenRecords writer.old }
     ensures between { OnOk result (IsBetweenRecords writer.new) }
@@ -66,7 +66,15 @@ fn write(writer: &mut Writer<Vec<u8>>, fields: &ByteRecord) -> Result<(), AllocE
 {
     match writer.write_byte_record(fields) {
         Ok(()) => {}
-        Err(_) => return Err(AllocError),
+        Err(error) => match error.into_kind() {
+            ErrorKind::OutOfMemory | ErrorKind::Io(_) => return Err(AllocError),
+            // No clause of the writer rules these out; it gives them for records of unequal lengths, which are allowed
+            // here, and for values that aren't bytes.
+            ErrorKind::UnequalLengths { .. }
+            | ErrorKind::Utf8 { .. }
+            | ErrorKind::Serialize(_)
+            | ErrorKind::Deserialize { .. } => return Err(AllocError),
+        },
     }
     Ok(())
 }
@@ -95,14 +103,18 @@ fn records(alloc: Global, rows: &[Tuple]) -> Result<Vec<u8>, AllocError>
 }
 
 /// Adds how many rows there are, and the rows.
-pub(crate) fn answer(alloc: Global, out: &mut Vec<u8>, rows: &Rows) -> Result<(), AllocError>
+pub(crate) fn push_answer(
+    alloc: Global,
+    out: &mut Vec<u8>,
+    rows: &List<Tuple>,
+) -> Result<(), AllocError>
     ensures { OnOk result (out.new.items ≡ out.old.items ++ answer_text rows.now) }
 {
     let all = rows.as_slice();
-    text(out, b"rows ")?;
-    number(alloc, out, all.len() as u128)?;
-    text(out, b"\n")?;
+    push_text(out, b"rows ")?;
+    push_number(alloc, out, all.len() as u128)?;
+    push_text(out, b"\n")?;
     let written = records(alloc, all)?;
-    text(out, written.as_slice())?;
+    push_text(out, written.as_slice())?;
     Ok(())
 }

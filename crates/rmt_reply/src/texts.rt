@@ -9,7 +9,7 @@ use rmt_values::ReplicaId;
 use std::alloc::{AllocError, Global};
 
 /// Adds bytes.
-pub(crate) fn text(out: &mut Vec<u8>, bytes: &[u8]) -> Result<(), AllocError>
+pub(crate) fn push_text(out: &mut Vec<u8>, bytes: &[u8]) -> Result<(), AllocError>
     ensures { OnOk result (out.new.items ≡ out.old.items ++ bytes.now) }
 {
     out.extend_from_slice(bytes)?;
@@ -17,43 +17,47 @@ pub(crate) fn text(out: &mut Vec<u8>, bytes: &[u8]) -> Result<(), AllocError>
 }
 
 /// Adds a number as a decimal.
-pub(crate) fn number(alloc: Global, out: &mut Vec<u8>, number: u128) -> Result<(), AllocError>
+pub(crate) fn push_number(alloc: Global, out: &mut Vec<u8>, number: u128) -> Result<(), AllocError>
     ensures { OnOk result (out.new.items ≡ out.old.items ++ decimal number) }
 {
     let digits = number.to_string(alloc)?;
-    text(out, digits.as_bytes())?;
+    push_text(out, digits.as_bytes())?;
     Ok(())
 }
 
 /// Adds the name of a replica.
-pub(crate) fn replica(
+pub(crate) fn push_replica(
     alloc: Global,
     out: &mut Vec<u8>,
     replica: ReplicaId,
 ) -> Result<(), AllocError>
     ensures { OnOk result (out.new.items ≡ out.old.items ++ replica_text replica) }
 {
-    text(out, b"r")?;
-    number(alloc, out, u128::from(replica))?;
+    push_text(out, b"r")?;
+    push_number(alloc, out, u128::from(replica))?;
     Ok(())
 }
 
 /// Adds the name of a part.
-pub(crate) fn part(alloc: Global, out: &mut Vec<u8>, part: &PartName) -> Result<(), AllocError>
+pub(crate) fn push_part(alloc: Global, out: &mut Vec<u8>, part: &PartName) -> Result<(), AllocError>
     ensures { OnOk result (out.new.items ≡ out.old.items ++ text_of part.now) }
 {
     let spelled = rmt_names::text(alloc, part)?;
-    text(out, spelled.as_bytes())?;
+    push_text(out, spelled.as_bytes())?;
     Ok(())
 }
 
 /// Adds the names of parts, a space before each.
-pub(crate) fn parts(alloc: Global, out: &mut Vec<u8>, names: &[PartName]) -> Result<(), AllocError>
+pub(crate) fn push_parts(
+    alloc: Global,
+    out: &mut Vec<u8>,
+    names: &[PartName],
+) -> Result<(), AllocError>
     ensures { OnOk result (out.new.items ≡ out.old.items ++ names_text names.now) }
 {
     'names: for name in names {
-        text(out, b" ")?;
-        part(alloc, out, name)?;
+        push_text(out, b" ")?;
+        push_part(alloc, out, name)?;
     }
     Ok(())
 }

@@ -44,7 +44,7 @@ impl<T: Drop> Seen<T> {
         &self.value
     }
 
-    /// The same token once more. It shares the value.
+    /// Returns a copy. It shares the value.
     pub fn copy(&self) -> Result<Seen<T>, AllocError>
         ensures { IfOk result (λ other. other ≡ self.now) }
     {

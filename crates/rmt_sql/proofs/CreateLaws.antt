@@ -4,19 +4,21 @@ use Rattle.std.specs.Prelude.{codes}
 use Rattle.std.specs.Str.{bytes_eq}
 use Rattle.rmt_values.specs.declared.kind.Kind.{Kind}
 use Rattle.rmt_values.specs.declared.kind.Kind.TheVariants as kinds
-use Rattle.rmt_tokens.specs.declared.mark.Mark.TheVariants as marks
-use Rattle.rmt_tokens.specs.Tokens.{Token, Word, Spot, spot}
-use Rattle.rmt_tokens.specs.Classes.{Class, Keyword, AnyWord, AnyText, Sign, End, among}
-use Rattle.rmt_tokens.specs.Exact.{never, token, on_many}
-use Rattle.rmt_tokens.proofs.Apart.{disjoint}
-use Rattle.rmt_tokens.proofs.Closed.{exact_gives}
-use Rattle.rmt_tokens.proofs.Laws.{Law, law_token, law_then, law_gives, law_either, law_maybe, law_chain, starts_then, step, step_on, step_maybe}
-use Rattle.rmt_tokens.proofs.SingleLaws.{keyword_law, exactly_law, symbol_law, word_law, number_law, text_law}
+use Rattle.rmt_sql_tokens.specs.declared.symbol_kind.SymbolKind.TheVariants as symbols
+use Rattle.rmt_sql_tokens.specs.Tokens.{Token, Word, Spot, spot}
+use Rattle.rmt_sql_tokens.specs.Classes.{Class, Keyword, AnyWord, AnyText, Sign, End, among}
+use Rattle.rmt_sql_tokens.specs.Exact.{never, token}
+use Rattle.rmt_sql_tokens.proofs.Apart.{disjoint}
+use Rattle.rmt_sql_tokens.proofs.Closed.{exact_gives, on_many}
+use Rattle.rmt_sql_tokens.proofs.Laws.{Law, law_token, law_then, law_gives, law_either, law_maybe, law_chain, starts_then, step, step_on, step_maybe}
+use Rattle.rmt_sql_tokens.proofs.SingleLaws.{keyword_law, exactly_law, symbol_law, word_law, number_law, text_law}
 use Rattle.rmt_sql.specs.declared.settings.Settings.{Settings}
 use Rattle.rmt_values.specs.declared.column.Column.{Column}
-use Rattle.rmt_phrases.specs.Phrases.{word, opening, comma, Call}
+use Rattle.rmt_sql_filters.specs.Phrases.{word, opening, comma, Call}
+use Rattle.rmt_sql.specs.declared.setting_name.SettingName.{SettingName}
+use Rattle.rmt_sql.specs.declared.setting_name.SettingName.TheVariants as settings_of_create
 use Rattle.rmt_sql.specs.Grammar.{a_kind, column, columns, two_texts, engine_arguments, takes_rule, division, rule_call, partition_rule, partition_of, partition_by, is_tuple, order, key_of, unset, a_setting, may_set, setting, settings, create_settings, create_order, create_engine, create}
-use Rattle.rmt_phrases.proofs.PhraseLaws.{open_law, close_law, comma_law, law_listed, on_list, list_apart, names_in_parentheses_law, on_called, law_called, tuple_call_law, ended_law, called_apart}
+use Rattle.rmt_sql_filters.proofs.PhraseLaws.{open_law, close_law, comma_law, law_listed, on_list, list_apart, names_in_parentheses_law, on_called, law_called, tuple_call_law, ended_law, called_apart}
 
 any_word : (t : Token) (left : ℕ) (k : Kind) → a_kind (spot t left) ≡ Some k → among (AnyWord ∷ []) (spot t left) ≡ true
 any_word (Word w) left k h = refl
@@ -41,7 +43,7 @@ engine_arguments_law : Law engine_arguments never opening
 unfolding engine_arguments
 engine_arguments_law =
     law_then _ _ never _ open_law (λ _.
-    step_maybe _ _ never never (AnyText ∷ []) (Sign marks.Close ∷ []) two_texts_law (λ _. law_gives _ (λ _. tt) never never _ (λ _. refl) close_law) refl (λ _. refl))
+    step_maybe _ _ never never (AnyText ∷ []) (Sign symbols.Close ∷ []) two_texts_law (λ _. law_gives _ (λ _. tt) never never _ (λ _. refl) close_law) refl (λ _. refl))
 
 division_law : Law division never opening
 unfolding division
@@ -60,7 +62,7 @@ pub partition_by_law : Law partition_by (on_called takes_rule) (word (codes "par
 unfolding partition_by
 partition_by_law = law_then _ _ _ _ (keyword_law (codes "partition") refl) (λ _. step _ _ _ _ (keyword_law (codes "by") refl) (λ _. partition_rule_law.exact))
 
-order_law : Law order (on_called is_tuple) (Sign marks.Open ∷ AnyWord ∷ [])
+order_law : Law order (on_called is_tuple) (Sign symbols.Open ∷ AnyWord ∷ [])
 unfolding order
 order_law =
     law_either _ _ (on_called is_tuple) opening (AnyWord ∷ [])
@@ -69,25 +71,25 @@ order_law =
 
 -- ---- settings
 
-setting_tells : (s : Settings) (t : Token) (left : ℕ) (b : Bool) → a_setting s (spot t left) ≡ Some b → among (AnyWord ∷ []) (spot t left) ≡ true
-setting_tells s (Word w) left b h = refl
-setting_tells s _ left b h = absurd cc
+setting_reads : (s : Settings) (t : Token) (left : ℕ) (b : SettingName) → a_setting s (spot t left) ≡ Some b → among (AnyWord ∷ []) (spot t left) ≡ true
+setting_reads s (Word w) left b h = refl
+setting_reads s _ left b h = absurd cc
 
 -- a setting that may still be set
-example_of : (s : Settings) → may_set s ≡ true → (t : Spot) × (b : Bool) × (a_setting s t ≡ Some b)
+example_of : (s : Settings) → may_set s ≡ true → (t : Spot) × (b : SettingName) × (a_setting s t ≡ Some b)
 example_of s may = go s.granularity s.window may
   where
-    go : (g w : Option ℕ) → may_set (record { granularity = g; window = w }) ≡ true → (t : Spot) × (b : Bool) × (a_setting (record { granularity = g; window = w }) t ≡ Some b)
-    go None w may = (spot (Word (codes "index_granularity")) 0, true, refl)
-    go (Some n) None may = (spot (Word (codes "replicated_deduplication_window")) 0, false, refl)
+    go : (g w : Option ℕ) → may_set (record { granularity = g; window = w }) ≡ true → (t : Spot) × (b : SettingName) × (a_setting (record { granularity = g; window = w }) t ≡ Some b)
+    go None w may = (spot (Word (codes "index_granularity")) 0, settings_of_create.Granularity, refl)
+    go (Some n) None may = (spot (Word (codes "replicated_deduplication_window")) 0, settings_of_create.Window, refl)
     go (Some n) (Some m) may = absurd cc
 
 pub setting_law : (s : Settings) → may_set s ≡ true → Law (setting s) never (AnyWord ∷ [])
 unfolding setting
 setting_law s may =
     let (t, b, is) = example_of s may in
-    law_then _ _ never _ (law_token (a_setting s) (AnyWord ∷ []) t b is (λ u c h. setting_tells s u.token u.left c h)) (λ which.
-    step _ _ never _ (symbol_law marks.Equal refl) (λ _. step _ _ never _ number_law (λ n. exact_gives _)))
+    law_then _ _ never _ (law_token (a_setting s) (AnyWord ∷ []) t b is (λ u c h. setting_reads s u.token u.left c h)) (λ which.
+    step _ _ never _ (symbol_law symbols.Equal refl) (λ _. step _ _ never _ number_law (λ n. exact_gives _)))
 
 abbrev pub on_settings : Settings → List Class
 on_settings = on_many may_set comma never
@@ -125,7 +127,7 @@ create_order_law table all partition =
 create_engine_law : (table : List ℕ) (columns : List Column) → Law (create_engine table columns) never (word (codes "engine"))
 unfolding create_engine
 create_engine_law table all =
-    law_then _ _ never _ (keyword_law (codes "engine") refl) (λ _. step _ _ never _ (symbol_law marks.Equal refl) (λ _. step _ _ never _ (exactly_law (codes "ReplicatedMergeTree") refl) (λ _.
+    law_then _ _ never _ (keyword_law (codes "engine") refl) (λ _. step _ _ never _ (symbol_law symbols.Equal refl) (λ _. step _ _ never _ (exactly_law (codes "ReplicatedMergeTree") refl) (λ _.
     step_maybe _ _ never never opening (Keyword (codes "partition") ∷ Keyword (codes "order") ∷ []) engine_arguments_law (λ _.
     law_maybe _ _ (on_called takes_rule) never (word (codes "partition")) (word (codes "order")) partition_by_law (λ partition. create_order_law table all (partition_of partition)) refl
     (called_apart takes_rule (word (codes "order")) refl refl))
@@ -135,6 +137,6 @@ pub create_law : Law create never (word (codes "create"))
 unfolding create
 create_law =
     law_then _ _ never _ (keyword_law (codes "create") refl) (λ _. step _ _ never _ (keyword_law (codes "table") refl) (λ _. step _ _ never _ word_law (λ table. step _ _ never _ open_law (λ _.
-    step_on _ _ (on_list never) never _ (λ _. Sign marks.Close ∷ []) columns_law (λ all.
+    step_on _ _ (on_list never) never _ (λ _. Sign symbols.Close ∷ []) columns_law (λ all.
     law_then _ _ never _ close_law (λ _. (create_engine_law table all).exact))
-    (list_apart (Sign marks.Close ∷ []) refl)))))
+    (list_apart (Sign symbols.Close ∷ []) refl)))))

@@ -1,18 +1,17 @@
 -- Reading goes on further on.
 use Rattle.std.proofs.Common.{◌≡◌, ◌∙◌, ℕ, ◌-◌, ◌<◌, ◌≤◌, List, [], ◌∷◌, ◌++◌, length, drop, ap, sym, refl, Bool, true, false, cond, arith, append_assoc}
 use Rattle.std.proofs.lemmas.List.{length-drop}
-use Rattle.rmt_tokens.specs.declared.context.Context.TheVariants.{Plain}
-use Rattle.rmt_tokens.specs.Tokens.{Spot, spots, spots_from}
-use Rattle.rmt_tokens.specs.Classes.{End, next_among}
-use Rattle.rmt_tokens.specs.Exact.{left_of}
-use Rattle.rmt_tokens.proofs.Falling.{Falling, spots_falling}
-use Rattle.rmt_sql.specs.declared.statement.Statement.{Statement}
-use Rattle.rmt_sql.specs.Said.{said}
-use Rattle.rmt_sql.specs.Script.{is_empty, passed, tokens_at, is_first, StandsAt, FailsAt}
+use Rattle.rmt_sql_tokens.specs.declared.context.Context.TheVariants.{Plain}
+use Rattle.rmt_sql_tokens.specs.Tokens.{Spot, spots, spots_from}
+use Rattle.rmt_sql_tokens.specs.Classes.{End, next_among}
+use Rattle.rmt_sql_tokens.specs.Exact.{left_of}
+use Rattle.rmt_sql_tokens.proofs.Falling.{Falling, spots_falling}
+use Rattle.rmt_statements.specs.declared.statement.Statement.{Statement}
+use Rattle.rmt_sql.specs.Script.{is_empty, passed, tokens_at, is_first, IsStatementAt, IsFaultAt}
 use Rattle.rmt_sql.proofs.StatementEnds.{statement_ends}
 
 -- an end of the tokens begins no further on
-end_less : (front f ts : List Spot) → Falling ts → front ++ f ≡ ts → left_of f ≤ left_of ts
+end_less : (prefix f ts : List Spot) → Falling ts → prefix ++ f ≡ ts → left_of f ≤ left_of ts
 end_less [] f ts falls same = rw same (omega arith)
 end_less (s ∷ ss) f [] falls same = absurd cc
 end_less (s ∷ ss) f (t ∷ ts) falls same =
@@ -40,26 +39,26 @@ unfolding spots_from
 no_bytes [] h = refl
 no_bytes (b ∷ bs) h = absurd (omega (arith, h))
 
--- where not the end stands next, some bytes are left
+-- where not the end comes next, some bytes are left
 some_left : (script : List ℕ) (at : ℕ) → next_among (End ∷ []) (passed (tokens_at script at)) ≡ false → length script - at ≡ 0 → ⊥
 some_left script at more none =
     let end = no_bytes (drop at script) (length-drop at script ∙ none) in
     absurd (let e : true ≡ false = sym end ∙ more in cc)
 
--- behind a statement
-pub stands_on : (script : List ℕ) (at : ℕ) (found : Statement) (start end : ℕ) → next_among (End ∷ []) (passed (tokens_at script at)) ≡ false → StandsAt script at found start end → (at < end) × (end ≤ length script)
-stands_on script at found start end more stands =
+-- after a statement
+pub statement_on : (script : List ℕ) (at : ℕ) (found : Statement) (start end : ℕ) → next_among (End ∷ []) (passed (tokens_at script at)) ≡ false → IsStatementAt script at found start end → (at < end) × (end ≤ length script)
+statement_on script at found start end more found_there =
     let (falling, within) = tokens_within script at in
-    let (before, s, parts, place) = (statement_ends (is_first script at)).each stands.front (said found, stands.left) stands.line in
-    let whole : before ++ (s ∷ stands.more) ≡ passed (tokens_at script at) = sym (append_assoc before (s ∷ []) stands.more) ∙ ap (λ l. l ++ stands.more) parts ∙ stands.parts in
-    let less : s.left ≤ left_of (passed (tokens_at script at)) = end_less before (s ∷ stands.more) (passed (tokens_at script at)) falling whole in
+    let (before, s, parts, place) = (statement_ends (is_first script at)).each found_there.prefix (found, found_there.left) found_there.line in
+    let whole : before ++ (s ∷ found_there.more) ≡ passed (tokens_at script at) = sym (append_assoc before (s ∷ []) found_there.more) ∙ ap (λ l. l ++ found_there.more) parts ∙ found_there.parts in
+    let less : s.left ≤ left_of (passed (tokens_at script at)) = end_less before (s ∷ found_there.more) (passed (tokens_at script at)) falling whole in
     let some = some_left script at more in
-    (grind (arith, place, less, within, some, stands.ends), omega (arith, stands.ends))
+    (grind (arith, place, less, within, some, found_there.ends), omega (arith, found_there.ends))
 
--- behind what can't be read
-pub fails_on : (script : List ℕ) (at offset end : ℕ) → next_among (End ∷ []) (passed (tokens_at script at)) ≡ false → FailsAt script at offset end → (at < end) × (end ≤ length script)
+-- after what can't be read
+pub fails_on : (script : List ℕ) (at offset end : ℕ) → next_among (End ∷ []) (passed (tokens_at script at)) ≡ false → IsFaultAt script at offset end → (at < end) × (end ≤ length script)
 fails_on script at offset end more fails =
     let (falling, within) = tokens_within script at in
-    let less : left_of fails.fault.rest ≤ left_of (passed (tokens_at script at)) = end_less fails.fault.front fails.fault.rest (passed (tokens_at script at)) falling fails.fault.parts in
+    let less : left_of fails.fault.rest ≤ left_of (passed (tokens_at script at)) = end_less fails.fault.prefix fails.fault.rest (passed (tokens_at script at)) falling fails.fault.parts in
     let some = some_left script at more in
-    (grind (arith, fails.place, fails.fault.place, less, within, some, fails.goes_on), omega (arith, fails.goes_on))
+    (grind (arith, fails.place, fails.fault.place, less, within, some, fails.resumes), omega (arith, fails.resumes))

@@ -3,3 +3,4 @@ pub mod StatementLaws
 pub mod StatementEnds
 pub mod Scripts
 pub mod Going
+pub mod Readings

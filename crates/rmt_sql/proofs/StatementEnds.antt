@@ -1,12 +1,13 @@
--- A line of a statement ends with a token, behind which as many bytes are left as the line tells.
+-- A line of a statement ends with a token, after which as many bytes are left as the line says.
 use Rattle.std.proofs.Common.{ℕ, List, refl, Bool, true, false, Option}
-use Rattle.rmt_tokens.specs.Exact.{Rule}
-use Rattle.rmt_acts.specs.Said.{SaidAct}
+use Rattle.rmt_sql_tokens.specs.Singles.{a_semicolon}
+use Rattle.rmt_sql_tokens.specs.Exact.{Rule}
+use Rattle.rmt_statements.specs.declared.act.Act.{Act}
 use Rattle.rmt_values.specs.declared.column.Column.{Column}
-use Rattle.rmt_sql.specs.Grammar.{create_settings, create_order, create_engine, create, sent, lanes, replicas, kill, restart, run, at_replica, later_statement, statement}
-use Rattle.rmt_acts.specs.Acts.{act}
-use Rattle.rmt_phrases.proofs.Ends.{Ends, ended_ends, ends_then, ends_gives, ends_either}
-use Rattle.rmt_acts.proofs.ActEnds.{act_ends}
+use Rattle.rmt_sql.specs.Grammar.{create_settings, create_order, create_engine, create, sent, lanes, closed, replicas, kill, restart, run, at_replica, later_statement, statement}
+use Rattle.rmt_sql_acts.specs.Acts.{act}
+use Rattle.rmt_sql_filters.proofs.Ends.{Ends, ended_ends, one_ends, semicolon_place, ends_then, ends_gives, ends_either}
+use Rattle.rmt_sql_acts.proofs.ActEnds.{act_ends}
 
 create_settings_ends : (table : List ℕ) (columns : List Column) (partition : Option (List ℕ × ℕ)) (key : List (List ℕ)) → Ends (create_settings table columns partition key).form
 unfolding create_settings
@@ -26,16 +27,19 @@ unfolding create
 create_ends =
     ends_then _ _ (λ _. ends_then _ _ (λ _. ends_then _ _ (λ table. ends_then _ _ (λ _. ends_then _ _ (λ all. ends_then _ _ (λ _. create_engine_ends _ _))))))
 
-sent_ends : (acts : Rule (SaidAct × ℕ)) → Ends acts.form → Ends (sent acts).form
+sent_ends : (acts : Rule (Act × ℕ)) → Ends acts.form → Ends (sent acts).form
 sent_ends acts ends = ends_then _ _ (λ name. ends_gives _ (λ a. _) (λ _. refl) ends)
 
 at_replica_ends : Ends at_replica.form
 unfolding at_replica
 at_replica_ends = ends_gives _ (λ s. _) (λ _. refl) (sent_ends act act_ends)
 
+closed_ends : {A : Type 0} (a : A) → Ends (closed a).form
+closed_ends a = one_ends a_semicolon (λ s left h. semicolon_place s.token s.left left h) a
+
 replicas_ends : Ends replicas.form
 unfolding replicas
-replicas_ends = ends_then _ _ (λ _. ends_then _ _ (λ n. ended_ends _))
+replicas_ends = ends_then _ _ (λ _. ends_then _ _ (λ n. closed_ends _))
 
 kill_ends : Ends kill.form
 unfolding kill
@@ -57,7 +61,7 @@ later_ends : Ends later_statement.form
 unfolding later_statement
 later_ends = ends_either _ _ create_ends (ends_either _ _ kill_ends (ends_either _ _ restart_ends (ends_either _ _ run_ends (ends_either _ _ lanes_ends at_replica_ends))))
 
--- each line of a statement ends with the token behind which reading goes on
+-- each line of a statement ends with the token after which reading goes on
 pub statement_ends : (first : Bool) → Ends (statement first).form
 unfolding statement
 statement_ends true = ends_either _ _ replicas_ends later_ends

@@ -1,4 +1,4 @@
--- The grammar of scripts, as in ClickHouse's SQL reference: CREATE TABLE; what is asked of a replica is in `rmt_acts`.
+-- The grammar of scripts, as in ClickHouse's SQL reference: CREATE TABLE; what a replica executes is in `rmt_sql_acts`.
 -- REPLICAS, KILL, RESTART, RUN, LANES and `@replica` are this program's own.
 use Rattle.std.specs.Prelude.{ℕ, ◌||◌, ◌&&◌, nat_lt, nat_le, not, List, [], ◌∷◌, length, Bool, true, false, codes, if◌then◌else◌, Option, Some, None}
 use Rattle.std.specs.Option.{is_some}
@@ -6,16 +6,20 @@ use Rattle.std.specs.Str.{bytes_eq}
 use Rattle.rmt_values.specs.declared.column.Column.{Column}
 use Rattle.rmt_values.specs.declared.kind.Kind.{Kind}
 use Rattle.rmt_values.specs.declared.kind.Kind.TheVariants as kinds
-use Rattle.rmt_tokens.specs.declared.mark.Mark.TheVariants as marks
-use Rattle.rmt_tokens.specs.Tokens.{Token, Word, Number, Spot}
-use Rattle.rmt_tokens.specs.Classes.{Class, AnyText, Sign}
-use Rattle.rmt_tokens.specs.Singles.{a_word, a_number, a_text, an_end}
-use Rattle.rmt_tokens.specs.Exact.{Rule, token, ◌then◌, gives, maybe, either, many, always, item}
+use Rattle.rmt_sql_tokens.specs.declared.symbol_kind.SymbolKind.TheVariants as symbols
+use Rattle.rmt_sql_tokens.specs.Tokens.{Token, Word, Number, Spot}
+use Rattle.rmt_sql_tokens.specs.Classes.{Class, AnyText, Sign}
+use Rattle.rmt_sql_tokens.specs.Singles.{a_word, a_number, a_text, an_end, a_semicolon}
+use Rattle.rmt_sql_tokens.specs.Exact.{Rule, token, ◌then◌, gives, maybe, either, many, always, item}
 use Rattle.rmt_sql.specs.declared.settings.Settings.{Settings}
-use Rattle.rmt_acts.specs.Said.{SaidAct}
-use Rattle.rmt_sql.specs.Said.{SaidSent, Said, Replicas, Create, Kill, Restart, Run, Lanes, At}
-use Rattle.rmt_phrases.specs.Phrases.{the, very, mark, opening, comma, word, listed, Called, called, names_in_parentheses, tuple_call, ended, Bare, Call}
-use Rattle.rmt_acts.specs.Acts.{row_act, row_act_firsts, act}
+use Rattle.rmt_sql.specs.declared.setting_name.SettingName.{SettingName}
+use Rattle.rmt_sql.specs.declared.setting_name.SettingName.TheVariants as settings_of_create
+use Rattle.rmt_statements.specs.declared.act.Act.{Act}
+use Rattle.rmt_statements.specs.declared.sent.Sent.{Sent}
+use Rattle.rmt_statements.specs.declared.statement.Statement.{Statement}
+use Rattle.rmt_statements.specs.declared.statement.Statement.TheVariants.{Replicas, Create, Kill, Restart, Run, Lanes, At}
+use Rattle.rmt_sql_filters.specs.Phrases.{the, very, the_symbol, opening, comma, word, listed, Called, called, names_in_parentheses, tuple_call, ended, Bare, Call}
+use Rattle.rmt_sql_acts.specs.Acts.{row_act, row_act_firsts, act}
 
 -- ---- CREATE
 
@@ -44,11 +48,11 @@ columns = listed column
 
 -- text , text
 unfoldable pub two_texts : Rule (Unit {0})
-two_texts = token a_text then λ _. mark marks.Comma then λ _. token a_text then λ _. gives tt
+two_texts = token a_text then λ _. the_symbol symbols.Comma then λ _. token a_text then λ _. gives tt
 
 -- ( [ text , text ] )
 unfoldable pub engine_arguments : Rule (Unit {0})
-engine_arguments = mark marks.Open then λ _. maybe (AnyText ∷ []) two_texts then λ _. mark marks.Close then λ _. gives tt
+engine_arguments = the_symbol symbols.Open then λ _. maybe (AnyText ∷ []) two_texts then λ _. the_symbol symbols.Close then λ _. gives tt
 
 -- words that take parentheses in a partition rule
 abbrev pub takes_rule : List ℕ → Bool
@@ -57,10 +61,10 @@ takes_rule w = bytes_eq w (codes "tuple") || bytes_eq w (codes "intDiv")
 -- ( column , number )
 unfoldable pub division : Rule (Option (List ℕ × ℕ))
 division =
-    mark marks.Open then λ _. token a_word then λ column. mark marks.Comma then λ _. token a_number then λ divisor. mark marks.Close then λ _.
+    the_symbol symbols.Open then λ _. token a_word then λ column. the_symbol symbols.Comma then λ _. token a_number then λ divisor. the_symbol symbols.Close then λ _.
     gives (Some (column, divisor))
 
--- what stands in the parentheses of `tuple`, or else of `intDiv`
+-- what is in the parentheses of `tuple`, or else of `intDiv`
 abbrev pub rule_call : Bool → Rule (Option (List ℕ × ℕ))
 rule_call true = tuple_call None
 rule_call false = division
@@ -100,25 +104,25 @@ key_of (Call all) = all
 abbrev pub unset : Settings
 unset = record { granularity = None; window = None }
 
--- granularity is true, the window false; each at most once
-abbrev pub setting_word : Settings → List ℕ → Option Bool
+-- the setting of this name; each at most once
+abbrev pub setting_word : Settings → List ℕ → Option SettingName
 setting_word s w =
-    if bytes_eq w (codes "index_granularity") && not (is_some s.granularity) then Some true
-    else (if bytes_eq w (codes "replicated_deduplication_window") && not (is_some s.window) then Some false else None)
+    if bytes_eq w (codes "index_granularity") && not (is_some s.granularity) then Some settings_of_create.Granularity
+    else (if bytes_eq w (codes "replicated_deduplication_window") && not (is_some s.window) then Some settings_of_create.Window else None)
 
 -- the setting that a token names
-abbrev pub setting_in : Settings → Token → Option Bool
+abbrev pub setting_in : Settings → Token → Option SettingName
 setting_in s (Word w) = setting_word s w
 setting_in s _ = None
 
 -- a setting that is not set yet
-abbrev pub a_setting : Settings → Spot → Option Bool
+abbrev pub a_setting : Settings → Spot → Option SettingName
 a_setting s t = setting_in s t.token
 
 -- the settings with one more set
-abbrev pub with_setting : Bool → ℕ → Settings → Settings
-with_setting true n s = record { granularity = Some n; window = s.window }
-with_setting false n s = record { granularity = s.granularity; window = Some n }
+abbrev pub with_setting : SettingName → ℕ → Settings → Settings
+with_setting settings_of_create.Granularity n s = record { granularity = Some n; window = s.window }
+with_setting settings_of_create.Window n s = record { granularity = s.granularity; window = Some n }
 
 -- a setting is left to set
 abbrev pub may_set : Settings → Bool
@@ -126,11 +130,11 @@ may_set s = not (is_some s.granularity) || not (is_some s.window)
 
 -- setting = number
 unfoldable pub setting : Settings → Rule Settings
-setting s = token (a_setting s) then λ which. mark marks.Equal then λ _. token a_number then λ n. gives (with_setting which n s)
+setting s = token (a_setting s) then λ name. the_symbol symbols.Equal then λ _. token a_number then λ n. gives (with_setting name n s)
 
 -- , setting
 abbrev pub further_setting : Settings → Rule Settings
-further_setting s = mark marks.Comma then λ _. setting s
+further_setting s = the_symbol symbols.Comma then λ _. setting s
 
 -- SETTINGS setting { , setting }
 unfoldable pub settings : Rule Settings
@@ -142,57 +146,57 @@ settings_of None = unset
 settings_of (Some s) = s
 
 -- [ SETTINGS setting { , setting } ] and the end of the CREATE
-unfoldable pub create_settings : List ℕ → List Column → Option (List ℕ × ℕ) → List (List ℕ) → Rule (Said × ℕ)
+unfoldable pub create_settings : List ℕ → List Column → Option (List ℕ × ℕ) → List (List ℕ) → Rule (Statement × ℕ)
 create_settings table columns partition key = maybe (word (codes "settings")) settings then λ s. ended (Create table columns partition key (settings_of s).granularity (settings_of s).window)
 
--- ORDER BY order and what stands behind it
-unfoldable pub create_order : List ℕ → List Column → Option (List ℕ × ℕ) → Rule (Said × ℕ)
+-- ORDER BY order and what comes after it
+unfoldable pub create_order : List ℕ → List Column → Option (List ℕ × ℕ) → Rule (Statement × ℕ)
 create_order table columns partition = the (codes "order") then λ _. the (codes "by") then λ _. order then λ key. create_settings table columns partition (key_of key)
 
--- ENGINE = ReplicatedMergeTree [ ( [ text , text ] ) ] and what stands behind it
-unfoldable pub create_engine : List ℕ → List Column → Rule (Said × ℕ)
+-- ENGINE = ReplicatedMergeTree [ ( [ text , text ] ) ] and what comes after it
+unfoldable pub create_engine : List ℕ → List Column → Rule (Statement × ℕ)
 create_engine table columns =
-    the (codes "engine") then λ _. mark marks.Equal then λ _. very (codes "ReplicatedMergeTree") then λ _. maybe opening engine_arguments then λ _.
+    the (codes "engine") then λ _. the_symbol symbols.Equal then λ _. very (codes "ReplicatedMergeTree") then λ _. maybe opening engine_arguments then λ _.
     maybe (word (codes "partition")) partition_by then λ partition. create_order table columns (partition_of partition)
 
 -- CREATE TABLE table ( column type { , column type } ) ENGINE .. [ PARTITION BY .. ] ORDER BY .. [ SETTINGS .. ] ;
-unfoldable pub create : Rule (Said × ℕ)
+unfoldable pub create : Rule (Statement × ℕ)
 create =
-    the (codes "create") then λ _. the (codes "table") then λ _. token a_word then λ table. mark marks.Open then λ _. columns then λ all.
-    mark marks.Close then λ _. create_engine table all
+    the (codes "create") then λ _. the (codes "table") then λ _. token a_word then λ table. the_symbol symbols.Open then λ _. columns then λ all.
+    the_symbol symbols.Close then λ _. create_engine table all
 
 -- ---- the other statements
 
 -- @ replica
 unfoldable pub replica : Rule (List ℕ)
-replica = mark marks.At then λ _. token a_word then λ name. gives name
+replica = the_symbol symbols.At then λ _. token a_word then λ name. gives name
 
 -- [ @ replica ] act
-abbrev pub sent : Rule (SaidAct × ℕ) → Rule (SaidSent × ℕ)
-sent acts = maybe (Sign marks.At ∷ []) replica then λ name. acts then λ a. gives (record { replica = name; act = a.0 }, a.1)
+abbrev pub sent : Rule (Act × ℕ) → Rule (Sent × ℕ)
+sent acts = maybe (Sign symbols.At ∷ []) replica then λ name. acts then λ a. gives (record { replica = name; act = a.0 }, a.1)
 
 -- a statement of a lane, which is an INSERT or a SELECT without SETTINGS, or an ALTER
-unfoldable pub lane_statement : Rule SaidSent
+unfoldable pub lane_statement : Rule Sent
 lane_statement = sent (row_act false) then λ s. gives s.0
 
 -- a statement of a lane begins with `@` or as an act on rows
 abbrev pub lane_firsts : List Class
-lane_firsts = Sign marks.At ∷ row_act_firsts
+lane_firsts = Sign symbols.At ∷ row_act_firsts
 
 -- LANE ; { statement ; }
-unfoldable pub lane : Rule (List SaidSent)
+unfoldable pub lane : Rule (List Sent)
 lane = (the (codes "lane") then λ _. token an_end then λ _. gives []) then λ none. many always lane_firsts (item lane_statement) none
 
--- fewer than 8 lanes stand before
+-- fewer than 8 lanes come before
 abbrev pub may_follow : {A : Type 0} → List A → Bool
 may_follow lanes = nat_lt (length lanes) 8
 
 -- lane { lane }, at most 8
-unfoldable pub some_lanes : Rule (List (List SaidSent))
+unfoldable pub some_lanes : Rule (List (List Sent))
 some_lanes = item lane [] then λ first. many may_follow (word (codes "lane")) (item lane) first
 
 -- LANES ; lanes END ;
-unfoldable pub lanes : Rule (Said × ℕ)
+unfoldable pub lanes : Rule (Statement × ℕ)
 lanes = the (codes "lanes") then λ _. token an_end then λ _. some_lanes then λ all. the (codes "end") then λ _. ended (Lanes all)
 
 -- a number of replicas, 1 to 8
@@ -208,33 +212,37 @@ count_in _ = None
 abbrev pub a_count : Spot → Option ℕ
 a_count s = count_in s.token
 
--- REPLICAS number ;
-unfoldable pub replicas : Rule (Said × ℕ)
-replicas = the (codes "replicas") then λ _. token a_count then λ n. ended (Replicas n)
+-- the `;` of a statement, which the script's end doesn't stand for, and how many bytes there are after it
+abbrev pub closed : {A : Type 0} → A → Rule (A × ℕ)
+closed a = token a_semicolon then λ left. gives (a, left)
+
+-- REPLICAS number ; of which the `;` is owed even where the script ends
+unfoldable pub replicas : Rule (Statement × ℕ)
+replicas = the (codes "replicas") then λ _. token a_count then λ n. closed (Replicas n)
 
 -- KILL replica ;
-unfoldable pub kill : Rule (Said × ℕ)
+unfoldable pub kill : Rule (Statement × ℕ)
 kill = the (codes "kill") then λ _. token a_word then λ name. ended (Kill name)
 
 -- RESTART replica ;
-unfoldable pub restart : Rule (Said × ℕ)
+unfoldable pub restart : Rule (Statement × ℕ)
 restart = the (codes "restart") then λ _. token a_word then λ name. ended (Restart name)
 
 -- RUN table number SEED number ;
-unfoldable pub run : Rule (Said × ℕ)
+unfoldable pub run : Rule (Statement × ℕ)
 run = the (codes "run") then λ _. token a_word then λ table. token a_number then λ turns. the (codes "seed") then λ _. token a_number then λ seed. ended (Run table turns seed)
 
 -- an act at a replica
-unfoldable pub at_replica : Rule (Said × ℕ)
+unfoldable pub at_replica : Rule (Statement × ℕ)
 at_replica = sent act then λ s. gives (At s.0, s.1)
 
--- a statement that may stand anywhere
-unfoldable pub later_statement : Rule (Said × ℕ)
+-- a statement that may come anywhere
+unfoldable pub later_statement : Rule (Statement × ℕ)
 later_statement =
     either (word (codes "create")) create (either (word (codes "kill")) kill (either (word (codes "restart")) restart (either (word (codes "run")) run
     (either (word (codes "lanes")) lanes at_replica))))
 
--- a whole statement with its end, and how many bytes there are behind it; REPLICAS only as the first
-unfoldable pub statement : Bool → Rule (Said × ℕ)
+-- a whole statement with its end, and how many bytes there are after it; REPLICAS only as the first
+unfoldable pub statement : Bool → Rule (Statement × ℕ)
 statement true = either (word (codes "replicas")) replicas later_statement
 statement false = later_statement

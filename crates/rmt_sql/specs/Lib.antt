@@ -1,4 +1,3 @@
-pub mod Said
 pub mod Grammar
 pub mod Script
 pub mod Views

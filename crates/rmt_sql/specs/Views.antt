@@ -6,10 +6,10 @@ use Rattle.rmt_sql.specs.declared.partition_rule.PartitionRule.{PartitionRule}
 use Rattle.rmt_sql.specs.declared.partition_rule.PartitionRule.TheVariants as rules
 use Rattle.rmt_sql.specs.declared.order.Order.{Order}
 use Rattle.rmt_sql.specs.declared.order.Order.TheVariants as orders
-use Rattle.rmt_tokens.specs.declared.cursor.Cursor.{Cursor}
-use Rattle.rmt_tokens.specs.Tokens.{Spot}
-use Rattle.rmt_tokens.specs.Lexing.{tokens}
-use Rattle.rmt_phrases.specs.Phrases.{Called, Bare, Call}
+use Rattle.rmt_sql_tokens.specs.declared.cursor.Cursor.{Cursor}
+use Rattle.rmt_sql_tokens.specs.Tokens.{Spot}
+use Rattle.rmt_sql_tokens.specs.Lexing.{tokens}
+use Rattle.rmt_sql_filters.specs.Phrases.{Called, Bare, Call}
 use Rattle.rmt_sql.specs.Script.{empty_next, passed}
 
 -- a partition rule as its form calls it
@@ -23,6 +23,6 @@ abbrev pub called_order : Order → Called (List (List ℕ))
 called_order (orders.Column column) = Bare column
 called_order (orders.Names all) = Call all
 
--- what stands behind a `;` of the script, where one stands next
+-- what comes after a `;` of the script, where one comes next
 abbrev pub PassesEmpty : List Spot → Option Cursor → Type 0
 PassesEmpty ts found = MatchOption found (empty_next ts ≡ false) (λ rest. (empty_next ts ≡ true) × (passed ts ≡ passed (tokens rest)) × (length (tokens rest) < length ts))

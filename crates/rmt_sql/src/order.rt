@@ -1,9 +1,10 @@
-use rmt_values::{Name, Names};
+use rmt_list::List;
+use rmt_values::Name;
 
 /// The sorting key of a CREATE.
 #[derive(Debug, Drop)]
 pub enum Order {
     Column(Name),
     /// Columns in parentheses; none for `tuple()`.
-    Names(Names),
+    Names(List<Name>),
 }

@@ -1,22 +1,20 @@
 //! LANES, and statements at a replica.
 ghost use Rattle.std.specs.Prelude.{◌≡◌, [], ◌∷◌, map, codes};
-ghost use Rattle.rmt_tokens.specs.declared.mark.Mark.TheVariants.{At};
-ghost use Rattle.rmt_tokens.specs.Classes.{Sign, next_among};
-ghost use Rattle.rmt_tokens.specs.Lexing.{tokens};
-ghost use Rattle.rmt_tokens.specs.Exact.{Tells, maybe, many, always, item};
-ghost use Rattle.rmt_sql.specs.Said.{said, said_sent};
-ghost use Rattle.rmt_acts.specs.Said.{said_act};
-ghost use Rattle.rmt_phrases.specs.Phrases.{word as word_class};
-ghost use Rattle.rmt_acts.specs.Acts.{row_act as row_act_rule, row_act_firsts, act as act_rule};
+ghost use Rattle.rmt_sql_tokens.specs.declared.symbol_kind.SymbolKind.TheVariants.{At};
+ghost use Rattle.rmt_sql_tokens.specs.Classes.{Sign, next_among};
+ghost use Rattle.rmt_sql_tokens.specs.Lexing.{tokens};
+ghost use Rattle.rmt_sql_tokens.specs.Exact.{ReadsAs, maybe, many, always, item};
+ghost use Rattle.rmt_sql_filters.specs.Phrases.{word as word_class};
+ghost use Rattle.rmt_sql_acts.specs.Acts.{row_act as row_act_rule, row_act_firsts, act as act_rule};
 ghost use Rattle.rmt_sql.specs.Grammar.{replica as replica_rule, lane_statement as statement_rule, lane_firsts, lane as lane_rule, may_follow, some_lanes as some_lanes_rule, lanes as lanes_rule, at_replica as at_rule};
 
-use crate::lane::Lane;
-use crate::lanes::Lanes;
-use crate::sent::Sent;
-use crate::statement::Statement;
-use rmt_acts::{any_act, is_row_act_next, row_act};
-use rmt_phrases::name;
-use rmt_tokens::{Cursor, Mark, ReadError, end, is_keyword_next, is_symbol_next, keyword, symbol};
+use rmt_list::List;
+use rmt_sql_acts::{any_act, is_row_act_next, row_act};
+use rmt_sql_filters::name;
+use rmt_sql_tokens::{
+    Cursor, ReadError, SymbolKind, end, is_keyword_next, is_symbol_next, keyword, symbol,
+};
+use rmt_statements::{Sent, Statement};
 use rmt_values::Name;
 use std::alloc::Global;
 
@@ -26,12 +24,12 @@ const MOST_LANES: usize = 8;
 /// [ @ replica ]
 #[tactic(auto, unfolding(crate::specs::Grammar::replica))]
 fn some_replica(alloc: Global, at: Cursor<'_>) -> Result<(Option<Name>, Cursor<'_>), ReadError>
-    ensures { Tells (λ x. (x.0, tokens x.1)) result ((maybe (Sign At ∷ []) replica_rule).read (tokens at.entry)) }
+    ensures { ReadsAs (λ x. (x.0, tokens x.1)) result ((maybe (Sign At ∷ []) replica_rule).read (tokens at.entry)) }
 {
-    if !is_symbol_next(at, Mark::At) {
+    if !is_symbol_next(at, SymbolKind::At) {
         return Ok((None, at));
     }
-    let at = symbol(at, Mark::At)?;
+    let at = symbol(at, SymbolKind::At)?;
     let (name, at) = name(alloc, at)?;
     Ok((Some(name), at))
 }
@@ -42,7 +40,7 @@ pub(crate) fn at_replica(
     alloc: Global,
     at: Cursor<'_>,
 ) -> Result<(Statement, usize, Cursor<'_>), ReadError>
-    ensures { Tells (λ x. ((said x.0, x.1), tokens x.2)) result ((at_rule).read (tokens at.entry)) }
+    ensures { ReadsAs (λ x. ((x.0, x.1), tokens x.2)) result ((at_rule).read (tokens at.entry)) }
 {
     let (replica, at) = some_replica(alloc, at)?;
     let (act, left, at) = any_act(alloc, at)?;
@@ -52,7 +50,7 @@ pub(crate) fn at_replica(
 /// A statement of a lane, and its end.
 #[tactic(auto, unfolding(crate::specs::Grammar::lane_statement))]
 fn lane_statement(alloc: Global, at: Cursor<'_>) -> Result<(Sent, Cursor<'_>), ReadError>
-    ensures { Tells (λ x. (said_sent x.0, tokens x.1)) result ((statement_rule).read (tokens at.entry)) }
+    ensures { ReadsAs (λ x. (x.0, tokens x.1)) result ((statement_rule).read (tokens at.entry)) }
 {
     let (replica, at) = some_replica(alloc, at)?;
     let (act, _, at) = row_act(alloc, false, at)?;
@@ -63,7 +61,7 @@ fn lane_statement(alloc: Global, at: Cursor<'_>) -> Result<(Sent, Cursor<'_>), R
 fn is_statement_next(at: Cursor<'_>) -> bool
     ensures { result ≡ next_among lane_firsts (tokens at.entry) }
 {
-    is_symbol_next(at, Mark::At) || is_row_act_next(at)
+    is_symbol_next(at, SymbolKind::At) || is_row_act_next(at)
 }
 
 /// One more of the statements.
@@ -72,7 +70,7 @@ fn item_statement<'a>(
     all: &mut Vec<Sent>,
     at: Cursor<'a>,
 ) -> Result<Cursor<'a>, ReadError>
-    ensures { Tells (λ r. (map said_sent all.new.items, tokens r)) result ((item statement_rule (map said_sent all.old.items)).read (tokens at.entry)) }
+    ensures { ReadsAs (λ r. (all.new.items, tokens r)) result ((item statement_rule all.old.items).read (tokens at.entry)) }
 {
     let (one, at) = lane_statement(alloc, at)?;
     all.push(one)?;
@@ -85,7 +83,7 @@ fn more_statements<'a>(
     all: &mut Vec<Sent>,
     at: Cursor<'a>,
 ) -> Result<Cursor<'a>, ReadError>
-    ensures { Tells (λ r. (map said_sent all.new.items, tokens r)) result ((many always lane_firsts (item statement_rule) (map said_sent all.old.items)).read (tokens at.entry)) }
+    ensures { ReadsAs (λ r. (all.new.items, tokens r)) result ((many always lane_firsts (item statement_rule) all.old.items).read (tokens at.entry)) }
 {
     let mut rest = at;
     'statements: loop {
@@ -98,23 +96,23 @@ fn more_statements<'a>(
 
 /// LANE ; { statement ; }
 #[tactic(auto, unfolding(crate::specs::Grammar::lane))]
-fn lane(alloc: Global, at: Cursor<'_>) -> Result<(Lane, Cursor<'_>), ReadError>
-    ensures { Tells (λ x. (map said_sent x.0, tokens x.1)) result ((lane_rule).read (tokens at.entry)) }
+fn lane(alloc: Global, at: Cursor<'_>) -> Result<(List<Sent>, Cursor<'_>), ReadError>
+    ensures { ReadsAs (λ x. (x.0, tokens x.1)) result ((lane_rule).read (tokens at.entry)) }
 {
     let at = keyword(at, b"lane")?;
     let (_, at) = end(at)?;
     let mut all = Vec::new(alloc);
     let at = more_statements(alloc, &mut all, at)?;
-    Ok((Lane::new(all), at))
+    Ok((List::new(all), at))
 }
 
 /// One more of the lanes.
 fn item_lane<'a>(
     alloc: Global,
-    all: &mut Vec<Lane>,
+    all: &mut Vec<List<Sent>>,
     at: Cursor<'a>,
 ) -> Result<Cursor<'a>, ReadError>
-    ensures { Tells (λ r. (map (map said_sent) all.new.items, tokens r)) result ((item lane_rule (map (map said_sent) all.old.items)).read (tokens at.entry)) }
+    ensures { ReadsAs (λ r. (all.new.items, tokens r)) result ((item lane_rule all.old.items).read (tokens at.entry)) }
 {
     let (one, at) = lane(alloc, at)?;
     all.push(one)?;
@@ -122,8 +120,8 @@ fn item_lane<'a>(
 }
 
 /// Whether one more lane may follow these.
-fn is_room(all: &[Lane]) -> bool
-    ensures { result ≡ may_follow (map (map said_sent) all.now) }
+fn is_room(all: &[List<Sent>]) -> bool
+    ensures { result ≡ may_follow all.now }
 {
     all.len() < MOST_LANES
 }
@@ -131,10 +129,10 @@ fn is_room(all: &[Lane]) -> bool
 /// Further lanes, up to 8.
 fn more_lanes<'a>(
     alloc: Global,
-    all: &mut Vec<Lane>,
+    all: &mut Vec<List<Sent>>,
     at: Cursor<'a>,
 ) -> Result<Cursor<'a>, ReadError>
-    ensures { Tells (λ r. (map (map said_sent) all.new.items, tokens r)) result ((many may_follow (word_class (codes "lane")) (item lane_rule) (map (map said_sent) all.old.items)).read (tokens at.entry)) }
+    ensures { ReadsAs (λ r. (all.new.items, tokens r)) result ((many may_follow (word_class (codes "lane")) (item lane_rule) all.old.items).read (tokens at.entry)) }
 {
     let mut rest = at;
     'lanes: loop {
@@ -150,13 +148,13 @@ fn more_lanes<'a>(
 
 /// lane { lane }, at most 8
 #[tactic(auto, unfolding(crate::specs::Grammar::some_lanes))]
-fn some_lanes(alloc: Global, at: Cursor<'_>) -> Result<(Lanes, Cursor<'_>), ReadError>
-    ensures { Tells (λ x. (map (map said_sent) x.0, tokens x.1)) result ((some_lanes_rule).read (tokens at.entry)) }
+fn some_lanes(alloc: Global, at: Cursor<'_>) -> Result<(List<List<Sent>>, Cursor<'_>), ReadError>
+    ensures { ReadsAs (λ x. (x.0, tokens x.1)) result ((some_lanes_rule).read (tokens at.entry)) }
 {
     let mut all = Vec::new(alloc);
     let at = item_lane(alloc, &mut all, at)?;
     let at = more_lanes(alloc, &mut all, at)?;
-    Ok((Lanes::new(all), at))
+    Ok((List::new(all), at))
 }
 
 /// LANES ; lanes END ;
@@ -165,7 +163,7 @@ pub(crate) fn lanes(
     alloc: Global,
     at: Cursor<'_>,
 ) -> Result<(Statement, usize, Cursor<'_>), ReadError>
-    ensures { Tells (λ x. ((said x.0, x.1), tokens x.2)) result ((lanes_rule).read (tokens at.entry)) }
+    ensures { ReadsAs (λ x. ((x.0, x.1), tokens x.2)) result ((lanes_rule).read (tokens at.entry)) }
 {
     let at = keyword(at, b"lanes")?;
     let (_, at) = end(at)?;

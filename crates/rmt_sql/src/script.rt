@@ -1,15 +1,15 @@
 ghost use Rattle.std.specs.Prelude.{◌≡◌, ◌≤◌, ◌==◌, ◌&&◌, not, length, IfOk};
 ghost use Rattle.std.specs.List.{prefix_len};
-ghost use Rattle.rmt_tokens.specs.Lexing.{tokens};
+ghost use Rattle.rmt_sql_tokens.specs.Lexing.{tokens};
 ghost use Rattle.rmt_sql.specs.Views.{PassesEmpty};
-ghost use Rattle.rmt_sql.specs.Script.{passed, empty_next, behind_end, ReadsAt, GoesOn};
+ghost use Rattle.rmt_sql.specs.Script.{passed, empty_next, after_end, ReadsAt, Advances};
 
 use crate::parsed::Parsed;
 use crate::statements::statement;
-use rmt_tokens::{Context, Cursor, ReadError, Token, is_end_next, left, next_token};
+use rmt_sql_tokens::{Context, Cursor, ReadError, Token, is_end_next, left, next_token};
 use std::alloc::{AllocError, Global};
 
-/// What stands behind a `;` of the script, where one stands next.
+/// What comes after a `;` of the script, where one comes next.
 fn next_empty(at: Cursor<'_>) -> Option<Cursor<'_>>
     ensures { PassesEmpty (tokens at.entry) result }
 {
@@ -22,8 +22,8 @@ fn next_empty(at: Cursor<'_>) -> Option<Cursor<'_>>
     }
 }
 
-/// The place behind empty statements.
-fn behind_empty(at: Cursor<'_>) -> Cursor<'_>
+/// The place after empty statements.
+fn after_empty(at: Cursor<'_>) -> Cursor<'_>
     ensures { tokens result ≡ passed (tokens at.entry) }
 {
     let mut rest = at;
@@ -35,7 +35,7 @@ fn behind_empty(at: Cursor<'_>) -> Cursor<'_>
     }
 }
 
-/// Whether nothing but white space and comments stands before the first statement.
+/// Whether nothing but white space and comments comes before the first statement.
 fn is_first(at: usize, here: Cursor<'_>) -> bool
     ensures { result ≡ (at == 0) && not (empty_next (tokens here.entry)) }
 {
@@ -48,7 +48,7 @@ fn is_first(at: usize, here: Cursor<'_>) -> bool
     }
 }
 
-/// How many bytes at the front are not `;`.
+/// How many bytes at the start are not `;`.
 fn piece_len(bytes: &[u8]) -> usize
     ensures len { result ≡ prefix_len (λ b. not (b == 59)) bytes.now }
     ensures bound { result ≤ length bytes.now }
@@ -56,21 +56,21 @@ fn piece_len(bytes: &[u8]) -> usize
     bytes.iter().take_while(|byte| **byte != b';').count()
 }
 
-/// The place behind the first `;` from a place on, or the script's end.
-fn end_behind(script: &[u8], at: usize) -> usize
+/// The place after the first `;` from a place on, or the script's end.
+fn end_after(script: &[u8], at: usize) -> usize
     requires { at ≤ length script.now }
-    ensures { result ≡ behind_end script.now at }
+    ensures { result ≡ after_end script.now at }
 {
     let (_, rest) = script.split_at(at);
     (at + piece_len(rest)).saturating_add(1).min(script.len())
 }
 
-/// Reads what stands next in a script, from the place `at` on. White space, comments and empty statements are passed
+/// Reads what comes next in a script, from the place `at` on. White space, comments and empty statements are passed
 /// over. REPLICAS is read as a statement only at the script's start.
 pub fn next_statement(alloc: Global, script: &[u8], at: usize) -> Result<Parsed, AllocError>
     requires { at ≤ length script.now }
     ensures reads { IfOk result (ReadsAt script.now at) }
-    ensures goes_on { IfOk result (GoesOn script.now at) }
+    ensures advances { IfOk result (Advances script.now at) }
 {
     let (_, ahead) = script.split_at(at);
     let here = Cursor {
@@ -78,7 +78,7 @@ pub fn next_statement(alloc: Global, script: &[u8], at: usize) -> Result<Parsed,
         context: Context::Plain,
     };
     let first = is_first(at, here);
-    let place = behind_empty(here);
+    let place = after_empty(here);
     if is_end_next(place) {
         return Ok(Parsed::End);
     }
@@ -94,7 +94,7 @@ pub fn next_statement(alloc: Global, script: &[u8], at: usize) -> Result<Parsed,
         }
         Err(ReadError::Fault(left)) => {
             let offset = script.len().saturating_sub(left);
-            let end = end_behind(script, offset);
+            let end = end_after(script, offset);
             Ok(Parsed::Syntax { offset, end })
         }
         Err(ReadError::Memory) => Err(AllocError),

@@ -1,15 +1,16 @@
 //! Whole statements.
 ghost use Rattle.std.specs.Prelude.{◌≡◌, true};
-ghost use Rattle.rmt_tokens.specs.Lexing.{tokens};
-ghost use Rattle.rmt_tokens.specs.Exact.{Tells, token};
-ghost use Rattle.rmt_sql.specs.Said.{said};
+ghost use Rattle.rmt_sql_tokens.specs.Lexing.{tokens};
+ghost use Rattle.rmt_sql_tokens.specs.Exact.{ReadsAs, token};
 ghost use Rattle.rmt_sql.specs.Grammar.{count_of as count_in_range, a_count, replicas as replicas_rule, kill as kill_rule, restart as restart_rule, run as run_rule, later_statement as later_rule, statement as statement_rule};
 
 use crate::creates::create;
 use crate::parallel::{at_replica, lanes};
-use crate::statement::Statement;
-use rmt_phrases::name;
-use rmt_tokens::{Cursor, ReadError, Token, end, is_keyword_next, keyword, next_token, number};
+use rmt_sql_filters::name;
+use rmt_sql_tokens::{
+    Cursor, ReadError, Token, end, is_keyword_next, keyword, next_token, number, semicolon,
+};
+use rmt_statements::Statement;
 use std::alloc::Global;
 
 /// A number of replicas: 1 to 8.
@@ -25,7 +26,7 @@ fn count_of(number: u128) -> Option<u8>
 
 /// A number of replicas.
 fn count(at: Cursor<'_>) -> Result<(u8, Cursor<'_>), ReadError>
-    ensures { Tells (λ x. (x.0, tokens x.1)) result ((token a_count).read (tokens at.entry)) }
+    ensures { ReadsAs (λ x. (x.0, tokens x.1)) result ((token a_count).read (tokens at.entry)) }
 {
     match next_token(at) {
         None => Err(ReadError::Fault(0)),
@@ -39,21 +40,21 @@ fn count(at: Cursor<'_>) -> Result<(u8, Cursor<'_>), ReadError>
     }
 }
 
-/// REPLICAS number ;
+/// REPLICAS number ; of which the `;` is owed even where the script ends.
 #[tactic(auto, unfolding(crate::specs::Grammar::replicas))]
 fn replicas(at: Cursor<'_>) -> Result<(Statement, usize, Cursor<'_>), ReadError>
-    ensures { Tells (λ x. ((said x.0, x.1), tokens x.2)) result ((replicas_rule).read (tokens at.entry)) }
+    ensures { ReadsAs (λ x. ((x.0, x.1), tokens x.2)) result ((replicas_rule).read (tokens at.entry)) }
 {
     let at = keyword(at, b"replicas")?;
     let (count, at) = count(at)?;
-    let (left, at) = end(at)?;
+    let (left, at) = semicolon(at)?;
     Ok((Statement::Replicas { count }, left, at))
 }
 
 /// KILL replica ;
 #[tactic(auto, unfolding(crate::specs::Grammar::kill))]
 fn kill(alloc: Global, at: Cursor<'_>) -> Result<(Statement, usize, Cursor<'_>), ReadError>
-    ensures { Tells (λ x. ((said x.0, x.1), tokens x.2)) result ((kill_rule).read (tokens at.entry)) }
+    ensures { ReadsAs (λ x. ((x.0, x.1), tokens x.2)) result ((kill_rule).read (tokens at.entry)) }
 {
     let at = keyword(at, b"kill")?;
     let (replica, at) = name(alloc, at)?;
@@ -64,7 +65,7 @@ fn kill(alloc: Global, at: Cursor<'_>) -> Result<(Statement, usize, Cursor<'_>),
 /// RESTART replica ;
 #[tactic(auto, unfolding(crate::specs::Grammar::restart))]
 fn restart(alloc: Global, at: Cursor<'_>) -> Result<(Statement, usize, Cursor<'_>), ReadError>
-    ensures { Tells (λ x. ((said x.0, x.1), tokens x.2)) result ((restart_rule).read (tokens at.entry)) }
+    ensures { ReadsAs (λ x. ((x.0, x.1), tokens x.2)) result ((restart_rule).read (tokens at.entry)) }
 {
     let at = keyword(at, b"restart")?;
     let (replica, at) = name(alloc, at)?;
@@ -75,7 +76,7 @@ fn restart(alloc: Global, at: Cursor<'_>) -> Result<(Statement, usize, Cursor<'_
 /// RUN table number SEED number ;
 #[tactic(auto, unfolding(crate::specs::Grammar::run))]
 fn run(alloc: Global, at: Cursor<'_>) -> Result<(Statement, usize, Cursor<'_>), ReadError>
-    ensures { Tells (λ x. ((said x.0, x.1), tokens x.2)) result ((run_rule).read (tokens at.entry)) }
+    ensures { ReadsAs (λ x. ((x.0, x.1), tokens x.2)) result ((run_rule).read (tokens at.entry)) }
 {
     let at = keyword(at, b"run")?;
     let (table, at) = name(alloc, at)?;
@@ -86,13 +87,13 @@ fn run(alloc: Global, at: Cursor<'_>) -> Result<(Statement, usize, Cursor<'_>), 
     Ok((Statement::Run { table, turns, seed }, left, at))
 }
 
-/// A statement that may stand anywhere.
+/// A statement that may come anywhere.
 #[tactic(auto, unfolding(crate::specs::Grammar::later_statement))]
 fn later_statement(
     alloc: Global,
     at: Cursor<'_>,
 ) -> Result<(Statement, usize, Cursor<'_>), ReadError>
-    ensures { Tells (λ x. ((said x.0, x.1), tokens x.2)) result ((later_rule).read (tokens at.entry)) }
+    ensures { ReadsAs (λ x. ((x.0, x.1), tokens x.2)) result ((later_rule).read (tokens at.entry)) }
 {
     if is_keyword_next(at, b"create") {
         return create(alloc, at);
@@ -118,7 +119,7 @@ fn first_statement(
     alloc: Global,
     at: Cursor<'_>,
 ) -> Result<(Statement, usize, Cursor<'_>), ReadError>
-    ensures { Tells (λ x. ((said x.0, x.1), tokens x.2)) result ((statement_rule true).read (tokens at.entry)) }
+    ensures { ReadsAs (λ x. ((x.0, x.1), tokens x.2)) result ((statement_rule true).read (tokens at.entry)) }
 {
     if is_keyword_next(at, b"replicas") {
         return replicas(at);
@@ -133,7 +134,7 @@ pub(crate) fn statement(
     is_first: bool,
     at: Cursor<'_>,
 ) -> Result<(Statement, usize, Cursor<'_>), ReadError>
-    ensures { Tells (λ x. ((said x.0, x.1), tokens x.2)) result ((statement_rule is_first).read (tokens at.entry)) }
+    ensures { ReadsAs (λ x. ((x.0, x.1), tokens x.2)) result ((statement_rule is_first).read (tokens at.entry)) }
 {
     if is_first {
         return first_statement(alloc, at);

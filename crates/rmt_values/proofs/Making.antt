@@ -63,7 +63,7 @@ place-within i (c ∷ cs) n h = go (bytes_eq c.name n) h (place-within (i + 1) c
   go true h r = (omega arith, omega arith)
   go false h r = let w = r h in (omega (arith, w.0), omega (arith, w.1))
 
--- two names of columns that stand at one place are one
+-- two names of columns at one place are one
 same-place : (i : ℕ) (cs : List Column) (n m : List ℕ) → has_name (names_of cs) n ≡ true → has_name (names_of cs) m ≡ true → place i cs n ≡ place i cs m → n ≡ m
 same-place i [] n m p q e = absurd (cc)
 same-place i (c ∷ cs) n m p q e =
@@ -81,7 +81,7 @@ same-place i (c ∷ cs) n m p q e =
     go false true u v p q e l r f = absurd (let w = l p in omega (arith, w.0, e))
     go false false u v p q e l r f = f p q e
 
--- a name that isn't among others stands at another place than they do
+-- a name that isn't among others is at another place than they are
 other-places : (cs : List Column) (n : List ℕ) (ns : List (List ℕ)) → has_name (names_of cs) n ≡ true → first_unknown (names_of cs) ns ≡ None → HasNot n ns → HasNot (place 0 cs n) (places_of cs ns)
 other-places cs n [] h k d = tt
 other-places cs n (m ∷ ms) h k d =

@@ -48,7 +48,7 @@ module _ {X : Type 0} (cmp : X → X → Ordering) (o : IsTotalOrder cmp) where
   Low x [] = Unit {0}
   Low x (y ∷ ys) = (is_gt (cmp x y) ≡ false) × Low x ys
 
-  -- each is above none behind it
+  -- each is above none after it
   abbrev pub Up : List X → Type 0
   Up [] = Unit {0}
   Up (x ∷ xs) = Low x xs × Up xs

@@ -3,4 +3,6 @@ pub mod Schemas
 pub mod Order
 pub mod Filters
 pub mod Commands
-pub mod Inside
+pub mod Literals
+pub mod Aggregates
+pub mod NameSets

@@ -9,7 +9,7 @@ abbrev pub sink : {X : Type 0} → (X → X → Ordering) → X → List X → L
 sink cmp x [] = x ∷ []
 sink cmp x (y ∷ ys) = cond (is_gt (cmp x y)) (y ∷ sink cmp x ys) (x ∷ y ∷ ys)
 
--- the elements in order, ties as they stood
+-- the elements in order, ties as they were
 abbrev pub in_order : {X : Type 0} → (X → X → Ordering) → List X → List X
 in_order cmp [] = []
 in_order cmp (x ∷ xs) = sink cmp x (in_order cmp xs)
@@ -19,19 +19,11 @@ abbrev pub tally : {X : Type 0} → (X → ℕ) → List X → ℕ
 tally f [] = 0
 tally f (x ∷ xs) = f x + tally f xs
 
--- the lists have the same elements, each as often: every weighing tells them to be alike
+-- the lists have the same elements, each as often: every weighing finds them alike
 abbrev pub SameBag : {X : Type 0} → List X → List X → Type 0
 SameBag {X} xs ys = (f : X → ℕ) → tally f xs ≡ tally f ys
-
--- what ties is the same
-abbrev pub IsExact : {X : Type 0} → (X → X → Ordering) → Type 0
-IsExact {X} cmp = (x y : X) → cmp x y ≡ Equal → x ≡ y
 
 -- a fold over a list, its last element first
 abbrev pub folded : {X S : Type 0} → (X → S → S) → S → List X → S
 folded step start [] = start
 folded step start (x ∷ xs) = step x (folded step start xs)
-
--- two steps may change places
-abbrev pub Commutes : {X S : Type 0} → (X → S → S) → Type 0
-Commutes {X} {S} step = (x y : X) (s : S) → step x (step y s) ≡ step y (step x s)

@@ -68,7 +68,7 @@ place_from i (c ∷ cs) name = cond (pointwise nat_eq c.name name) (Some i) (pla
 abbrev pub kind_at : List Column → ℕ → Option Kind
 kind_at columns i = option_map (λ c. c.kind) (slice_get columns i)
 
--- numbers as numbers, texts by their bytes; kinds stand apart
+-- numbers as numbers, texts by their bytes; different types in the order of the types
 abbrev pub value_cmp : Value → Value → Ordering
 value_cmp (UInt a) (UInt b) = nat_cmp a b
 value_cmp (UInt a) (Int b) = Less
@@ -95,6 +95,6 @@ key_of key row = map (λ c. slice_get row c) key
 abbrev pub key_cmp : List ℕ → List Value → List Value → Ordering
 key_cmp key a b = slice_cmp cell_cmp (key_of key a) (key_of key b)
 
--- rows in the order of their keys; those of equal keys as they stood
+-- rows in the order of their keys; those of equal keys as they were
 unfoldable pub in_key_order : Shape → List (List Value) → List (List Value)
 in_key_order shape rows = in_order (key_cmp shape.key) rows

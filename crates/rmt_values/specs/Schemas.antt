@@ -26,7 +26,7 @@ abbrev pub first_unknown : List (List ℕ) → List (List ℕ) → Option (List 
 first_unknown known [] = None
 first_unknown known (n ∷ ns) = cond (has_name known n) (first_unknown known ns) (Some n)
 
--- the first name that stands in the list once more
+-- the first name that the list has again after it
 abbrev pub first_double : List (List ℕ) → Option (List ℕ)
 first_double [] = None
 first_double (n ∷ ns) = cond (has_name ns n) (Some n) (first_double ns)

@@ -21,7 +21,7 @@ impl Model for Blob {
 }
 
 impl Blob {
-    /// Takes these bytes over.
+    /// Makes a list of these bytes.
     pub fn new(bytes: Vec<u8>) -> Blob
         ensures { result ≡ bytes.items }
     {
@@ -35,7 +35,7 @@ impl Blob {
         &self.bytes
     }
 
-    /// The same bytes once more.
+    /// Returns a copy.
     pub fn copy(&self) -> Result<Blob, AllocError>
         ensures { IfOk result (λ other. other ≡ self.now) }
     {

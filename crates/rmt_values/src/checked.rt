@@ -1,8 +1,8 @@
-ghost use Rattle.std.specs.Prelude.{◌≡◌, IfOk};
-ghost use Rattle.rmt_values.specs.Filters.{Alike};
+ghost use Rattle.std.specs.Prelude.{◌≡◌, ◌↔◌, IsTrue, IfOk};
 
 use crate::cmp::Cmp;
 use crate::value::Value;
+use rmt_list::{Boxed, Equals};
 use std::alloc::{AllocError, Global};
 
 /// A filter over the columns of a schema, with places in place of names and values in place of literals.
@@ -10,15 +10,15 @@ use std::alloc::{AllocError, Global};
 pub enum Checked {
     /// The column at this place, counted from 0, compared with a value.
     Test { column: u16, cmp: Cmp, value: Value },
-    Both(Box<Checked>, Box<Checked>),
-    Either(Box<Checked>, Box<Checked>),
-    Not(Box<Checked>),
+    Both(Boxed<Checked>, Boxed<Checked>),
+    Either(Boxed<Checked>, Boxed<Checked>),
+    Not(Boxed<Checked>),
 }
 
 impl Checked {
-    /// The same filter once more, in memory of its own.
+    /// Returns a copy.
     pub fn copy(&self, alloc: Global) -> Result<Checked, AllocError>
-        ensures { IfOk result (λ other. Alike self.now other) }
+        ensures { IfOk result (λ other. other ≡ self.now) }
     {
         match self {
             Checked::Test { column, cmp, value } => Ok(Checked::Test {
@@ -27,26 +27,42 @@ impl Checked {
                 value: value.copy()?,
             }),
             Checked::Both(first, second) => {
-                let (first, second) = (first.copy(alloc)?, second.copy(alloc)?);
-                Ok(Checked::Both(boxed(alloc, first)?, boxed(alloc, second)?))
+                let (first, second) = (first.get().copy(alloc)?, second.get().copy(alloc)?);
+                Ok(Checked::Both(Boxed::new(alloc, first)?, Boxed::new(alloc, second)?))
             }
             Checked::Either(first, second) => {
-                let (first, second) = (first.copy(alloc)?, second.copy(alloc)?);
-                Ok(Checked::Either(boxed(alloc, first)?, boxed(alloc, second)?))
+                let (first, second) = (first.get().copy(alloc)?, second.get().copy(alloc)?);
+                Ok(Checked::Either(Boxed::new(alloc, first)?, Boxed::new(alloc, second)?))
             }
             Checked::Not(filter) => {
-                let filter = filter.copy(alloc)?;
-                Ok(Checked::Not(boxed(alloc, filter)?))
+                let filter = filter.get().copy(alloc)?;
+                Ok(Checked::Not(Boxed::new(alloc, filter)?))
             }
         }
     }
 }
 
-/// Puts a filter into memory of its own.
-fn boxed(alloc: Global, filter: Checked) -> Result<Box<Checked>, AllocError>
-    ensures { IfOk result (λ b. b.value ≡ filter) }
-{
-    Ok(Box::new(alloc, filter)?)
+impl Equals for Checked {
+    fn equals(&self, other: &Checked) -> bool
+        ensures fact { IsTrue result ↔ (self.now ≡ other.now) }
+    {
+        match (self, other) {
+            (
+                Checked::Test { column, cmp, value },
+                Checked::Test {
+                    column: other_column,
+                    cmp: other_cmp,
+                    value: other_value,
+                },
+            ) => column == other_column && cmp == other_cmp && value.equals(other_value),
+            (Checked::Both(f, g), Checked::Both(other_f, other_g))
+            | (Checked::Either(f, g), Checked::Either(other_f, other_g)) => {
+                f.get().equals(other_f.get()) && g.get().equals(other_g.get())
+            }
+            (Checked::Not(f), Checked::Not(other_f)) => f.get().equals(other_f.get()),
+            _ => false,
+        }
+    }
 }
 
 #[cfg(test)]
@@ -54,8 +70,8 @@ mod tests {
     use super::*;
     use std::test::Fail;
 
-    fn test_of(alloc: Global, column: u16) -> Result<Box<Checked>, Fail> {
-        Ok(Box::new(
+    fn test_of(alloc: Global, column: u16) -> Result<Boxed<Checked>, Fail> {
+        Ok(Boxed::new(
             alloc,
             Checked::Test {
                 column,
@@ -69,8 +85,8 @@ mod tests {
     fn a_copy_is_the_same_filter(rt: HostRuntime) -> Result<(), Fail> {
         let alloc = rt.alloc();
         let both = Checked::Both(test_of(alloc, 0)?, test_of(alloc, 1)?);
-        let either = Checked::Either(Box::new(alloc, both)?, test_of(alloc, 2)?);
-        let filter = Checked::Not(Box::new(alloc, either)?);
+        let either = Checked::Either(Boxed::new(alloc, both)?, test_of(alloc, 2)?);
+        let filter = Checked::Not(Boxed::new(alloc, either)?);
         let (one, other) = (
             format!(in alloc; "{filter:?}")?,
             format!(in alloc; "{:?}", filter.copy(alloc)?)?,

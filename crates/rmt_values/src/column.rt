@@ -12,7 +12,7 @@ pub struct Column {
 }
 
 impl Column {
-    /// The same column once more.
+    /// Returns a copy.
     pub fn copy(&self) -> Result<Column, AllocError>
         ensures { IfOk result (λ other. other ≡ self.now) }
     {

@@ -1,9 +1,9 @@
-ghost use Rattle.std.specs.Prelude.{◌≡◌, IfOk};
-ghost use Rattle.rmt_values.specs.Filters.{AlikeWritten};
+ghost use Rattle.std.specs.Prelude.{◌≡◌, ◌↔◌, IsTrue, IfOk};
 
 use crate::cmp::Cmp;
 use crate::literal::Literal;
 use crate::name::Name;
+use rmt_list::{Boxed, Equals};
 use std::alloc::{AllocError, Global};
 
 /// A filter as a statement writes it.
@@ -15,15 +15,15 @@ pub enum Filter {
         cmp: Cmp,
         literal: Literal,
     },
-    Both(Box<Filter>, Box<Filter>),
-    Either(Box<Filter>, Box<Filter>),
-    Not(Box<Filter>),
+    Both(Boxed<Filter>, Boxed<Filter>),
+    Either(Boxed<Filter>, Boxed<Filter>),
+    Not(Boxed<Filter>),
 }
 
 impl Filter {
-    /// The same filter once more, in memory of its own.
+    /// Returns a copy.
     pub fn copy(&self, alloc: Global) -> Result<Filter, AllocError>
-        ensures { IfOk result (λ other. AlikeWritten self.now other) }
+        ensures { IfOk result (λ other. other ≡ self.now) }
     {
         match self {
             Filter::Test {
@@ -36,26 +36,46 @@ impl Filter {
                 literal: literal.copy()?,
             }),
             Filter::Both(first, second) => {
-                let (first, second) = (first.copy(alloc)?, second.copy(alloc)?);
-                Ok(Filter::Both(boxed(alloc, first)?, boxed(alloc, second)?))
+                let (first, second) = (first.get().copy(alloc)?, second.get().copy(alloc)?);
+                Ok(Filter::Both(Boxed::new(alloc, first)?, Boxed::new(alloc, second)?))
             }
             Filter::Either(first, second) => {
-                let (first, second) = (first.copy(alloc)?, second.copy(alloc)?);
-                Ok(Filter::Either(boxed(alloc, first)?, boxed(alloc, second)?))
+                let (first, second) = (first.get().copy(alloc)?, second.get().copy(alloc)?);
+                Ok(Filter::Either(Boxed::new(alloc, first)?, Boxed::new(alloc, second)?))
             }
             Filter::Not(filter) => {
-                let filter = filter.copy(alloc)?;
-                Ok(Filter::Not(boxed(alloc, filter)?))
+                let filter = filter.get().copy(alloc)?;
+                Ok(Filter::Not(Boxed::new(alloc, filter)?))
             }
         }
     }
 }
 
-/// Puts a filter into memory of its own.
-fn boxed(alloc: Global, filter: Filter) -> Result<Box<Filter>, AllocError>
-    ensures { IfOk result (λ b. b.value ≡ filter) }
-{
-    Ok(Box::new(alloc, filter)?)
+impl Equals for Filter {
+    fn equals(&self, other: &Filter) -> bool
+        ensures fact { IsTrue result ↔ (self.now ≡ other.now) }
+    {
+        match (self, other) {
+            (
+                Filter::Test {
+                    column,
+                    cmp,
+                    literal,
+                },
+                Filter::Test {
+                    column: other_column,
+                    cmp: other_cmp,
+                    literal: other_literal,
+                },
+            ) => column.equals(other_column) && cmp == other_cmp && literal.equals(other_literal),
+            (Filter::Both(f, g), Filter::Both(other_f, other_g))
+            | (Filter::Either(f, g), Filter::Either(other_f, other_g)) => {
+                f.get().equals(other_f.get()) && g.get().equals(other_g.get())
+            }
+            (Filter::Not(f), Filter::Not(other_f)) => f.get().equals(other_f.get()),
+            _ => false,
+        }
+    }
 }
 
 #[cfg(test)]
@@ -88,7 +108,7 @@ mod tests {
             b"b",
             Literal::Text(Blob::new(Vec::from_slice(alloc, b"x")?)),
         )?;
-        let both = Filter::Both(Box::new(alloc, a)?, Box::new(alloc, b)?);
+        let both = Filter::Both(Boxed::new(alloc, a)?, Boxed::new(alloc, b)?);
         let c = test_of(
             alloc,
             b"c",
@@ -97,8 +117,8 @@ mod tests {
                 size: 0,
             },
         )?;
-        let either = Filter::Either(Box::new(alloc, both)?, Box::new(alloc, c)?);
-        let filter = Filter::Not(Box::new(alloc, either)?);
+        let either = Filter::Either(Boxed::new(alloc, both)?, Boxed::new(alloc, c)?);
+        let filter = Filter::Not(Boxed::new(alloc, either)?);
         let (one, other) = (
             format!(in alloc; "{filter:?}")?,
             format!(in alloc; "{:?}", filter.copy(alloc)?)?,

@@ -37,7 +37,7 @@ impl Name {
         &self.bytes
     }
 
-    /// The same name once more.
+    /// Returns a copy.
     pub fn copy(&self) -> Result<Name, AllocError>
         ensures { IfOk result (λ other. other ≡ self.now) }
     {

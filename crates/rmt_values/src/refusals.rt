@@ -6,7 +6,7 @@ ghost use Rattle.rmt_values.specs.Schemas.{wrong_setting, schema_refusal, places
 use crate::column::Column;
 use crate::limit::Limit;
 use crate::name::Name;
-use crate::naming::{double_column, double_name, unknown_column};
+use crate::name_sets::{double_column, double_name, unknown_column};
 use crate::schema_error::SchemaError;
 use std::alloc::{AllocError, Global};
 

@@ -1,5 +1,5 @@
-ghost use Rattle.std.specs.Prelude.{◌≡◌, ◌⊎◌, slice_get, IfOk, IfErr};
-ghost use Rattle.rmt_values.specs.Rows.{fits, key_cmp, cell_cmp, place_from, kind_at};
+ghost use Rattle.std.specs.Prelude.{◌≡◌, ◌⊎◌, IfOk, IfErr};
+ghost use Rattle.rmt_values.specs.Rows.{fits, key_cmp, place_from, kind_at};
 ghost use Rattle.rmt_values.specs.Schemas.{IsSchema, schema_refusal, shape_of};
 
 use crate::column::Column;
@@ -8,7 +8,6 @@ use crate::name::Name;
 use crate::refusals::{place_of, places_of, refusal_of};
 use crate::row::Row;
 use crate::schema_error::SchemaError;
-use crate::value::Value;
 use std::alloc::Global;
 use std::cmp::Ordering;
 use std::marker::Model;
@@ -130,27 +129,7 @@ impl Schema {
     pub fn key_order(&self, a: &Row, b: &Row) -> Ordering
         ensures { result ≡ key_cmp self.now.key a.now b.now }
     {
-        let (left, right) = (a.values(), b.values());
-        'columns: for column in &self.key {
-            let at = *column as usize;
-            match compare_at(left, right, at) {
-                Ordering::Equal => {}
-                order => return order,
-            }
-        }
-        Ordering::Equal
-    }
-}
-
-/// The order of the values at one place; a missing one comes first.
-fn compare_at(left: &[Value], right: &[Value], at: usize) -> Ordering
-    ensures { result ≡ cell_cmp (slice_get left.now at) (slice_get right.now at) }
-{
-    match (left.get(at), right.get(at)) {
-        (Some(a), Some(b)) => a.compare(b),
-        (Some(_), None) => Ordering::Greater,
-        (None, Some(_)) => Ordering::Less,
-        (None, None) => Ordering::Equal,
+        a.compare_by(&self.key, b)
     }
 }
 
@@ -158,6 +137,7 @@ fn compare_at(left: &[Value], right: &[Value], at: usize) -> Ordering
 mod tests {
     use super::*;
     use crate::blob::Blob;
+    use crate::value::Value;
     use std::alloc::AllocError;
     use std::test::Fail;
 
@@ -197,7 +177,7 @@ mod tests {
     }
 
     /// Whether the answer is this one, with this name where it keeps one.
-    fn is_told(made: Result<Schema, SchemaError>, word: &str, name: &[u8]) -> bool {
+    fn is_answer(made: Result<Schema, SchemaError>, word: &str, name: &[u8]) -> bool {
         match made {
             Ok(_) => word == "made",
             Err(SchemaError::NoColumns) => word == "no columns",
@@ -232,7 +212,7 @@ mod tests {
         Ok(schema.key_order(&a, &b))
     }
 
-    /// The order of two rows by a key of these columns: `u` stands first, then `s`.
+    /// The order of two rows by a key of these columns: first `u`, then `s`.
     fn order_by(
         alloc: Global,
         key: &[u8],
@@ -254,29 +234,29 @@ mod tests {
     }
 
     #[test]
-    fn the_first_refusal_is_told(rt: HostRuntime) {
+    fn the_first_refusal_is_returned(rt: HostRuntime) {
         let alloc = rt.alloc();
-        assert!(rt; is_told(made(alloc, b"", b"x", 0, 100_001), "no columns", b""));
-        assert!(rt; is_told(made(alloc, b"abba", b"axy", 0, 100_001), "unknown", b"x"));
-        assert!(rt; is_told(made(alloc, b"abba", b"bb", 0, 100_001), "double", b"a"));
-        assert!(rt; is_told(made(alloc, b"cabb", b"aa", 0, 100_001), "double", b"b"));
-        assert!(rt; is_told(made(alloc, b"abc", b"cbbc", 0, 100_001), "double", b"c"));
+        assert!(rt; is_answer(made(alloc, b"", b"x", 0, 100_001), "no columns", b""));
+        assert!(rt; is_answer(made(alloc, b"abba", b"axy", 0, 100_001), "unknown", b"x"));
+        assert!(rt; is_answer(made(alloc, b"abba", b"bb", 0, 100_001), "double", b"a"));
+        assert!(rt; is_answer(made(alloc, b"cabb", b"aa", 0, 100_001), "double", b"b"));
+        assert!(rt; is_answer(made(alloc, b"abc", b"cbbc", 0, 100_001), "double", b"c"));
         assert!(rt;
-            is_told(
+            is_answer(
                 made(alloc, b"a", b"a", 0, 100_001),
                 "wrong",
                 b"index_granularity"
             )
         );
         assert!(rt;
-            is_told(
+            is_answer(
                 made(alloc, b"a", b"a", 65_537, 0),
                 "wrong",
                 b"index_granularity"
             )
         );
         assert!(rt;
-            is_told(
+            is_answer(
                 made(alloc, b"a", b"a", 1, 100_001),
                 "wrong",
                 b"replicated_deduplication_window"
@@ -288,9 +268,9 @@ mod tests {
     fn there_are_64_columns_at_most(rt: HostRuntime) -> Result<(), Fail> {
         let alloc = rt.alloc();
         let (most, more) = (letters(alloc, 64)?, letters(alloc, 65)?);
-        assert!(rt; is_told(made(alloc, &more, b"", 0, 0), "wrong", b"index_granularity"));
-        assert!(rt; is_told(made(alloc, &more, b"", 65_536, 100_000), "limit", b""));
-        assert!(rt; is_told(made(alloc, &most, &most, 65_536, 100_000), "made", b""));
+        assert!(rt; is_answer(made(alloc, &more, b"", 0, 0), "wrong", b"index_granularity"));
+        assert!(rt; is_answer(made(alloc, &more, b"", 65_536, 100_000), "limit", b""));
+        assert!(rt; is_answer(made(alloc, &most, &most, 65_536, 100_000), "made", b""));
         Ok(())
     }
 

@@ -12,7 +12,7 @@ pub enum SchemaError {
     NoColumns,
     /// A name in the key that no column has.
     UnknownColumn(Name),
-    /// A name that two columns have, or that stands in the key twice.
+    /// A name that two columns have, or that the key has twice.
     DoubleColumn(Name),
     /// A setting whose number is out of its range.
     WrongType(Name),

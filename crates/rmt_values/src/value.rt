@@ -1,8 +1,9 @@
-ghost use Rattle.std.specs.Prelude.{◌≡◌, IfOk};
+ghost use Rattle.std.specs.Prelude.{◌≡◌, ◌↔◌, IsTrue, IfOk};
 ghost use Rattle.rmt_values.specs.Rows.{value_cmp, kind_of, is_of as is_of_kind};
 
 use crate::blob::Blob;
 use crate::kind::Kind;
+use rmt_list::Equals;
 use std::alloc::AllocError;
 use std::cmp::Ordering;
 
@@ -40,7 +41,7 @@ impl Value {
         }
     }
 
-    /// The order of values: numbers as numbers, Strings by their bytes. Values of different types stand apart, in the
+    /// The order of values: numbers as numbers, Strings by their bytes. Values of different types are in the
     /// order of the types.
     pub fn compare(&self, other: &Value) -> Ordering
         ensures { result ≡ value_cmp self.now other.now }
@@ -56,7 +57,7 @@ impl Value {
         }
     }
 
-    /// The same value once more.
+    /// Returns a copy.
     pub fn copy(&self) -> Result<Value, AllocError>
         ensures { IfOk result (λ other. other ≡ self.now) }
     {
@@ -64,6 +65,19 @@ impl Value {
             Value::UInt(a) => Ok(Value::UInt(*a)),
             Value::Int(a) => Ok(Value::Int(*a)),
             Value::Text(a) => Ok(Value::Text(a.copy()?)),
+        }
+    }
+}
+
+impl Equals for Value {
+    fn equals(&self, other: &Value) -> bool
+        ensures fact { IsTrue result ↔ (self.now ≡ other.now) }
+    {
+        match (self, other) {
+            (Value::UInt(a), Value::UInt(b)) => a == b,
+            (Value::Int(a), Value::Int(b)) => a == b,
+            (Value::Text(a), Value::Text(b)) => a.is(b),
+            _ => false,
         }
     }
 }

@@ -2,7 +2,7 @@ use Rattle.std.proofs.Common.{rules, ◌≡◌}
 use Rattle.std.specs.declared.option.Option.TheVariants.{None}
 use Rattle.rmt_values.specs.Schemas.{first_double}
 use Rattle.rmt_expr.specs.Mutations.{key_in_sets, lefts}
-use Rattle.rmt_expr.specs.Inside.{ArePlaced}
+use Rattle.rmt_expr.specs.Placed.{ArePlaced}
 use Rattle.rmt_expr.proofs.SetLemmas.{are_sets, sets_fit}
 use Rattle.rmt_expr.proofs.mutations.check_update.Goals as goal
 

@@ -1,6 +1,6 @@
 use Rattle.std.proofs.Common.{◌≡◌, length}
 use Rattle.rmt_expr.specs.Queries.{unknown_in_items}
-use Rattle.rmt_expr.specs.Inside.{ItemsGoOn}
+use Rattle.rmt_expr.proofs.Progress.{ItemsGoOn}
 use Rattle.rmt_expr.proofs.queries.placed_items.Given as goal
 
 abbrev pub invariant-items : goal.invariant-items

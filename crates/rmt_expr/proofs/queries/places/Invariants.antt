@@ -1,6 +1,6 @@
 use Rattle.std.proofs.Common.{◌≡◌, length}
 use Rattle.rmt_expr.specs.Queries.{unknown_in_names}
-use Rattle.rmt_expr.specs.Inside.{NamesGoOn}
+use Rattle.rmt_expr.proofs.Progress.{NamesGoOn}
 use Rattle.rmt_expr.proofs.queries.places.Given as goal
 
 abbrev pub invariant-names : goal.invariant-names

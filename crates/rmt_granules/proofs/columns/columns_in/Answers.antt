@@ -2,7 +2,7 @@ use Rattle.std.proofs.Common.{rules, ◌≡◌, List, length, sym, ap, ◌∙◌
 use Rattle.std.specs.Vec.Iter.{into_iter_items}
 use Rattle.rmt_values.specs.declared.value.Value.{Value}
 use Rattle.rmt_granules.specs.Columns.{ColumnView, kinds_of}
-use Rattle.rmt_granules.specs.Making.{with_row}
+use Rattle.rmt_granules.specs.MadePart.{with_row}
 use Rattle.rmt_granules.proofs.Transposed.{HavePut, put-none, put-kinds, put-more, put-all, length-with_row, written, length-none}
 use Rattle.rmt_granules.proofs.columns.columns_in.Goals as goal
 

@@ -1,5 +1,5 @@
 use Rattle.std.proofs.Common.{◌≡◌, ◌++◌, drop}
-use Rattle.rmt_granules.specs.Making.{row_at as cells_at}
+use Rattle.rmt_granules.specs.MadePart.{row_at as cells_at}
 use Rattle.rmt_granules.proofs.columns.row_at.Given as goal
 
 abbrev pub invariant-columns : goal.invariant-columns

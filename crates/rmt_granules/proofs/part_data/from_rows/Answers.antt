@@ -2,7 +2,7 @@ use Rattle.std.proofs.Common.{rules, ◌≡◌, ℕ, List, length, sym, ap, ◌�
 use Rattle.rmt_values.specs.declared.value.Value.{Value}
 use Rattle.rmt_granules.specs.Columns.{rows_of, kinds_of, AreLong}
 use Rattle.rmt_granules.specs.Granules.{IsPart, marks_of}
-use Rattle.rmt_granules.specs.Making.{kinds_in}
+use Rattle.rmt_granules.specs.MadePart.{kinds_in}
 use Rattle.rmt_granules.proofs.Made.{part-made, same-data}
 use Rattle.rmt_granules.proofs.part_data.from_rows.Goals as goal
 

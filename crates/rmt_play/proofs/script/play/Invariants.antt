@@ -1,12 +1,12 @@
-use Rattle.std.proofs.Common.{◌≤◌, ◌-◌, length}
-use Rattle.rmt_play.proofs.Playing.{SoFar}
+use Rattle.std.proofs.Common.{◌≡◌, ◌≤◌, ◌-◌, length}
+use Rattle.rmt_play.proofs.ScriptLemmas.{SoFar}
 use Rattle.rmt_play.proofs.script.play.Given as goal
 
 abbrev pub invariant-statements : goal.invariant-statements
 invariant-statements g l = record {
   within : l.at ≤ length l.script;
   few : l.refused ≤ l.at;
-  later : g.K.Sink.faults l.fn.sink ≤ g.K.Sink.faults l.sink;
+  quiet : g.K.Sink.faults l.sink ≡ g.K.Sink.faults l.fn.sink;
   so_far : SoFar l.script l.at l.player (g.K.Sink.written l.fn.sink) (g.K.Sink.written l.sink) l.refused;
 }
 

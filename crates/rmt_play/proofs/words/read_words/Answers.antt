@@ -2,7 +2,7 @@ use Rattle.std.proofs.Common.{◌≡◌, ◌∙◌, ap, ap₂, sym, map, codes, 
 use Rattle.std.specs.String.{string_bytes}
 use Rattle.std.proofs.lemmas.Result.{IfErr-weaker, IfOk-weaker}
 use Rattle.clap.specs.Words.{app_of, is_simple, subcommand_of, takes}
-use Rattle.rmt_play.specs.Words.{program}
+use Rattle.rmt_play.specs.CommandWords.{program}
 use Rattle.rmt_play.proofs.WordLemmas.{only_play, takes_play, meets_play, name-in_rows}
 use Rattle.rmt_play.proofs.words.read_words.Goals as goal
 

@@ -4,7 +4,7 @@ use mir.Syntax.{w128}
 use Rattle.std.specs.Prelude.{ℤ}
 use Rattle.rmt_values.specs.declared.cell.Cell.TheVariants as cells
 use Rattle.rmt_values.specs.declared.checked_item.CheckedItem.{CheckedItem}
-use Rattle.rmt_query.specs.Inside.{over}
+use Rattle.rmt_query.specs.OverRows.{over}
 use Rattle.rmt_query.proofs.Over.{over-count-of, over-sum-of}
 use Rattle.rmt_query.proofs.runs.cell_over.Goals as goal
 

@@ -4,7 +4,7 @@ use Rattle.std.proofs.lemmas.List.{get_or_default}
 use Rattle.rmt_values.specs.declared.value.Value.{Value}
 use Rattle.rmt_values.specs.declared.checked_item.CheckedItem.TheVariants as item
 use Rattle.rmt_query.specs.Cells.{cell_order, cell_of}
-use Rattle.rmt_query.specs.Inside.{over}
+use Rattle.rmt_query.specs.OverRows.{over}
 use Rattle.rmt_query.proofs.Over.{least-turns, least-stays}
 use Rattle.rmt_query.proofs.runs.least_row.Goals.{in-Greater, in_default}
 use Rattle.rmt_query.proofs.runs.least_row.Goals as goal

@@ -1,6 +1,6 @@
 use Rattle.std.proofs.Common.{◌≡◌, ◌*◌, ◌^◌, drop}
 use Rattle.std.specs.Prelude.{pos, ◌+ℤ◌, ◌≤ℤ◌}
-use Rattle.rmt_query.specs.Inside.{total}
+use Rattle.rmt_query.specs.OverRows.{total}
 use Rattle.rmt_query.proofs.runs.sum_over.Given as goal
 
 abbrev pub invariant-rows : goal.invariant-rows

@@ -1,5 +1,5 @@
 use Rattle.std.proofs.Common.{◌≡◌, map, take}
-use Rattle.rmt_query.specs.Inside.{over}
+use Rattle.rmt_query.specs.OverRows.{over}
 use Rattle.rmt_query.proofs.runs.tuple_over.Given as goal
 
 abbrev pub invariant-items : goal.invariant-items

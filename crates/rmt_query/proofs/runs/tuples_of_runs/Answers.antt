@@ -5,7 +5,7 @@ use Rattle.rmt_values.specs.declared.cell.Cell.{Cell}
 use Rattle.rmt_values.specs.Rows.{key_cmp}
 use Rattle.rmt_values.proofs.Sorting.{Up, Up-from_sort}
 use Rattle.rmt_values.proofs.Totals.{key_cmp_total}
-use Rattle.rmt_query.specs.Inside.{over}
+use Rattle.rmt_query.specs.OverRows.{over}
 use Rattle.rmt_query.proofs.RunLemmas.{tuples, one-run, up-drop}
 use Rattle.rmt_query.proofs.runs.tuples_of_runs.Goals as goal
 

@@ -6,9 +6,9 @@ use Rattle.rmt_reply.proofs.counts.all_in.Goals as goal
 pub parts-preserved : goal.parts-preserved
 parts-preserved c =
     let (made, bound) = c.parts.invariant in
-    let front = take c.parts.one-index c.args.parts.now in
+    let prefix = take c.parts.one-index c.args.parts.now in
     let more = take_more c.args.parts.now c.parts.one-index c.one-item.result c.parts-test.true in
     let fits : c.one-item.result.2 < 2 ^ 64 = search rules in (
-      rw (more, ← c.one-item.is, map-append (λ g. g.2) front _, sum_of-more (map (λ g. g.2) front) c.one-item.result.2) (ap (λ n. n + c.one-item.result.2) made),
+      rw (more, ← c.one-item.is, map-append (λ g. g.2) prefix _, sum_of-more (map (λ g. g.2) prefix) c.one-item.result.2) (ap (λ n. n + c.one-item.result.2) made),
       omega (arith, bound, fits),
     )

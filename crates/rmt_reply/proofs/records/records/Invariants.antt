@@ -1,5 +1,5 @@
 use Rattle.std.proofs.Common.{◌≡◌, take}
-use Rattle.rmt_reply.specs.Inside.{IsBetweenRecords, text_in}
+use Rattle.rmt_reply.specs.RecordWriters.{IsBetweenRecords, text_in}
 use Rattle.rmt_reply.specs.Printed.{records_text}
 use Rattle.rmt_reply.proofs.records.records.Given as goal
 

@@ -1,15 +1,15 @@
 use Rattle.std.proofs.Common.{◌≡◌, ◌∙◌, Ok, sym, Bool, true, false, refl}
 use Rattle.std.specs.Prelude.{◌&&◌}
 use Rattle.std.proofs.lemmas.Result.{err_from_is_err_and}
-use Rattle.rmt_tokens.specs.Lexing.{tokens}
-use Rattle.rmt_tokens.specs.Classes.{next_among}
-use Rattle.rmt_tokens.specs.Exact.{never, Fails}
-use Rattle.rmt_tokens.proofs.Laws.{Law, law_then}
-use Rattle.rmt_tokens.proofs.Loops.{left_stop, left_fails, left_on, takes_some}
+use Rattle.rmt_sql_tokens.specs.Lexing.{tokens}
+use Rattle.rmt_sql_tokens.specs.Classes.{next_among}
+use Rattle.rmt_sql_tokens.specs.Exact.{never, Fails}
+use Rattle.rmt_sql_tokens.proofs.Laws.{Law, law_then}
+use Rattle.rmt_sql_tokens.proofs.Loops.{left_stop, left_fails, left_on, takes_some}
 use Rattle.rmt_sql.specs.declared.settings.Settings.{Settings}
 use Rattle.rmt_sql.specs.Grammar.{may_set, further_setting}
-use Rattle.rmt_phrases.specs.Phrases.{comma}
-use Rattle.rmt_phrases.proofs.PhraseLaws.{comma_law}
+use Rattle.rmt_sql_filters.specs.Phrases.{comma}
+use Rattle.rmt_sql_filters.proofs.PhraseLaws.{comma_law}
 use Rattle.rmt_sql.proofs.CreateLaws.{setting_law}
 use Rattle.rmt_sql.proofs.creates.more_settings.Goals as goal
 
@@ -45,13 +45,13 @@ returns-in_err-set c =
 
 pub settings-smaller : goal.settings-smaller
 settings-smaller c =
-    let read : (further_setting c.settings.settings).read (tokens c.settings.rest) ≡ Ok (c.in_ok-set.set, tokens c.in_ok-set.behind) = rw c.in-Some.ensures.1 c.in_ok-set.ensures in
-    takes_some (further_setting c.settings.settings) never comma (further_law c.settings.settings (sym c.may_go_on.ensures ∙ c.if-not-may_go_on.false)) (tokens c.settings.rest) c.in_ok-set.set (tokens c.in_ok-set.behind) read
+    let read : (further_setting c.settings.settings).read (tokens c.settings.rest) ≡ Ok (c.in_ok-set.set, tokens c.in_ok-set.later) = rw c.in-Some.ensures.1 c.in_ok-set.ensures in
+    takes_some (further_setting c.settings.settings) never comma (further_law c.settings.settings (sym c.may_go_on.ensures ∙ c.if-not-may_go_on.false)) (tokens c.settings.rest) c.in_ok-set.set (tokens c.in_ok-set.later) read
 
 pub settings-preserved : goal.settings-preserved
 settings-preserved c =
     let may = sym c.may_go_on.ensures ∙ c.if-not-may_go_on.false in
-    let read : (further_setting c.settings.settings).read (tokens c.settings.rest) ≡ Ok (c.in_ok-set.set, tokens c.in_ok-set.behind) = rw c.in-Some.ensures.1 c.in_ok-set.ensures in
-    let less = takes_some (further_setting c.settings.settings) never comma (further_law c.settings.settings may) (tokens c.settings.rest) c.in_ok-set.set (tokens c.in_ok-set.behind) read in
-    left_on may_set comma (λ s. (further_setting s).read) c.settings.settings (tokens c.settings.rest) c.in_ok-set.set (tokens c.in_ok-set.behind) _ c.settings.invariant less
+    let read : (further_setting c.settings.settings).read (tokens c.settings.rest) ≡ Ok (c.in_ok-set.set, tokens c.in_ok-set.later) = rw c.in-Some.ensures.1 c.in_ok-set.ensures in
+    let less = takes_some (further_setting c.settings.settings) never comma (further_law c.settings.settings may) (tokens c.settings.rest) c.in_ok-set.set (tokens c.in_ok-set.later) read in
+    left_on may_set comma (λ s. (further_setting s).read) c.settings.settings (tokens c.settings.rest) c.in_ok-set.set (tokens c.in_ok-set.later) _ c.settings.invariant less
     (both_true (may_set c.settings.settings) (next_among comma (tokens c.settings.rest)) may c.in-Some.ensures.0) read

@@ -3,7 +3,7 @@ use Rattle.std.proofs.Common.{slice_get, Some, None}
 use Rattle.std.proofs.lemmas.Option.{slice_get_past}
 use Rattle.rmt_values.specs.declared.value.Value.{Value}
 use Rattle.rmt_granules.specs.Columns.{rows_of}
-use Rattle.rmt_granules.specs.Making.{row_at}
+use Rattle.rmt_granules.specs.MadePart.{row_at}
 use Rattle.rmt_granules.specs.Granules.{PartView}
 use Rattle.rmt_granules.proofs.Transposed.{length-rows_of, slice_get-rows_of}
 use Rattle.rmt_granules.proofs.part_data.PartData.row.Goals as goal

@@ -3,7 +3,7 @@ use Rattle.std.specs.List.{insert}
 use Rattle.std.specs.declared.option.Option.TheVariants.{Some}
 use Rattle.rmt_model.specs.Words.{Each}
 use Rattle.rmt_play.specs.World.{Table, World}
-use Rattle.rmt_play.specs.Inside.{ActsAt}
+use Rattle.rmt_play.specs.PlayerSteps.{ActsAt}
 use Rattle.rmt_play.proofs.ActLemmas.{turned-known}
 use Rattle.rmt_play.proofs.TableLemmas.{put-back, get-there, Each-set, Each-there}
 use Rattle.rmt_play.proofs.player.Player.act.Goals as goal
@@ -37,6 +37,6 @@ returns c =
       table = old;
       there = there ∙ ap (λ (t : Table). Some t) (sym c.name.view_is);
       after = c.in_ok-table.table;
-      turns = c.in_ok-table.ensures;
+      executes = c.in_ok-table.ensures;
       rest = ap (λ (ts : List Table). record { replicas = c.self.inside.replicas; tables = ts }) items;
     })

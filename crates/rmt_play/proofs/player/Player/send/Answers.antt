@@ -4,7 +4,7 @@ use Rattle.std.specs.declared.result.Result.{Result}
 use Rattle.rmt_reply.specs.declared.refusal.Refusal.{Refusal}
 use Rattle.rmt_play.specs.World.{Table, World}
 use Rattle.rmt_play.specs.Checks.{replica_at}
-use Rattle.rmt_play.specs.Inside.{IsPlaceOf}
+use Rattle.rmt_play.specs.PlayerSteps.{IsPlaceOf}
 use Rattle.rmt_play.proofs.SendLemmas.{sends}
 use Rattle.rmt_play.proofs.player.Player.send.Goals as goal
 

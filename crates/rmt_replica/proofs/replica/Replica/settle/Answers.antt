@@ -4,7 +4,7 @@ use Rattle.std.specs.declared.option.Option.{Option}
 use Rattle.std.specs.declared.option.Option.TheVariants.{Some}
 use Rattle.rmt_entries.specs.declared.entry.Entry.{Entry}
 use Rattle.rmt_model.specs.Lawful.{entry_at}
-use Rattle.rmt_replica.specs.Staged.{Staged}
+use Rattle.rmt_replica.specs.StagedBlocks.{Staged}
 use Rattle.std.specs.Prelude.{List, Bool}
 use Rattle.rmt_replica.specs.Replicas.{ReplicaView, IsReplica, replica_of}
 use Rattle.rmt_replica.specs.Answers.{CanSettle, released, settled}

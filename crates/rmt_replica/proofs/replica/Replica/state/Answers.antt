@@ -3,9 +3,9 @@ use Rattle.std.specs.Prelude.{MatchOption}
 use Rattle.std.specs.declared.option.Option.TheVariants.{Some}
 use Rattle.rmt_model.specs.Lawful.{entry_at}
 use Rattle.rmt_history.specs.Copies.{MakesAt}
-use Rattle.rmt_replica.specs.declared.state.State.TheVariants as states
+use Rattle.rmt_replica.specs.declared.entry_state.EntryState.TheVariants as states
 use Rattle.rmt_replica.specs.Replicas.{ReplicaView, replica_of}
-use Rattle.rmt_replica.specs.Answers.{IsState}
+use Rattle.rmt_replica.specs.Answers.{IsEntryState}
 use Rattle.rmt_replica.proofs.StepLemmas.{state-without, state-dropped, state-waits, done-within}
 use Rattle.rmt_replica.proofs.replica.Replica.state.Goals as goal
 
@@ -15,7 +15,7 @@ returns-in_default c =
     let within = subst (λ (r : ReplicaView). c.args.i < length r.log) (sym c.self.view_is) c.requires in
     let at = subst (λ o. MatchOption o (length i.copy.log ≤ c.args.i) (λ token. entry_at i.copy.log c.args.i ≡ Some token.now.value)) c.unwrap.ensures c.entry.ensures.entry ∙ ap Some (sym c.value-entry.ensures) in
     let done = done-within i.copy i.queue c.args.i false within (sym c.done.ensures ∙ c.if-done.false) in
-    subst (λ (r : ReplicaView). IsState r c.args.i c.state_without.result) c.self.view_is
+    subst (λ (r : ReplicaView). IsEntryState r c.args.i c.state_without.result) c.self.view_is
     (state-without (replica_of i.number i.up i.copy i.queue i.parts i.staged) c.args.i c.value-entry.result.now c.state_without.result done at (sym c.in_default.ensures) c.state_without.ensures)
 
 pub returns-then-dropped_after : goal.returns-then-dropped_after
@@ -25,7 +25,7 @@ returns-then-dropped_after c =
     let at = subst (λ o. MatchOption o (length i.copy.log ≤ c.args.i) (λ token. entry_at i.copy.log c.args.i ≡ Some token.now.value)) c.unwrap.ensures c.entry.ensures.entry ∙ ap Some (sym c.value-entry.ensures) in
     let makes : MakesAt i.copy.log c.args.i c.in-Some.name = record { entry = c.value-entry.result.now; stands = at; makes = sym c.in-Some.ensures } in
     let done = done-within i.copy i.queue c.args.i false within (sym c.done.ensures ∙ c.if-done.false) in
-    subst (λ (r : ReplicaView). IsState r c.args.i states.Dropped) c.self.view_is
+    subst (λ (r : ReplicaView). IsEntryState r c.args.i states.Dropped) c.self.view_is
     (state-dropped (replica_of i.number i.up i.copy i.queue i.parts i.staged) c.args.i c.in-Some.name done makes (λ k. let t = c.is_covered.ensures.no k in let f = c.if-is_covered.false in absurd (cc)) (let t = c.if-dropped_after.true in c.dropped_after.ensures.0 (cc)))
 
 pub returns : goal.returns
@@ -35,5 +35,5 @@ returns c =
     let at = subst (λ o. MatchOption o (length i.copy.log ≤ c.args.i) (λ token. entry_at i.copy.log c.args.i ≡ Some token.now.value)) c.unwrap.ensures c.entry.ensures.entry ∙ ap Some (sym c.value-entry.ensures) in
     let makes : MakesAt i.copy.log c.args.i c.in-Some.name = record { entry = c.value-entry.result.now; stands = at; makes = sym c.in-Some.ensures } in
     let done = done-within i.copy i.queue c.args.i false within (sym c.done.ensures ∙ c.if-done.false) in
-    subst (λ (r : ReplicaView). IsState r c.args.i (states.Waits c.in-Some.name)) c.self.view_is
+    subst (λ (r : ReplicaView). IsEntryState r c.args.i (states.Waits c.in-Some.name)) c.self.view_is
     (state-waits (replica_of i.number i.up i.copy i.queue i.parts i.staged) c.args.i c.in-Some.name c.self.invariant.standing done makes (λ k. let t = c.is_covered.ensures.no k in let f = c.if-is_covered.false in absurd (cc)) (λ k. let t = c.dropped_after.ensures.1 k in let f = c.if-dropped_after.false in absurd (cc)))

@@ -8,18 +8,18 @@ use Rattle.rmt_replicas.specs.Following.{TakesBlock}
 use Rattle.rmt_replicas.specs.Tables.{Follows}
 use Rattle.rmt_replicas.proofs.Gets.{gets-lawful}
 use Rattle.rmt_replicas.proofs.Places.{Each-get, read-at}
-use Rattle.rmt_replicas.proofs.TableSteps.{known-length, step-front, step-numbered, step-gets, step-table, step-view, blocks-more}
+use Rattle.rmt_replicas.proofs.TableSteps.{known-length, step-prefix, step-numbered, step-gets, step-table, step-view, blocks-more}
 use Rattle.rmt_replicas.proofs.table.Table.take.Goals as goal
 
-pub accept-requires-clause-front : goal.accept-requires-clause-front
-accept-requires-clause-front c =
+pub accept-requires-clause-copied : goal.accept-requires-clause-copied
+accept-requires-clause-copied c =
     let i = c.table.inside in
     let bs = reverse (map arc_value i.blocks.items) in
     let r = c.index_mut.result.now in
     let within = subst (λ n. c.args.replica < n) (known-length (arc_value i.schema) i.log.items bs i.replicas.items c.args.self c.table.view_is) c.requires.there in
     let there = read-at i.replicas.items c.args.replica r within c.index_mut.ensures.value in
     let follows = Each-get (Follows (arc_value i.schema) (entries i.log.items) bs) i.replicas.items c.args.replica r c.table.invariant.follow there in
-    step-front r i.log.items c.deref.result.now c.args.token (c.deref.ensures.value ∙ c.in_ok-push.ensures.items) follows.front
+    step-prefix r i.log.items c.deref.result.now c.args.token (c.deref.ensures.value ∙ c.in_ok-push.ensures.items) follows.copied
 
 pub accept-requires-clause-numbered : goal.accept-requires-clause-numbered
 accept-requires-clause-numbered c =

@@ -1,6 +1,0 @@
-use Rattle.std.proofs.Common.{refl}
-use Rattle.rmt_acts.proofs.IntoReads.{items_back}
-use Rattle.rmt_acts.proofs.selects.query.Goals as goal
-
-pub returns : goal.returns
-returns c = rw (items_back c.args.items, c.group_of-group.ensures) refl

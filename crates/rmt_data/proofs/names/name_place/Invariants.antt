@@ -1,6 +1,0 @@
-use Rattle.std.proofs.Common.{◌≡◌, drop}
-use Rattle.rmt_data.specs.Offers.{name_from}
-use Rattle.rmt_data.proofs.names.name_place.Given as goal
-
-abbrev pub invariant-names : goal.invariant-names
-invariant-names l = name_from 0 l.names l.name ≡ name_from l.i (drop l.i l.names) l.name

@@ -1,6 +1,0 @@
-use Rattle.std.proofs.Common.{◌≡◌, take}
-use Rattle.rmt_values.specs.Schemas.{names_of}
-use Rattle.rmt_data.proofs.offer.column_names.Given as goal
-
-abbrev pub invariant-columns : goal.invariant-columns
-invariant-columns l = l.names.items ≡ names_of (take l.column-index l.columns)

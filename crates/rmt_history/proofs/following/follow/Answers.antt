@@ -1,6 +1,0 @@
-use Rattle.std.proofs.Common.{sym}
-use Rattle.rmt_history.proofs.NextLive.{over-of}
-use Rattle.rmt_history.proofs.following.follow.Goals as goal
-
-pub place-requires-clause-over : goal.place-requires-clause-over
-place-requires-clause-over c = over-of c.args.entry.now c.args.names.now.names c.in-Some.new c.requires.lawful (sym c.in-Some.ensures)

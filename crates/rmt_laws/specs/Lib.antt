@@ -1,0 +1,2 @@
+pub use Rattle.rmt_model.specs.Laws
+pub use Rattle.rmt_model.specs.Fair

@@ -1,0 +1,62 @@
+//! What a replica does with a block that it accepts.
+ghost use Rattle.std.specs.Prelude.{◌≡◌, ℕ, length, true, slice_get, OnOk};
+ghost use Rattle.std.specs.List.{All};
+ghost use Rattle.std.specs.Arc.{arc_value};
+ghost use Rattle.std.specs.declared.option.Option.TheVariants.{Some};
+ghost use Rattle.rmt_values.specs.Rows.{fits};
+ghost use Rattle.rmt_row.specs.Token.{Token};
+ghost use Rattle.rmt_entries.specs.declared.entry.Entry.{Entry as OneEntry};
+ghost use Rattle.rmt_model.specs.Lawful.{Lawful};
+ghost use Rattle.rmt_model.specs.Parts.{GoesOn};
+ghost use Rattle.rmt_history.specs.Copies.{entries};
+ghost use Rattle.rmt_replicas.specs.Following.{IsNewest, TakesBlock};
+
+use crate::get::do_get;
+use crate::pulls::pull;
+use rmt_block::Block;
+use rmt_entries::Entry;
+use rmt_replica::{Part, Replica, ReplicaError, Supply};
+use rmt_row::Seen;
+use rmt_values::Schema;
+use std::alloc::{AllocError, Global};
+use std::sync::Arc;
+
+/// Stages a block at a replica that is up. At an error no memory was left.
+fn stage(replica: &mut Replica, number: u32, block: Arc<Block, Global>) -> Result<(), AllocError>
+    requires { replica.old.up ≡ true }
+    ensures { OnOk result (replica.new ≡ record replica.old { staged = replica.new.staged }) }
+{
+    match replica.stage(number, block) {
+        Ok(()) => Ok(()),
+        Err(ReplicaError::Memory) => Err(AllocError),
+        Err(ReplicaError::Down) => unreachable!(),
+    }
+}
+
+/// Stages a block, pulls the log, whose newest entry is the block's Get, and does that entry. At an error no memory was
+/// left.
+pub(crate) fn accept(
+    alloc: Global,
+    replica: &mut Replica,
+    log: &[Seen<Entry>],
+    number: u32,
+    block: Arc<Block, Global>,
+    schema: &Schema,
+) -> Result<(), AllocError>
+    requires newest { IsNewest (entries log.now) (arc_value block) }
+    requires copied { GoesOn replica.old.log (entries log.now) }
+    requires numbered { (i : ℕ) (t : Token OneEntry) → slice_get log.now i ≡ Some t → t.place ≡ i }
+    requires lawful { Lawful replica.old.schema (entries log.now) }
+    requires fit { All (λ row. fits schema.now.columns row ≡ true) (arc_value block).rows }
+    requires up { replica.old.up ≡ true }
+    ensures { OnOk result (TakesBlock replica.old schema.now (entries log.now) (arc_value block) replica.new) }
+{
+    let place = log.len() - 1;
+    let made = log[place].copy()?;
+    let part = Part::of_block(alloc, Arc::try_clone(&block)?, made, schema)?;
+    let part = Arc::new(alloc, part)?;
+    stage(replica, number, block)?;
+    pull(replica, log)?;
+    do_get(replica, place, Supply::Built(part))?;
+    Ok(())
+}

@@ -1,0 +1,2 @@
+pub mod InsertedRows
+pub mod Inserts

@@ -1,5 +1,0 @@
-use Rattle.rmt_tokens.proofs.Lexemes.{word_front}
-use Rattle.rmt_tokens.proofs.lexing.front_word.Goals as goal
-
-pub returns : goal.returns
-returns c = rw (c.word.ensures, c.after_word.ensures, c.split_at.ensures.front, c.split_at.ensures.back, c.word_len.ensures.len) (word_front c.args.at.context c.args.at.bytes.now c.requires.csv c.requires.some c.requires.begins)

@@ -1,8 +1,0 @@
-use crate::context::Context;
-
-/// A place of a script: what is left to read, and what its first token stands behind.
-#[derive(Clone, Copy, Debug)]
-pub struct Cursor<'a> {
-    pub bytes: &'a [u8],
-    pub context: Context,
-}

@@ -1,0 +1,6 @@
+use Rattle.std.proofs.Common.{◌≡◌, drop}
+use Rattle.rmt_values.specs.Aggregates.{is_checked_aggregate, has_aggregate}
+use Rattle.rmt_values.proofs.checked_query.has_aggregate.Given as goal
+
+abbrev pub invariant-items : goal.invariant-items
+invariant-items l = has_aggregate is_checked_aggregate l.items ≡ has_aggregate is_checked_aggregate (drop l.item-index l.items)
