@@ -15,3 +15,5 @@ mod scripts;
 mod snapshots;
 #[cfg(test)]
 mod tables;
+#[cfg(test)]
+mod tree;

@@ -1,0 +1,5 @@
+mod PathLemmas
+pub mod NameLemmas
+mod TextLemmas
+pub mod OrderLemmas
+pub mod ChildRangeLemmas

@@ -1,0 +1,4 @@
+pub mod Paths
+pub mod PathOrder
+pub mod ChildRange
+pub mod PathReading

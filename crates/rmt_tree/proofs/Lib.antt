@@ -1,0 +1,13 @@
+pub mod SlotLemmas
+pub mod DraftLemmas
+pub mod CommitLemmas
+pub mod TrackerLemmas
+pub mod TreeLemmas
+pub mod SessionLemmas
+pub mod ClearLemmas
+pub mod RangeLemmas
+pub mod HasChildrenLemmas
+pub mod ChildrenLemmas
+pub mod SiblingLemmas
+pub mod ShapeLemmas
+pub mod CallerLemmas
