@@ -16,8 +16,8 @@ use Rattle.std.specs.Cmp.Lexicographic.{same_text, other_text}
 use Rattle.rmt_values.specs.declared.column.Column.{Column}
 use Rattle.rmt_values.specs.Rows.{place_from}
 use Rattle.rmt_values.specs.Schemas.{has_name, first_double}
-use Rattle.rmt_values.specs.Commands.{SetsFit, SetsNot, NotAmong}
-use Rattle.rmt_expr.specs.Mutations.{AreSets, lefts, among, is_among, key_in_sets}
+use Rattle.rmt_values.specs.Commands.{SetsFit, SetFits, RightFits, SetsNot, NotAmong, rule_columns}
+use Rattle.rmt_expr.specs.Mutations.{AreSets, lefts, among, is_fixed, fixed_in_sets}
 use Rattle.rmt_expr.specs.Placed.{IsPlaced, ArePlaced}
 use Rattle.rmt_expr.proofs.Progress.{SetsGoOn}
 
@@ -84,6 +84,11 @@ set-by-none s n p e (x ∷ xs) (t ∷ ts) h d = go (bytes_eq x.0 n) refl d (set-
 differ : (k p : ℕ) → false ≡ nat_eq k p → k ≡ p → ⊥
 differ k p u e = grind (arith, nat_tests)
 
+-- neither of two tests holds
+or_none : (a b : Bool) → a || b ≡ false → (a ≡ false) × (b ≡ false)
+or_none true b h = absurd (cc)
+or_none false b h = (refl, h)
+
 -- what isn't among these is none of them
 none-of : (key : List ℕ) (p : ℕ) → among key p ≡ false → NotAmong key p
 none-of [] p h = tt
@@ -92,23 +97,28 @@ none-of (k ∷ ks) p h = go (nat_eq k p) refl h (none-of ks p) where
   go true u h r = absurd (cc h)
   go false u h r = (differ k p u, r h)
 
--- checked forms of sets, none of them twice and none of the key, fit the schema
+-- a column that may be set to what fits it
+set_fits : (s : Shape) (p : ℕ) (what : CheckedRight) → is_fixed s (Some p) ≡ false → RightFits s p what → SetFits s p what
+set_fits s p what free fits =
+    let both = or_none (among s.key p) (among (rule_columns s.partition) p) free in
+    record { no_key = none-of s.key p both.0; no_partition = none-of (rule_columns s.partition) p both.1; value = fits }
+
+-- checked forms of sets, none of them twice and none of a fixed column, fit the schema
 pub sets_fit : (s : Shape) (xs : List (List ℕ × Right)) (ts : List (ℕ × CheckedRight)) → ArePlaced s xs ts
-    → first_double (lefts xs) ≡ None → key_in_sets s xs ≡ None → SetsFit s ts
+    → first_double (lefts xs) ≡ None → fixed_in_sets s xs ≡ None → SetsFit s ts
 sets_fit s [] [] h d k = tt
 sets_fit s [] (t ∷ ts) h d k = absurd h
 sets_fit s (x ∷ xs) [] h d k = absurd h
 sets_fit s (x ∷ xs) (t ∷ ts) h d k =
-    go (has_name (lefts xs) x.0) refl d (is_among s.key (place_from 0 s.columns x.0)) refl k (sets_fit s xs ts h.1)
+    go (has_name (lefts xs) x.0) refl d (is_fixed s (place_from 0 s.columns x.0)) refl k (sets_fit s xs ts h.1)
   where
     go : (a : Bool) → has_name (lefts xs) x.0 ≡ a → cond a (Some x.0) (first_double (lefts xs)) ≡ None
-        → (b : Bool) → is_among s.key (place_from 0 s.columns x.0) ≡ b → cond b (Some x.0) (key_in_sets s xs) ≡ None
-        → (first_double (lefts xs) ≡ None → key_in_sets s xs ≡ None → SetsFit s ts) → SetsFit s (t ∷ ts)
+        → (b : Bool) → is_fixed s (place_from 0 s.columns x.0) ≡ b → cond b (Some x.0) (fixed_in_sets s xs) ≡ None
+        → (first_double (lefts xs) ≡ None → fixed_in_sets s xs ≡ None → SetsFit s ts) → SetsFit s (t ∷ ts)
     go true u d b v k r = absurd (cc d)
     go false u d true v k r = absurd (cc k)
     go false u d false v k r = (
-      none-of s.key t.0 (ap (is_among s.key) (sym h.0.set.column.there) ∙ v),
-      h.0.fits,
+      set_fits s t.0 t.1 (ap (is_fixed s) (sym h.0.set.column.there) ∙ v) h.0.fits,
       set-by-none s x.0 t.0 h.0.set.column.there xs ts h.1 u,
       r d k,
     )

@@ -13,7 +13,7 @@ use Rattle.rmt_values.specs.declared.filter.Filter.TheOpen.{Filter-F, Test, Both
 use Rattle.rmt_values.specs.declared.filter.Filter.TheFolds.{fold-Filter}
 use Rattle.rmt_values.specs.declared.checked.Checked.{Checked}
 use Rattle.rmt_values.specs.declared.checked.Checked.TheVariants as placed
-use Rattle.rmt_values.specs.Rows.{Shape, place_from, kind_at}
+use Rattle.rmt_values.specs.Rows.{Shape, place_from, kind_at, kind_named}
 use Rattle.rmt_values.specs.Literals.{literal_value}
 use Rattle.rmt_expr.specs.declared.check_error.CheckError.{CheckError}
 use Rattle.rmt_expr.specs.declared.check_error.CheckError.TheVariants as refusal
@@ -23,15 +23,6 @@ pub record IsColumn (shape : Shape) (name : List ℕ) (place : ℕ) (kind : Kind
   pub there : place_from 0 shape.columns name ≡ Some place
   pub typed : kind_at shape.columns place ≡ Some kind
 
--- the type of the column at this place
-abbrev pub kind_there : Shape → Option ℕ → Option Kind
-kind_there shape None = None
-kind_there shape (Some place) = kind_at shape.columns place
-
--- the type of the column of this name
-abbrev pub kind_named : Shape → List ℕ → Option Kind
-kind_named shape name = kind_there shape (place_from 0 shape.columns name)
-
 -- the name, where there is nothing else
 abbrev pub unless_some : {X : Type 0} → List ℕ → Option X → Option (List ℕ)
 unless_some name None = Some name
@@ -39,7 +30,7 @@ unless_some name (Some x) = None
 
 -- the name, where no column has it
 abbrev pub unknown_name : Shape → List ℕ → Option (List ℕ)
-unknown_name shape name = unless_some name (kind_named shape name)
+unknown_name shape name = unless_some name (kind_named shape.columns name)
 
 -- the value of a literal in a column of this type, if there is such a column and value
 abbrev pub value_in : Literal → Option Kind → Option Value
@@ -60,7 +51,7 @@ joined make (Some f) (Some g) = Some (make f g)
 
 -- the checked form of one level, from those of the filters inside it
 abbrev pub checked_level : Shape → Filter-F (Option Checked) → Option Checked
-checked_level shape (Test name cmp literal) = test_of cmp (place_from 0 shape.columns name) (value_in literal (kind_named shape name))
+checked_level shape (Test name cmp literal) = test_of cmp (place_from 0 shape.columns name) (value_in literal (kind_named shape.columns name))
 checked_level shape (Both f g) = joined (λ f g. placed.Both f g) f g
 checked_level shape (Either f g) = joined (λ f g. placed.Either f g) f g
 checked_level shape (Not f) = option_map (λ f. placed.Not f) f
@@ -82,7 +73,7 @@ unknown_in shape filter = fold-Filter (Option (List ℕ)) (unknown_level shape) 
 
 -- the first name of one level that is compared with what is no value of its column, from those of the filters inside it
 abbrev pub type_error_level : Shape → Filter-F (Option (List ℕ)) → Option (List ℕ)
-type_error_level shape (Test name cmp literal) = unless_some name (value_in literal (kind_named shape name))
+type_error_level shape (Test name cmp literal) = unless_some name (value_in literal (kind_named shape.columns name))
 type_error_level shape (Both f g) = option_or f g
 type_error_level shape (Either f g) = option_or f g
 type_error_level shape (Not f) = f

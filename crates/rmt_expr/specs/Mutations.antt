@@ -16,11 +16,11 @@ use Rattle.rmt_values.specs.declared.checked_right.CheckedRight.{CheckedRight}
 use Rattle.rmt_values.specs.declared.checked_right.CheckedRight.TheVariants as right
 use Rattle.rmt_values.specs.declared.checked_mutation.CheckedMutation.{CheckedMutation}
 use Rattle.rmt_values.specs.declared.checked_mutation.CheckedMutation.TheVariants.{Update, Delete}
-use Rattle.rmt_values.specs.Rows.{Shape, place_from, same_kind}
+use Rattle.rmt_values.specs.Rows.{Shape, place_from, same_kind, kind_named}
 use Rattle.rmt_values.specs.Schemas.{first_double}
-use Rattle.rmt_values.specs.Commands.{is_number}
+use Rattle.rmt_values.specs.Commands.{is_number, rule_columns}
 use Rattle.rmt_values.specs.Literals.{literal_value}
-use Rattle.rmt_expr.specs.Checks.{IsColumn, checked_of, kind_named, unknown_name, unknown_in, type_error_in}
+use Rattle.rmt_expr.specs.Checks.{IsColumn, checked_of, unknown_name, unknown_in, type_error_in}
 use Rattle.rmt_expr.specs.declared.mutation_error.MutationError.{MutationError}
 use Rattle.rmt_expr.specs.declared.mutation_error.MutationError.TheVariants as refusal
 
@@ -72,13 +72,13 @@ is_kind kind (Some other) = same_kind other kind
 
 -- the type is one of numbers, the column is of it, and the literal has a value of it
 abbrev pub may_add : Shape → Kind → List ℕ → Literal → Bool
-may_add shape kind name by = is_number kind && (is_kind kind (kind_named shape name) && is_some (literal_value kind by))
+may_add shape kind name by = is_number kind && (is_kind kind (kind_named shape.columns name) && is_some (literal_value kind by))
 
 -- a column of this type may be set so: to a value of its type, to a column of its type, or, if it is one of numbers, to
 -- such a column plus or minus such a value
 abbrev pub may_be : Shape → Kind → Right → Bool
 may_be shape kind (written.Literal l) = is_some (literal_value kind l)
-may_be shape kind (written.Column n) = is_kind kind (kind_named shape n)
+may_be shape kind (written.Column n) = is_kind kind (kind_named shape.columns n)
 may_be shape kind (written.Plus n l) = may_add shape kind n l
 may_be shape kind (written.Minus n l) = may_add shape kind n l
 
@@ -90,22 +90,22 @@ may_set shape (Some kind) what = may_be shape kind what
 -- the first left side whose column may not be set so
 abbrev pub type_error_in_sets : Shape → List (List ℕ × Right) → Option (List ℕ)
 type_error_in_sets shape [] = None
-type_error_in_sets shape (x ∷ xs) = cond (may_set shape (kind_named shape x.0) x.1) (type_error_in_sets shape xs) (Some x.0)
+type_error_in_sets shape (x ∷ xs) = cond (may_set shape (kind_named shape.columns x.0) x.1) (type_error_in_sets shape xs) (Some x.0)
 
 -- the place is one of these
 abbrev pub among : List ℕ → ℕ → Bool
 among [] place = false
 among (p ∷ ps) place = nat_eq p place || among ps place
 
--- there is a place, and it is one of these
-abbrev pub is_among : List ℕ → Option ℕ → Bool
-is_among key None = false
-is_among key (Some place) = among key place
+-- there is a place, and no UPDATE sets its column: it is one of the sorting key, or that of the partition rule
+abbrev pub is_fixed : Shape → Option ℕ → Bool
+is_fixed shape None = false
+is_fixed shape (Some place) = among shape.key place || among (rule_columns shape.partition) place
 
--- the first left side that is a column of the sorting key
-abbrev pub key_in_sets : Shape → List (List ℕ × Right) → Option (List ℕ)
-key_in_sets shape [] = None
-key_in_sets shape (x ∷ xs) = cond (is_among shape.key (place_from 0 shape.columns x.0)) (Some x.0) (key_in_sets shape xs)
+-- the first left side that is such a column
+abbrev pub fixed_in_sets : Shape → List (List ℕ × Right) → Option (List ℕ)
+fixed_in_sets shape [] = None
+fixed_in_sets shape (x ∷ xs) = cond (is_fixed shape (place_from 0 shape.columns x.0)) (Some x.0) (fixed_in_sets shape xs)
 
 -- the columns that are set, by their names
 abbrev pub lefts : List (List ℕ × Right) → List (List ℕ)
@@ -118,7 +118,7 @@ update_refusal shape sets filter =
     option_or (option_map (λ n. refusal.UnknownColumn n) (option_or (unknown_in_sets shape sets) (unknown_in shape filter)))
     (option_or (option_map (λ n. refusal.DoubleColumn n) (first_double (lefts sets)))
     (option_or (option_map (λ n. refusal.WrongType n) (option_or (type_error_in_sets shape sets) (type_error_in shape filter)))
-    (option_map (λ n. refusal.KeyColumn n) (key_in_sets shape sets))))
+    (option_map (λ n. refusal.KeyColumn n) (fixed_in_sets shape sets))))
 
 -- why a DELETE is refused
 unfoldable pub delete_refusal : Shape → Filter → Option MutationError

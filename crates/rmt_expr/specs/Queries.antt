@@ -14,11 +14,11 @@ use Rattle.rmt_values.specs.declared.filter.Filter.{Filter}
 use Rattle.rmt_values.specs.declared.checked.Checked.{Checked}
 use Rattle.rmt_values.specs.declared.query.Query.{Query}
 use Rattle.rmt_values.specs.declared.checked_query.CheckedQuery.{CheckedQuery}
-use Rattle.rmt_values.specs.Rows.{Shape, place_from}
+use Rattle.rmt_values.specs.Rows.{Shape, place_from, kind_named, is_empty}
 use Rattle.rmt_values.specs.Schemas.{names_of, has_name}
 use Rattle.rmt_values.specs.Commands.{is_number}
-use Rattle.rmt_values.specs.Aggregates.{is_aggregate, is_none, is_grouping}
-use Rattle.rmt_expr.specs.Checks.{checked_of, kind_named, unknown_name, unknown_in, type_error_in}
+use Rattle.rmt_values.specs.Aggregates.{is_aggregate, is_grouping}
+use Rattle.rmt_expr.specs.Checks.{checked_of, unknown_name, unknown_in, type_error_in}
 use Rattle.rmt_expr.specs.declared.check_error.CheckError.{CheckError}
 use Rattle.rmt_expr.specs.declared.check_error.CheckError.TheVariants as refusal
 
@@ -109,7 +109,7 @@ adds_up (Some kind) = is_number kind
 abbrev pub type_error_of_item : Shape → Bool → List (List ℕ) → Item → Option (List ℕ)
 type_error_of_item shape grouping group (item.Column n) = cond (grouping && not (has_name group n)) (Some n) None
 type_error_of_item shape grouping group item.Count = None
-type_error_of_item shape grouping group (item.Sum n) = cond (adds_up (kind_named shape n)) None (Some n)
+type_error_of_item shape grouping group (item.Sum n) = cond (adds_up (kind_named shape.columns n)) None (Some n)
 type_error_of_item shape grouping group (item.Min n) = None
 type_error_of_item shape grouping group (item.Max n) = None
 
@@ -125,7 +125,7 @@ ungrouped group (n ∷ ns) = cond (has_name group n) (ungrouped group ns) (Some 
 
 -- the first type error of a select list; no items mean all columns
 abbrev pub type_error_in_select_list : Shape → List Item → List (List ℕ) → Option (List ℕ)
-type_error_in_select_list shape [] group = cond (is_none group) None (ungrouped group (names_of shape.columns))
+type_error_in_select_list shape [] group = cond (is_empty group) None (ungrouped group (names_of shape.columns))
 type_error_in_select_list shape (i ∷ is) group = type_error_in_items shape (is_grouping is_aggregate (i ∷ is) group) group (i ∷ is)
 
 -- why a query is refused: an unknown column anywhere comes before a wrong type

@@ -15,7 +15,7 @@ pub enum MutationError {
     DoubleColumn(Name),
     /// The first column that is set to, or compared with, what isn't of its type.
     WrongType(Name),
-    /// The first column that an UPDATE sets although it is one of the sorting key.
+    /// The first column that an UPDATE sets although it is one of the sorting key, or that of the partition rule.
     KeyColumn(Name),
     /// Out of memory.
     Memory,

@@ -3,7 +3,7 @@ ghost use Rattle.std.specs.Prelude.{◌≡◌, ◌⊎◌, IfOk, IfErr};
 ghost use Rattle.std.specs.Option.{option_map, option_or};
 ghost use Rattle.std.specs.declared.option.Option.TheVariants.{Some, None};
 ghost use Rattle.rmt_values.specs.Schemas.{has_name as has, first_double};
-ghost use Rattle.rmt_values.specs.Commands.{CommandFits, SetsFit};
+ghost use Rattle.rmt_values.specs.Commands.{CommandFits, SetsFit, rule_columns};
 ghost use Rattle.rmt_values.specs.Filters.{FilterFits};
 ghost use Rattle.rmt_expr.specs.Checks.{checked_of, unknown_in as first_unknown};
 ghost use Rattle.rmt_expr.specs.Mutations.{
@@ -15,8 +15,8 @@ ghost use Rattle.rmt_expr.specs.Mutations.{
   unknown_right as unknown_on_right,
   unknown_in_sets,
   among,
-  is_among,
-  key_in_sets,
+  is_fixed as fixed,
+  fixed_in_sets,
   lefts,
 };
 ghost use Rattle.rmt_values.specs.Rows.{place_from};
@@ -93,7 +93,7 @@ fn check_update(
     }
     let placed = placed_sets(alloc, pairs, schema)?;
     let filter = check(alloc, filter, schema)?;
-    match key_in(pairs, schema) {
+    match fixed_set(pairs, schema) {
         Some(name) => Err(MutationError::KeyColumn(name.copy()?)),
         None => Ok((List::new(placed), filter)),
     }
@@ -166,24 +166,34 @@ fn sets_name(sets: &[(Name, Right)], name: &Name) -> bool
     false
 }
 
-/// The first left side that is a column of the sorting key.
-fn key_in<'a>(sets: &'a [(Name, Right)], schema: &Schema) -> Option<&'a Name>
-    ensures { option_map (λ n. n.now) result ≡ key_in_sets schema.now sets.now }
+/// The first left side that is a column of the sorting key, or that of the partition rule.
+fn fixed_set<'a>(sets: &'a [(Name, Right)], schema: &Schema) -> Option<&'a Name>
+    ensures { option_map (λ n. n.now) result ≡ fixed_in_sets schema.now sets.now }
 {
     'sets: for i in 0..sets.len() {
-        if is_key(&sets[i].0, schema) {
+        if is_fixed(&sets[i].0, schema) {
             return Some(&sets[i].0);
         }
     }
     None
 }
 
-/// Whether the column of this name is one of the sorting key.
-fn is_key(name: &Name, schema: &Schema) -> bool
-    ensures { result ≡ is_among schema.now.key (place_from 0 schema.now.columns name.now) }
+/// Whether the column of this name is one of the sorting key, or that of the partition rule.
+fn is_fixed(name: &Name, schema: &Schema) -> bool
+    ensures { result ≡ fixed schema.now (place_from 0 schema.now.columns name.now) }
 {
     match schema.find(name) {
-        Some(at) => has_place(schema.key(), at),
+        Some(at) => has_place(schema.key(), at) || is_divided_by(schema, at),
+        None => false,
+    }
+}
+
+/// Whether the column at this place is that of the partition rule.
+fn is_divided_by(schema: &Schema, at: u16) -> bool
+    ensures { result ≡ among (rule_columns schema.now.partition) at }
+{
+    match schema.partition() {
+        Some(rule) => rule.column == at,
         None => false,
     }
 }
@@ -198,123 +208,4 @@ fn has_place(places: &[u16], at: u16) -> bool
         }
     }
     false
-}
-
-#[cfg(test)]
-mod tests {
-    use super::*;
-    use rmt_values::{Cmp, Column, Kind, Literal};
-    use std::alloc::AllocError;
-    use std::test::Fail;
-
-    fn name(alloc: Global, letter: u8) -> Result<Name, AllocError> {
-        Name::from_slice(alloc, &[letter])
-    }
-
-    fn one() -> Literal {
-        Literal::Number {
-            minus: false,
-            size: 1,
-        }
-    }
-
-    /// The columns `k` and `u` of UInt64, `i` of Int64, `s` of Strings; the key is `k`.
-    fn schema(alloc: Global) -> Result<Schema, AllocError> {
-        let mut columns = Vec::new(alloc);
-        for letter in b"kuis" {
-            let kind = match *letter {
-                b'i' => Kind::Int64,
-                b's' => Kind::Text,
-                _ => Kind::UInt64,
-            };
-            let name = name(alloc, *letter)?;
-            columns.push(Column { name, kind })?;
-        }
-        let key = vec![in alloc; name(alloc, b'k')?]?;
-        Schema::new(alloc, columns, key, 8192, 100).map_err(|_| AllocError)
-    }
-
-    /// The filter `column = 1`.
-    fn is_one(alloc: Global, column: u8) -> Result<Filter, AllocError> {
-        Ok(Filter::Test {
-            column: name(alloc, column)?,
-            cmp: Cmp::Eq,
-            literal: one(),
-        })
-    }
-
-    /// What the check answers to an UPDATE: each pair sets its first column to its second plus 1.
-    fn refused_by(alloc: Global, pairs: &[(u8, u8)], column: u8) -> Result<(char, u8), AllocError> {
-        let mut sets = Vec::new(alloc);
-        for (left, right) in pairs {
-            let column = name(alloc, *right)?;
-            let right = Right::Plus { column, by: one() };
-            sets.push((name(alloc, *left)?, right))?;
-        }
-        let update = Mutation::Update {
-            sets: List::new(sets),
-            filter: is_one(alloc, column)?,
-        };
-        let (word, name) = match check_mutation(alloc, &update, &schema(alloc)?) {
-            Ok(_) => return Ok(('o', 0)),
-            Err(MutationError::UnknownColumn(name)) => ('u', name),
-            Err(MutationError::DoubleColumn(name)) => ('d', name),
-            Err(MutationError::WrongType(name)) => ('w', name),
-            Err(MutationError::KeyColumn(name)) => ('k', name),
-            Err(MutationError::Memory) => return Err(AllocError),
-        };
-        match name.as_bytes() {
-            [letter] => Ok((word, *letter)),
-            _ => Ok((word, 0)),
-        }
-    }
-
-    #[test]
-    fn the_first_refusal_is_returned(rt: HostRuntime) -> Result<(), Fail> {
-        let alloc = rt.alloc();
-        assert_eq!(rt;
-            refused_by(alloc, &[(b'u', b'u'), (b'i', b'i')], b'k')?,
-            ('o', 0)
-        );
-        assert_eq!(rt; refused_by(alloc, &[(b'u', b'k')], b'u')?, ('o', 0));
-        assert_eq!(rt;
-            refused_by(alloc, &[(b'k', b'u'), (b's', b's')], b'k')?,
-            ('w', b's')
-        );
-        assert_eq!(rt; refused_by(alloc, &[(b'k', b'u')], b's')?, ('w', b's'));
-        assert_eq!(rt;
-            refused_by(alloc, &[(b'k', b'u'), (b'u', b'i')], b's')?,
-            ('w', b'u')
-        );
-        assert_eq!(rt;
-            refused_by(alloc, &[(b'u', b'u'), (b'k', b'k')], b'k')?,
-            ('k', b'k')
-        );
-        assert_eq!(rt;
-            refused_by(alloc, &[(b'u', b's'), (b'i', b'i'), (b'i', b'i')], b's')?,
-            ('d', b'i')
-        );
-        assert_eq!(rt;
-            refused_by(alloc, &[(b'u', b'x'), (b'y', b'u'), (b'u', b'i')], b'z')?,
-            ('u', b'x')
-        );
-        assert_eq!(rt;
-            refused_by(alloc, &[(b'u', b'u'), (b'u', b'i')], b'z')?,
-            ('u', b'z')
-        );
-        Ok(())
-    }
-
-    #[test]
-    fn a_delete_is_checked(rt: HostRuntime) -> Result<(), Fail> {
-        let alloc = rt.alloc();
-        let delete = Mutation::Delete {
-            filter: is_one(alloc, b'i')?,
-        };
-        match check_mutation(alloc, &delete, &schema(alloc)?) {
-            Ok(CheckedMutation::Delete { .. }) => {}
-            _ => assert!(rt; false),
-        }
-        Ok(())
-    }
 }

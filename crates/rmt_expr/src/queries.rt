@@ -25,7 +25,7 @@ ghost use Rattle.rmt_expr.specs.Queries.{
   adds_up as adds,
   query_refusal,
 };
-ghost use Rattle.rmt_expr.specs.Checks.{kind_named};
+ghost use Rattle.rmt_values.specs.Rows.{kind_named};
 ghost use Rattle.rmt_expr.specs.declared.check_error.CheckError.TheVariants as refusal;
 
 use crate::check_error::CheckError;
@@ -275,70 +275,5 @@ fn adds_up(kind: Option<Kind>) -> bool
     match kind {
         Some(Kind::UInt64) | Some(Kind::Int64) => true,
         Some(Kind::Text) | None => false,
-    }
-}
-
-#[cfg(test)]
-mod tests {
-    use super::*;
-    use std::test::Fail;
-
-    fn name(alloc: Global, letter: u8) -> Result<Name, AllocError> {
-        Name::from_slice(alloc, &[letter])
-    }
-
-    /// The columns `u` of UInt64 and `s` of Strings.
-    fn schema(alloc: Global) -> Result<Schema, AllocError> {
-        let mut columns = Vec::new(alloc);
-        for (letter, kind) in [(b'u', Kind::UInt64), (b's', Kind::Text)] {
-            let name = name(alloc, letter)?;
-            columns.push(Column { name, kind })?;
-        }
-        Schema::new(alloc, columns, Vec::new(alloc), 8192, 100).map_err(|_| AllocError)
-    }
-
-    /// What the check answers to a query by these groups: how many items the select list has, or the refusal's first letter
-    /// and name.
-    fn answer_to(
-        alloc: Global,
-        items: Vec<Item>,
-        group: &[u8],
-    ) -> Result<(usize, char, u8), AllocError> {
-        let mut names = Vec::new(alloc);
-        for letter in group {
-            names.push(name(alloc, *letter)?)?;
-        }
-        let query = Query {
-            items: List::new(items),
-            filter: None,
-            group: List::new(names),
-        };
-        let (word, name) = match check_query(alloc, &query, &schema(alloc)?) {
-            Ok(checked) => return Ok((checked.items.as_slice().len(), 'o', 0)),
-            Err(CheckError::UnknownColumn(name)) => ('u', name),
-            Err(CheckError::WrongType(name)) => ('w', name),
-            Err(CheckError::Memory) => return Err(AllocError),
-        };
-        match name.as_bytes() {
-            [letter] => Ok((0, word, *letter)),
-            _ => Ok((0, word, 0)),
-        }
-    }
-
-    #[test]
-    fn queries_are_checked(rt: HostRuntime) -> Result<(), Fail> {
-        let alloc = rt.alloc();
-        let (u, s) = (b'u', b's');
-        assert_eq!(rt; answer_to(alloc, Vec::new(alloc), b"")?, (2, 'o', 0));
-        assert_eq!(rt; answer_to(alloc, Vec::new(alloc), b"u")?, (0, 'w', s));
-        let items = vec![in alloc; Item::Column(name(alloc, u)?), Item::Count]?;
-        assert_eq!(rt; answer_to(alloc, items, b"u")?, (2, 'o', 0));
-        let items = vec![in alloc; Item::Count, Item::Column(name(alloc, u)?)]?;
-        assert_eq!(rt; answer_to(alloc, items, b"")?, (0, 'w', u));
-        let items = vec![in alloc; Item::Max(name(alloc, s)?), Item::Sum(name(alloc, s)?)]?;
-        assert_eq!(rt; answer_to(alloc, items, b"x")?, (0, 'u', b'x'));
-        let items = vec![in alloc; Item::Max(name(alloc, s)?), Item::Sum(name(alloc, s)?)]?;
-        assert_eq!(rt; answer_to(alloc, items, b"u")?, (0, 'w', s));
-        Ok(())
     }
 }

@@ -2,9 +2,9 @@
 ghost use Rattle.std.specs.Prelude.{◌≡◌, ◌⊎◌, IfOk, IfErr, MatchOption, true, false};
 ghost use Rattle.std.specs.Option.{option_map};
 ghost use Rattle.std.specs.declared.option.Option.TheVariants.{Some, None};
-ghost use Rattle.rmt_values.specs.Rows.{kind_at, same_kind};
+ghost use Rattle.rmt_values.specs.Rows.{kind_at, kind_named, same_kind};
 ghost use Rattle.rmt_values.specs.Commands.{RightFits, is_number as has_numbers};
-ghost use Rattle.rmt_expr.specs.Checks.{IsColumn, kind_named};
+ghost use Rattle.rmt_expr.specs.Checks.{IsColumn};
 ghost use Rattle.rmt_expr.specs.Mutations.{IsRight, is_kind, may_add, may_be, may_set, type_error_in_sets};
 ghost use Rattle.rmt_expr.specs.Placed.{IsAdded, IsPlaced, ArePlaced};
 ghost use Rattle.rmt_expr.specs.declared.mutation_error.MutationError.TheVariants as refusal;
@@ -44,8 +44,8 @@ fn placed_set(
     schema: &Schema,
 ) -> Result<Option<(u16, CheckedRight)>, AllocError>
     ensures { IfOk result (λ o. MatchOption o
-        (may_set schema.now (kind_named schema.now name.now) right.now ≡ false)
-        (λ t. (may_set schema.now (kind_named schema.now name.now) right.now ≡ true)
+        (may_set schema.now (kind_named schema.now.columns name.now) right.now ≡ false)
+        (λ t. (may_set schema.now (kind_named schema.now.columns name.now) right.now ≡ true)
         × IsPlaced schema.now name.now right.now t.0 t.1)) }
 {
     let Some(at) = schema.find(name) else {
@@ -129,8 +129,8 @@ fn placed_number(
 /// The place of the column of this name, where it has this type.
 fn place_of(name: &Name, kind: Kind, schema: &Schema) -> Option<u16>
     ensures { MatchOption result
-        (is_kind kind (kind_named schema.now name.now) ≡ false)
-        (λ at. (is_kind kind (kind_named schema.now name.now) ≡ true) × IsColumn schema.now name.now at kind) }
+        (is_kind kind (kind_named schema.now.columns name.now) ≡ false)
+        (λ at. (is_kind kind (kind_named schema.now.columns name.now) ≡ true) × IsColumn schema.now name.now at kind) }
 {
     let at = schema.find(name)?;
     let there = schema.kind(at)?;

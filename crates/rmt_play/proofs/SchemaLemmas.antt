@@ -10,7 +10,7 @@ use Rattle.rmt_values.specs.declared.limit.Limit.TheVariants as limits
 use Rattle.rmt_values.specs.declared.schema_error.SchemaError.{SchemaError}
 use Rattle.rmt_values.specs.declared.schema_error.SchemaError.TheVariants.{UnknownColumn, DoubleColumn, WrongType, LimitReached}
 use Rattle.rmt_values.specs.Schemas.{schema_refusal, shape_of, no_columns, first_unknown, first_double, names_of, wrong_setting, too_many}
-use Rattle.rmt_play.specs.Checks.{is_empty}
+use Rattle.rmt_values.specs.Rows.{is_empty}
 use Rattle.rmt_play.specs.PlayerSteps.{IsCreateRefusal, IsClipped}
 
 -- ---- a CREATE with columns isn't refused for having none, nor for lack of memory
@@ -34,7 +34,7 @@ too-many-refuses columns e q = go (nat_le (length columns) 64) q
     go true k = absurd (cc)
     go false k = let same : LimitReached limits.Columns 64 ≡ e = cc in subst IsCreateRefusal same tt
 
-pub create-refusal : (columns : List Column) (key : List (List ℕ)) (granularity window : ℕ) (e : SchemaError) → is_empty columns ≡ false → schema_refusal columns key granularity window ≡ Some e → IsCreateRefusal e
+pub create-refusal : (columns : List Column) (key : List (List ℕ)) (granularity window : ℕ) (e : SchemaError) → is_empty columns ≡ false → schema_refusal columns key None granularity window ≡ Some e → IsCreateRefusal e
 unfolding schema_refusal
 create-refusal columns key granularity window e n q =
     or-some IsCreateRefusal _ _ (no-columns-refuses columns n)
@@ -55,7 +55,7 @@ setting-clipped n m window (inr k) =
     above : (x : ℕ) → 65536 < x → (nat_le 1 x && nat_le x 65536) ≡ false
     above x l = grind (arith, nat_tests)
 
-pub refusal-clipped : (columns : List Column) (key : List (List ℕ)) (n m window : ℕ) → IsClipped n m → schema_refusal columns key m window ≡ schema_refusal columns key n window
+pub refusal-clipped : (columns : List Column) (key : List (List ℕ)) (n m window : ℕ) → IsClipped n m → schema_refusal columns key None m window ≡ schema_refusal columns key None n window
 unfolding schema_refusal
 refusal-clipped columns key n m window k =
     ap (λ (o : Option (List ℕ)). option_or (no_columns columns)
@@ -77,7 +77,7 @@ map-none : (make : List ℕ → SchemaError) (o : Option (List ℕ)) → option_
 map-none make None q = refl
 map-none make (Some name) q = absurd (cc)
 
-setting-none : (columns : List Column) (key : List (List ℕ)) (m window : ℕ) → schema_refusal columns key m window ≡ None → wrong_setting m window ≡ None
+setting-none : (columns : List Column) (key : List (List ℕ)) (m window : ℕ) → schema_refusal columns key None m window ≡ None → wrong_setting m window ≡ None
 unfolding schema_refusal
 setting-none columns key m window q =
     let unknown = option_map (λ n. UnknownColumn n) (first_unknown (names_of columns) key) in
@@ -95,6 +95,6 @@ setting-small m window l q = go (nat_le 1 m && nat_le m 65536) (grind (arith, na
     go true e k = absurd (cc)
     go false e k = absurd (cc)
 
-pub shape-clipped : (columns : List Column) (key : List (List ℕ)) (n m window : ℕ) → IsClipped n m → schema_refusal columns key m window ≡ None → shape_of columns key m window ≡ shape_of columns key n window
-shape-clipped columns key n m window (inl e) q = ap (λ k. shape_of columns key k window) e
+pub shape-clipped : (columns : List Column) (key : List (List ℕ)) (n m window : ℕ) → IsClipped n m → schema_refusal columns key None m window ≡ None → shape_of columns key None m window ≡ shape_of columns key None n window
+shape-clipped columns key n m window (inl e) q = ap (λ k. shape_of columns key None k window) e
 shape-clipped columns key n m window (inr k) q = absurd (setting-small m window k.1 (setting-none columns key m window q))

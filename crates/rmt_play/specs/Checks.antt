@@ -8,7 +8,7 @@ use Rattle.std.specs.Str.{bytes_eq}
 use Rattle.rmt_values.specs.declared.limit.Limit.TheVariants as limits
 use Rattle.rmt_values.specs.declared.schema_error.SchemaError.{SchemaError}
 use Rattle.rmt_values.specs.declared.schema_error.SchemaError.TheVariants as schemas
-use Rattle.rmt_values.specs.Rows.{Shape}
+use Rattle.rmt_values.specs.Rows.{is_empty, Shape}
 use Rattle.rmt_values.specs.Schemas.{schema_refusal}
 use Rattle.rmt_expr.specs.declared.check_error.CheckError.{CheckError}
 use Rattle.rmt_expr.specs.declared.check_error.CheckError.TheVariants as checks
@@ -40,11 +40,6 @@ first_of (Some refusal ∷ rest) = Some refusal
 abbrev pub is_absent : {X : Type 0} → Option X → Bool
 is_absent None = true
 is_absent (Some x) = false
-
--- the list has no element
-abbrev pub is_empty : {X : Type 0} → List X → Bool
-is_empty [] = true
-is_empty (x ∷ xs) = false
 
 -- a SELECT without settings
 abbrev pub is_played_mode : Mode → Bool
@@ -200,7 +195,7 @@ sent_refusals world sent =
 -- the refusals of a statement that is played, in their order
 abbrev pub refusals : World → Statement → List (Option Refusal)
 refusals world (statements.Create table columns partition key granularity window) =
-    create_refusals world table (schema_refusal columns key (granularity_of granularity) default_window)
+    create_refusals world table (schema_refusal columns key None (granularity_of granularity) default_window)
 refusals world (statements.At sent) = sent_refusals world sent
 refusals world statement = []
 

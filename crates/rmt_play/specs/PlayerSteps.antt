@@ -67,8 +67,8 @@ IsCreateRefusal refusal = Unit {0}
 abbrev pub ExecutesCreate : World → List ℕ → List Column → List (List ℕ) → Option ℕ → Line → World → Type 0
 ExecutesCreate old table columns key granularity line new =
     MatchOption
-    (first_of (create_refusals old table (schema_refusal columns key (granularity_of granularity) default_window)))
-    (Creates old table (shape_of columns key (granularity_of granularity) default_window) line new)
+    (first_of (create_refusals old table (schema_refusal columns key None (granularity_of granularity) default_window)))
+    (Creates old table (shape_of columns key None (granularity_of granularity) default_window) line new)
     (λ refusal. Refuses old refusal line new)
 
 -- ---- INSERT

@@ -1,7 +1,7 @@
 -- What statements reply and change, one after the other.
 use Rattle.std.specs.Prelude.{◌≡◌, ℕ, suc, cond, List, [], ◌∷◌, ◌++◌, Bool, true, false, MatchOption}
 use Rattle.std.specs.Str.{bytes_eq}
-use Rattle.std.specs.declared.option.Option.TheVariants.{Some}
+use Rattle.std.specs.declared.option.Option.TheVariants.{Some, None}
 use Rattle.rmt_values.specs.Rows.{Shape}
 use Rattle.rmt_values.specs.Schemas.{shape_of}
 use Rattle.rmt_replicas.specs.Tables.{TableState}
@@ -59,7 +59,7 @@ pub record PerformsSent (old : World) (sent : Sent) (line : Line) (new : World) 
 abbrev pub Performs : World → Statement → Line → World → Type 0
 Performs old (statements.Replicas count) line new = Counts old count line new
 Performs old (statements.Create table columns partition key granularity window) line new =
-    Creates old table (shape_of columns key (granularity_of granularity) default_window) line new
+    Creates old table (shape_of columns key None (granularity_of granularity) default_window) line new
 Performs old (statements.At sent) line new = PerformsSent old sent line new
 Performs old statement line new = ⊥
 

@@ -15,11 +15,9 @@ mod schema;
 mod script;
 mod script_end;
 mod status;
-#[cfg(test)]
-mod tests;
 mod top;
 mod words;
 
 pub use end::End;
 pub use status::Status;
-pub use top::run;
+pub use top::{LONGEST, run};

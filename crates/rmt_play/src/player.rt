@@ -1,9 +1,9 @@
 ghost use Rattle.std.specs.Prelude.{◌≡◌, ◌<◌, ◌∷◌, suc, [], true, false, length, IfOk, IfErr};
 ghost use Rattle.std.specs.declared.option.Option.TheVariants.{Some};
 ghost use Rattle.rmt_play.specs.World.{start as start_of_all};
+ghost use Rattle.rmt_values.specs.Rows.{is_empty};
 ghost use Rattle.rmt_play.specs.Checks.{
   first_of,
-  is_empty,
   is_played as statement_test,
   is_played_act as act_test,
   refused_schema,

@@ -47,15 +47,22 @@ pub(crate) fn new_schema(
     granularity: Option<u128>,
 ) -> Result<Result<Schema, SchemaError>, AllocError>
     ensures ok { IfOk result (λ made. IfOk made (λ schema. schema
-        ≡ shape_of columns key (granularity_of granularity) default_window)) }
+        ≡ shape_of columns key None (granularity_of granularity) default_window)) }
     ensures known { IfOk result (λ made. IfOk made (λ _.
-        schema_refusal columns key (granularity_of granularity) default_window ≡ None)) }
+        schema_refusal columns key None (granularity_of granularity) default_window ≡ None)) }
     ensures refused { IfOk result (λ made. IfErr made (λ e.
-        schema_refusal columns key (granularity_of granularity) default_window ≡ Some e)) }
+        schema_refusal columns key None (granularity_of granularity) default_window ≡ Some e)) }
 {
     let columns = columns.into_vec();
     let key = key.into_vec();
-    match Schema::new(alloc, columns, key, clipped(granularity), DEFAULT_WINDOW) {
+    match Schema::new(
+        alloc,
+        columns,
+        key,
+        None,
+        clipped(granularity),
+        DEFAULT_WINDOW,
+    ) {
         Ok(schema) => Ok(Ok(schema)),
         Err(error) if is_memory(&error) => Err(AllocError),
         Err(refusal) => Ok(Err(refusal)),

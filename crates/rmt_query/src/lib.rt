@@ -7,8 +7,6 @@ mod granule_counts;
 mod laws;
 mod matches;
 mod runs;
-#[cfg(test)]
-mod tests;
 mod tuple;
 
 pub use answers::answer;

@@ -55,18 +55,3 @@ impl<T: Drop> Seen<T> {
         })
     }
 }
-
-#[cfg(test)]
-mod tests {
-    use super::*;
-    use std::test::Fail;
-
-    #[test]
-    fn a_copy_tells_the_same(rt: HostRuntime) -> Result<(), Fail> {
-        let seen = Seen::of(3, Arc::new(rt.alloc(), 7_u64)?);
-        let other = seen.copy()?;
-        assert_eq!(rt; other.place(), 3);
-        assert_eq!(rt; *other.value(), 7);
-        Ok(())
-    }
-}

@@ -9,8 +9,11 @@ use Rattle.std.specs.declared.option.Option.{Option}
 use Rattle.std.specs.declared.option.Option.TheVariants.{Some, None}
 use Rattle.rmt_values.specs.declared.column.Column.{Column}
 use Rattle.rmt_values.specs.declared.schema_error.SchemaError.TheVariants.{UnknownColumn, DoubleColumn, WrongType}
-use Rattle.rmt_values.specs.Rows.{AllBelow, place_from}
-use Rattle.rmt_values.specs.Schemas.{names_of, has_name, first_unknown, first_double, wrong_setting, no_columns, too_many, schema_refusal, places_of, shape_of, HasNot, AreDistinct, IsSchema}
+use Rattle.rmt_values.specs.declared.kind.Kind.{Kind}
+use Rattle.rmt_values.specs.declared.kind.Kind.TheVariants as kinds
+use Rattle.rmt_values.specs.Rows.{AllBelow, place_from, kind_at, kind_there, kind_named}
+use Rattle.rmt_values.specs.Partitions.{Divides, IsRule}
+use Rattle.rmt_values.specs.Schemas.{names_of, has_name, first_unknown, first_double, unknown_in_rule, is_uint64, wrong_rule, wrong_setting, no_columns, too_many, schema_refusal, place_of, places_of, rule_of, shape_of, HasNot, AreDistinct, IsSchema}
 
 -- neither of two is there
 neither : {X : Type 0} (a b : Option X) → option_or a b ≡ None → (a ≡ None) × (b ≡ None)
@@ -107,36 +110,57 @@ some-columns : (cs : List Column) → no_columns cs ≡ None → 1 ≤ length cs
 some-columns [] h = absurd (cc)
 some-columns (c ∷ cs) h = omega arith
 
+-- a column that is found, and is one of UInt64
+found-uint64 : (cs : List Column) (place : Option ℕ) → is_uint64 (kind_there cs place) ≡ true → kind_at cs (unwrap_or place 0) ≡ Some kinds.UInt64
+found-uint64 cs None h = absurd (cc)
+found-uint64 cs (Some i) h = go (kind_at cs i) h where
+  go : (k : Option Kind) → is_uint64 k ≡ true → k ≡ Some kinds.UInt64
+  go None h = absurd (cc)
+  go (Some kinds.UInt64) h = refl
+  go (Some kinds.Int64) h = absurd (cc)
+  go (Some kinds.Text) h = absurd (cc)
+
+-- a rule that isn't wrong divides the columns
+right-rule : (cs : List Column) (rule : Option (List ℕ × ℕ)) → wrong_rule cs rule ≡ None → IsRule cs (rule_of cs rule)
+right-rule cs None h = tt
+right-rule cs (Some r) h =
+    let t = and_parts (is_uint64 (kind_named cs r.0)) (nat_le 1 r.1) (passed _ _ h) in
+    record { typed = found-uint64 cs (place_from 0 cs r.0) t.0; some = leb-true 1 r.1 t.1 }
+
 -- the reasons that don't hold, one by one
-pub record NoReasons (columns : List Column) (key : List (List ℕ)) (granularity window : ℕ) : Type 0 where
+pub record NoReasons (columns : List Column) (key : List (List ℕ)) (rule : Option (List ℕ × ℕ)) (granularity window : ℕ) : Type 0 where
   pub empty : no_columns columns ≡ None
   pub unknown : first_unknown (names_of columns) key ≡ None
   pub double_column : first_double (names_of columns) ≡ None
   pub double_name : first_double key ≡ None
+  pub wrong : wrong_rule columns rule ≡ None
   pub setting : wrong_setting granularity window ≡ None
   pub many : too_many columns ≡ None
 
-pub no-reasons : (columns : List Column) (key : List (List ℕ)) (granularity window : ℕ) → schema_refusal columns key granularity window ≡ None → NoReasons columns key granularity window
+pub no-reasons : (columns : List Column) (key : List (List ℕ)) (rule : Option (List ℕ × ℕ)) (granularity window : ℕ) → schema_refusal columns key rule granularity window ≡ None → NoReasons columns key rule granularity window
 unfolding schema_refusal
-no-reasons columns key g w h =
+no-reasons columns key r g w h =
     let a = neither (no_columns columns) _ h in
-    let b = neither (option_map (λ (n : List ℕ). UnknownColumn n) (first_unknown (names_of columns) key)) _ a.1 in
+    let b = neither (option_map (λ (n : List ℕ). UnknownColumn n) (option_or (unknown_in_rule columns r) (first_unknown (names_of columns) key))) _ a.1 in
     let c = neither (option_map (λ (n : List ℕ). DoubleColumn n) (first_double (names_of columns))) _ b.1 in
     let d = neither (option_map (λ (n : List ℕ). DoubleColumn n) (first_double key)) _ c.1 in
-    let e = neither (option_map (λ (n : List ℕ). WrongType n) (wrong_setting g w)) _ d.1 in
+    let e = neither (option_map (λ (n : List ℕ). WrongType n) (option_or (wrong_rule columns r) (wrong_setting g w))) _ d.1 in
+    let names = neither (unknown_in_rule columns r) _ (unmapped _ _ b.0) in
+    let numbers = neither (wrong_rule columns r) _ (unmapped _ _ e.0) in
     record {
       empty = a.0;
-      unknown = unmapped _ _ b.0;
+      unknown = names.1;
       double_column = unmapped _ _ c.0;
       double_name = unmapped _ _ d.0;
-      setting = unmapped _ _ e.0;
+      wrong = numbers.0;
+      setting = numbers.1;
       many = e.1;
     }
 
 -- what is refused for no reason makes a schema
-pub makes-schema : (columns : List Column) (key : List (List ℕ)) (granularity window : ℕ) → schema_refusal columns key granularity window ≡ None → IsSchema (shape_of columns key granularity window)
-makes-schema columns key g w h =
-    let r = no-reasons columns key g w h in
+pub makes-schema : (columns : List Column) (key : List (List ℕ)) (rule : Option (List ℕ × ℕ)) (granularity window : ℕ) → schema_refusal columns key rule granularity window ≡ None → IsSchema (shape_of columns key rule granularity window)
+makes-schema columns key rule g w h =
+    let r = no-reasons columns key rule g w h in
     let s = neither (cond (nat_le 1 g && nat_le g 65536) None (Some (codes "index_granularity"))) _ r.setting in
     let t = and_parts (nat_le 1 g) (nat_le g 65536) (passed _ _ s.0) in
     record {
@@ -145,6 +169,7 @@ makes-schema columns key g w h =
       names_differ = distinct-names (names_of columns) r.double_column;
       key_there = places-there columns key r.unknown;
       key_differs = distinct-places columns key r.unknown (distinct-names key r.double_name);
+      rule = right-rule columns rule r.wrong;
       some_granularity = leb-true 1 g t.0;
       small_granularity = leb-true g 65536 t.1;
       small_window = leb-true w 100000 (passed _ _ s.1);

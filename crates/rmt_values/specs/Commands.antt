@@ -14,6 +14,7 @@ use Rattle.rmt_values.specs.declared.checked_mutation.CheckedMutation.{CheckedMu
 use Rattle.rmt_values.specs.declared.checked_mutation.CheckedMutation.TheVariants.{Update, Delete}
 use Rattle.rmt_values.specs.declared.kind.Kind.{Kind}
 use Rattle.rmt_values.specs.declared.kind.Kind.TheVariants as kinds
+use Rattle.rmt_values.specs.declared.partition_rule.PartitionRule.{PartitionRule}
 use Rattle.rmt_values.specs.Rows.{Shape, kind_at}
 use Rattle.rmt_values.specs.Filters.{holds, FilterFits, IsOfColumn}
 
@@ -88,15 +89,26 @@ abbrev pub NotAmong : List ℕ → ℕ → Type 0
 NotAmong [] column = Unit {0}
 NotAmong (c ∷ cs) column = (c ≡ column → ⊥) × NotAmong cs column
 
+-- the column of the partition rule, where there is one
+abbrev pub rule_columns : Option PartitionRule → List ℕ
+rule_columns None = []
+rule_columns (Some rule) = rule.column ∷ []
+
 -- no pair sets this column
 abbrev pub SetsNot : ℕ → List (ℕ × CheckedRight) → Type 0
 SetsNot column [] = Unit {0}
 SetsNot column (s ∷ ss) = (s.0 ≡ column → ⊥) × SetsNot column ss
 
--- each column is set once, is no key column, and is set to a value of its type
+-- a set of an UPDATE of a schema: of no column of the sorting key, and not of that of the partition rule
+pub record SetFits (shape : Shape) (column : ℕ) (what : CheckedRight) : Type 0 where
+  pub no_key : NotAmong shape.key column
+  pub no_partition : NotAmong (rule_columns shape.partition) column
+  pub value : RightFits shape column what
+
+-- each column is set once, and may be set so
 abbrev pub SetsFit : Shape → List (ℕ × CheckedRight) → Type 0
 SetsFit shape [] = Unit {0}
-SetsFit shape (s ∷ ss) = NotAmong shape.key s.0 × RightFits shape s.0 s.1 × SetsNot s.0 ss × SetsFit shape ss
+SetsFit shape (s ∷ ss) = SetFits shape s.0 s.1 × SetsNot s.0 ss × SetsFit shape ss
 
 -- a command of a schema
 abbrev pub CommandFits : Shape → CheckedMutation → Type 0

@@ -1,4 +1,5 @@
 pub mod Rows
+pub mod Partitions
 pub mod Schemas
 pub mod Order
 pub mod Filters

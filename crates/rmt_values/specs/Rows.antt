@@ -13,16 +13,23 @@ use Rattle.rmt_values.specs.Order.{in_order}
 use Rattle.rmt_values.specs.declared.value.Value.{Value}
 use Rattle.rmt_values.specs.declared.value.Value.TheVariants.{UInt, Int, Text}
 use Rattle.rmt_values.specs.declared.column.Column.{Column}
+use Rattle.rmt_values.specs.declared.partition_rule.PartitionRule.{PartitionRule}
 use Rattle.rmt_values.specs.declared.kind.Kind.{Kind}
 use Rattle.rmt_values.specs.declared.kind.Kind.TheVariants as kinds
 
--- a schema: its columns, the places of its key columns in their order, the rows of a granule, the blocks that the
--- window of insert deduplication keeps
+-- a schema: its columns, the places of its key columns in their order, the rule by which it is divided, the rows of a
+-- granule, the blocks that the window of insert deduplication keeps
 pub record Shape : Type 0 where
   pub columns : List Column
   pub key : List ℕ
+  pub partition : Option PartitionRule
   pub granularity : ℕ
   pub window : ℕ
+
+-- the list has no element
+abbrev pub is_empty : {X : Type 0} → List X → Bool
+is_empty [] = true
+is_empty (x ∷ xs) = false
 
 -- each number is below n
 abbrev pub AllBelow : ℕ → List ℕ → Type 0
@@ -67,6 +74,15 @@ place_from i (c ∷ cs) name = cond (pointwise nat_eq c.name name) (Some i) (pla
 -- the kind of the column at a place
 abbrev pub kind_at : List Column → ℕ → Option Kind
 kind_at columns i = option_map (λ c. c.kind) (slice_get columns i)
+
+-- the type of the column at a place, where there is one
+abbrev pub kind_there : List Column → Option ℕ → Option Kind
+kind_there columns None = None
+kind_there columns (Some i) = kind_at columns i
+
+-- the type of the first column of this name
+abbrev pub kind_named : List Column → List ℕ → Option Kind
+kind_named columns name = kind_there columns (place_from 0 columns name)
 
 -- numbers as numbers, texts by their bytes; different types in the order of the types
 abbrev pub value_cmp : Value → Value → Ordering

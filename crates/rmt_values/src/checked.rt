@@ -64,34 +64,3 @@ impl Equals for Checked {
         }
     }
 }
-
-#[cfg(test)]
-mod tests {
-    use super::*;
-    use std::test::Fail;
-
-    fn test_of(alloc: Global, column: u16) -> Result<Boxed<Checked>, Fail> {
-        Ok(Boxed::new(
-            alloc,
-            Checked::Test {
-                column,
-                cmp: Cmp::Gt,
-                value: Value::Int(-3),
-            },
-        )?)
-    }
-
-    #[test]
-    fn a_copy_is_the_same_filter(rt: HostRuntime) -> Result<(), Fail> {
-        let alloc = rt.alloc();
-        let both = Checked::Both(test_of(alloc, 0)?, test_of(alloc, 1)?);
-        let either = Checked::Either(Boxed::new(alloc, both)?, test_of(alloc, 2)?);
-        let filter = Checked::Not(Boxed::new(alloc, either)?);
-        let (one, other) = (
-            format!(in alloc; "{filter:?}")?,
-            format!(in alloc; "{:?}", filter.copy(alloc)?)?,
-        );
-        assert_eq!(rt; one.as_str(), other.as_str());
-        Ok(())
-    }
-}

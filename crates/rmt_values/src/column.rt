@@ -23,21 +23,3 @@ impl Column {
         })
     }
 }
-
-#[cfg(test)]
-mod tests {
-    use super::*;
-    use std::test::Fail;
-
-    #[test]
-    fn a_copy_is_the_same_column(rt: HostRuntime) -> Result<(), Fail> {
-        let column = Column {
-            name: Name::from_slice(rt.alloc(), b"hits")?,
-            kind: Kind::Int64,
-        };
-        let copy = column.copy()?;
-        assert!(rt; copy.name.equals(&column.name));
-        assert_eq!(rt; copy.kind, Kind::Int64);
-        Ok(())
-    }
-}

@@ -67,19 +67,3 @@ impl Name {
         self.bytes.as_slice().cmp(other.bytes.as_slice())
     }
 }
-
-#[cfg(test)]
-mod tests {
-    use super::*;
-    use std::test::Fail;
-
-    #[test]
-    fn a_name_has_its_bytes(rt: HostRuntime) -> Result<(), Fail> {
-        let name = Name::from_slice(rt.alloc(), b"hits")?;
-        let other = name.copy()?;
-        assert!(rt; other.is(b"hits"));
-        assert!(rt; !other.is(b"Hits"));
-        assert_eq!(rt; name.as_bytes(), b"hits".as_slice());
-        Ok(())
-    }
-}

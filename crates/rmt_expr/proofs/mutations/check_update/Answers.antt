@@ -1,7 +1,7 @@
 use Rattle.std.proofs.Common.{rules, ◌≡◌}
 use Rattle.std.specs.declared.option.Option.TheVariants.{None}
 use Rattle.rmt_values.specs.Schemas.{first_double}
-use Rattle.rmt_expr.specs.Mutations.{key_in_sets, lefts}
+use Rattle.rmt_expr.specs.Mutations.{fixed_in_sets, lefts}
 use Rattle.rmt_expr.specs.Placed.{ArePlaced}
 use Rattle.rmt_expr.proofs.SetLemmas.{are_sets, sets_fit}
 use Rattle.rmt_expr.proofs.mutations.check_update.Goals as goal
@@ -15,5 +15,5 @@ pub returns-in-None-clause-fits : goal.returns-in-None-clause-fits
 returns-in-None-clause-fits c =
     let placed : ArePlaced c.args.schema.now c.args.sets.now c.new.result = search rules in
     let once : first_double (lefts c.args.sets.now) ≡ None = search rules in
-    let no_key : key_in_sets c.args.schema.now c.args.sets.now ≡ None = search rules in
-    (sets_fit _ _ _ placed once no_key, search rules)
+    let free : fixed_in_sets c.args.schema.now c.args.sets.now ≡ None = search rules in
+    (sets_fit _ _ _ placed once free, search rules)
