@@ -13,7 +13,8 @@ use Rattle.rmt_values.specs.declared.value.Value.TheVariants.{UInt, Int, Text}
 use Rattle.rmt_values.specs.declared.kind.Kind.{Kind}
 use Rattle.rmt_values.specs.declared.kind.Kind.TheVariants as kinds
 use Rattle.rmt_values.specs.Rows.{is_of, is_value, same_kind, kind_of}
-use Rattle.rmt_block.specs.Blocks.{row_fits, RowsFit, kind_byte, value_bytes, row_bytes, head_bytes, block_bytes, IsInRange, AreRowsOf, BlockView, IsBlock, id_of}
+use Rattle.rmt_bytes.specs.Encoding.{kind_byte, value_bytes, IsInRange}
+use Rattle.rmt_block.specs.Blocks.{row_fits, RowsFit, row_bytes, head_bytes, block_bytes, AreRowsOf, BlockView, IsBlock, id_of}
 use Rattle.rmt_block.specs.declared.block_id.BlockId.{BlockId}
 
 -- lists whose prefixes are of one length are equal where their prefixes and their rests are

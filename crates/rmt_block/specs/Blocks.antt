@@ -1,18 +1,22 @@
 -- Blocks of rows, their bytes and their ids.
 -- FIPS 180-4, section 6.2: SHA-256. ClickHouse documentation, Data Replication: a block that is inserted again is told by
 -- its checksum. Which bytes a block has is this program's own; numbers have their most significant byte first.
-use Rattle.std.specs.Prelude.{◌≡◌, ℕ, ◌<◌, ◌^◌, ◌&&◌, Bool, true, false, List, [], ◌∷◌, ◌++◌, length, map, FitsSigned}
+use Rattle.std.specs.Prelude.{◌≡◌, ℕ, ◌<◌, ◌^◌, ◌&&◌, Bool, true, false, List, [], ◌∷◌, ◌++◌, length, map, codes, FitsSigned, IfSome}
 use Rattle.std.specs.Int.{w16, w32, w64, to_be_bytes, cast_unsigned}
 use Rattle.std.specs.List.{All, flat_map}
 use Rattle.std.specs.declared.option.Option.{Option}
-use Rattle.std.specs.declared.option.Option.TheVariants.{None}
 use Rattle.sha2.specs.Sha256.{sha256}
+use Rattle.hex.specs.Hex.{encode_lower}
 use Rattle.rmt_values.specs.declared.value.Value.{Value}
 use Rattle.rmt_values.specs.declared.value.Value.TheVariants.{UInt, Int, Text}
 use Rattle.rmt_values.specs.declared.kind.Kind.{Kind}
 use Rattle.rmt_values.specs.declared.kind.Kind.TheVariants as kinds
 use Rattle.rmt_values.specs.declared.column.Column.{Column}
+use Rattle.rmt_values.specs.declared.partition_rule.PartitionRule.{PartitionRule}
 use Rattle.rmt_values.specs.Rows.{is_of}
+use Rattle.rmt_values.specs.Partitions.{partition_of}
+use Rattle.rmt_names.specs.Texts.{partition_text}
+use Rattle.rmt_bytes.specs.Encoding.{IsInRange, kind_byte, value_bytes}
 use Rattle.rmt_block.specs.declared.block_id.BlockId.{BlockId}
 
 -- the rows of an INSERT: their partition, the types of their columns, the rows as they were offered, and their digest
@@ -37,12 +41,6 @@ row_fits (k ∷ ks) (v ∷ vs) = is_of k v && row_fits ks vs
 abbrev pub RowsFit : List Kind → List (List Value) → Type 0
 RowsFit kinds rows = All (λ row. row_fits kinds row ≡ true) rows
 
--- a number that its type holds
-abbrev pub IsInRange : Value → Type 0
-IsInRange (UInt n) = n < 2 ^ 64
-IsInRange (Int z) = FitsSigned w64 z
-IsInRange (Text s) = Unit {0}
-
 -- rows of these types, no more of them and no more columns than a block can count
 pub record AreRowsOf (kinds : List Kind) (rows : List (List Value)) : Type 0 where
   pub fit : RowsFit kinds rows
@@ -51,18 +49,6 @@ pub record AreRowsOf (kinds : List Kind) (rows : List (List Value)) : Type 0 whe
   pub few_columns : length kinds < 2 ^ 16
 
 -- ---- bytes
-
--- the number that stands for a type
-abbrev pub kind_byte : Kind → ℕ
-kind_byte kinds.UInt64 = 1
-kind_byte kinds.Int64 = 2
-kind_byte kinds.Text = 3
-
--- a number in 8 bytes, an Int64 in two's complement; a String after its length in 2 bytes
-abbrev pub value_bytes : Value → List ℕ
-value_bytes (UInt n) = to_be_bytes w64 n
-value_bytes (Int z) = to_be_bytes w64 (cast_unsigned w64 z)
-value_bytes (Text s) = to_be_bytes w16 (length s) ++ s
 
 -- the values, one after the other
 abbrev pub row_bytes : List Value → List ℕ
@@ -76,12 +62,18 @@ head_bytes kinds rows = to_be_bytes w16 (length kinds) ++ map kind_byte kinds ++
 unfoldable pub block_bytes : List Kind → List (List Value) → List ℕ
 block_bytes kinds rows = head_bytes kinds (length rows) ++ flat_map row_bytes rows
 
--- a block of rows of these types, of a table that isn't partitioned
-abbrev pub block_of : List Kind → List (List Value) → BlockView
-block_of kinds rows = record { partition = None; kinds = kinds; rows = rows; digest = sha256 (block_bytes kinds rows) }
+-- a block of rows of these types and this partition
+abbrev pub block_of : Option ℕ → List Kind → List (List Value) → BlockView
+block_of p kinds rows = record { partition = p; kinds = kinds; rows = rows; digest = sha256 (block_bytes kinds rows) }
+
+-- by some rule, all these rows are of this partition
+pub record AreOfOne (p : Option ℕ) (rows : List (List Value)) : Type 0 where
+  pub rule : Option PartitionRule
+  pub partition : All (λ row. partition_of rule row ≡ p) rows
 
 -- what each block keeps
 pub record IsBlock (b : BlockView) : Type 0 where
+  pub partition : AreOfOne b.partition b.rows
   pub digest : b.digest ≡ sha256 (block_bytes b.kinds b.rows)
   pub rows : AreRowsOf b.kinds b.rows
 
@@ -90,6 +82,16 @@ pub record IsBlock (b : BlockView) : Type 0 where
 -- the id: the partition and the digest
 abbrev pub id_of : BlockView → BlockId
 id_of b = record { partition = b.partition; digest = b.digest }
+
+-- the text of an id: that of its partition, an underscore, and its digest in lower-case hexadecimal digits
+abbrev pub id_text_of : BlockId → List ℕ
+id_text_of i = partition_text i.partition ++ codes "_" ++ encode_lower i.digest
+
+-- an id that a block may have: a partition in its width, and a digest of 32 bytes
+pub record IsId (i : BlockId) : Type 0 where
+  pub partition : IfSome i.partition (λ p. p < 2 ^ 64)
+  pub size : length i.digest ≡ 32
+  pub bytes : All (λ b. b < 2 ^ 8) i.digest
 
 -- each of the blocks that has the id of b is b
 abbrev pub NoneLike : BlockView → List BlockView → Type 0

@@ -2,7 +2,8 @@
 ghost use Rattle.std.specs.Prelude.{◌≡◌, List};
 ghost use Rattle.rmt_values.specs.declared.kind.Kind.{Kind};
 ghost use Rattle.rmt_values.specs.declared.value.Value.{Value};
-ghost use Rattle.rmt_block.specs.Blocks.{AreRowsOf, BlockView, IsBlock, block_bytes, id_of};
+ghost use Rattle.rmt_block.specs.Blocks.{AreRowsOf, BlockView, IsBlock, IsId, block_bytes, id_of, id_text_of};
+ghost use Rattle.rmt_block.specs.declared.block_id.BlockId.{BlockId};
 
 /// Law: rows that have the same bytes are the same rows, of the same types.
 pub fn one_spelling()
@@ -14,4 +15,9 @@ pub fn one_spelling()
 pub fn only_a_collision_is_unclear()
     ensures { (a b : BlockView) →
         IsBlock a → IsBlock b → id_of a ≡ id_of b → block_bytes a.kinds a.rows ≡ block_bytes b.kinds b.rows → a ≡ b }
+{}
+
+/// Law: two ids that have the same text are the same id.
+pub fn one_id_text()
+    ensures { (i j : BlockId) → IsId i → IsId j → id_text_of i ≡ id_text_of j → i ≡ j }
 {}

@@ -3,9 +3,11 @@ ghost use Rattle.std.specs.List.{All};
 ghost use Rattle.std.specs.Int.{w16, to_be_bytes};
 ghost use Rattle.rmt_values.specs.Rows.{is_value};
 ghost use Rattle.sha2.specs.Sha256.{sha256};
-ghost use Rattle.rmt_block.specs.Blocks.{RowsFit, IsInRange, kind_byte as byte_of, value_bytes, row_bytes, head_bytes, block_bytes};
+ghost use Rattle.rmt_bytes.specs.Encoding.{IsInRange, kind_byte, value_bytes};
+ghost use Rattle.rmt_block.specs.Blocks.{RowsFit, row_bytes, head_bytes, block_bytes};
 
 use crate::block::Block;
+use rmt_bytes::{put_kind, put_u16, put_u32, put_value};
 use rmt_values::{Kind, Row, Value};
 use sha2::{Digest, Sha256};
 use std::alloc::{AllocError, Global};
@@ -50,18 +52,18 @@ fn push_head(out: &mut Vec<u8>, kinds: &[Kind], rows: usize) -> Result<(), Alloc
     requires few_rows { rows < 2 ^ 32 }
     ensures { OnOk result (out.new.items ≡ out.old.items ++ head_bytes kinds.now rows) }
 {
-    out.extend_from_slice(&(kinds.len() as u16).to_be_bytes())?;
+    put_u16(out, kinds.len() as u16)?;
     push_kinds(out, kinds)?;
-    out.extend_from_slice(&(rows as u32).to_be_bytes())?;
+    put_u32(out, rows as u32)?;
     Ok(())
 }
 
 // Writes the number that stands for each type.
 fn push_kinds(out: &mut Vec<u8>, kinds: &[Kind]) -> Result<(), AllocError>
-    ensures { OnOk result (out.new.items ≡ out.old.items ++ map byte_of kinds.now) }
+    ensures { OnOk result (out.new.items ≡ out.old.items ++ map kind_byte kinds.now) }
 {
     'kinds: for kind in kinds {
-        out.push(kind_byte(*kind))?;
+        put_kind(out, *kind)?;
     }
     Ok(())
 }
@@ -85,31 +87,5 @@ fn push_value(out: &mut Vec<u8>, value: &Value) -> Result<(), AllocError>
     ensures ok { OnOk result (out.new.items ≡ out.old.items ++ value_bytes value.now) }
     ensures in_range { OnOk result (IsInRange value.now) }
 {
-    match value {
-        Value::UInt(number) => out.extend_from_slice(&number.to_be_bytes())?,
-        Value::Int(number) => out.extend_from_slice(&number.to_be_bytes())?,
-        Value::Text(text) => push_text(out, text.as_bytes())?,
-    }
-    Ok(())
-}
-
-// Writes the length of a String and the String.
-fn push_text(out: &mut Vec<u8>, text: &[u8]) -> Result<(), AllocError>
-    requires { length text.now ≤ 65535 }
-    ensures { OnOk result (out.new.items ≡ out.old.items ++ to_be_bytes w16 (length text.now) ++ text.now) }
-{
-    out.extend_from_slice(&(text.len() as u16).to_be_bytes())?;
-    out.extend_from_slice(text)?;
-    Ok(())
-}
-
-// The number that stands for a type.
-fn kind_byte(kind: Kind) -> u8
-    ensures { result ≡ byte_of kind }
-{
-    match kind {
-        Kind::UInt64 => 1,
-        Kind::Int64 => 2,
-        Kind::Text => 3,
-    }
+    put_value(out, value)
 }

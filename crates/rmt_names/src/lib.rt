@@ -6,4 +6,6 @@ mod laws;
 mod name;
 
 pub use laws::one_spelling;
-pub use name::{PartName, PartitionId, block_name, covers, data_version, parse, text};
+pub use name::{
+    PartName, PartitionId, block_name, covers, data_version, parse, partition_text, text,
+};

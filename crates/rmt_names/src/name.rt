@@ -1,7 +1,7 @@
 ghost use Rattle.std.specs.Prelude.{◌≡◌, ◌≤◌, ◌++◌, ◌↔◌, IsTrue, IfOk, OnOk, IfSome};
 ghost use Rattle.std.specs.String.{string_bytes};
 ghost use Rattle.rmt_names.specs.Names.{Name, IsName, Covers, covers as covers_of, data_version as version_of, block_name as block_name_of};
-ghost use Rattle.rmt_names.specs.Texts.{field, text_of};
+ghost use Rattle.rmt_names.specs.Texts.{field, partition_text as partition_text_of, text_of};
 
 use crate::fields::{read_field, read_last_fields, read_partition};
 use rmt_list::Equals;
@@ -125,14 +125,21 @@ pub fn block_name(partition: PartitionId, number: u32) -> PartName
     }
 }
 
+/// The text of a partition's id: `all`, or its number. At an error no memory was left.
+pub fn partition_text(alloc: Global, partition: PartitionId) -> Result<String, AllocError>
+    ensures { IfOk result (λ t. string_bytes t ≡ partition_text_of partition) }
+{
+    match partition {
+        None => String::from_str(alloc, "all"),
+        Some(number) => number.to_string(alloc),
+    }
+}
+
 /// The text of a name, its one spelling.
 pub fn text(alloc: Global, name: &PartName) -> Result<String, AllocError>
     ensures { IfOk result (λ t. string_bytes t ≡ text_of name.now) }
 {
-    let mut text = match name.partition {
-        None => String::from_str(alloc, "all")?,
-        Some(partition) => partition.to_string(alloc)?,
-    };
+    let mut text = partition_text(alloc, name.partition)?;
     push_field(alloc, &mut text, name.min)?;
     push_field(alloc, &mut text, name.max)?;
     push_field(alloc, &mut text, name.level)?;
@@ -175,118 +182,4 @@ pub fn parse(text: &str) -> Option<PartName>
         level,
         mutation,
     })
-}
-
-#[cfg(test)]
-mod tests {
-    use super::*;
-    use std::test::Fail;
-
-    #[test]
-    fn each_name_is_read_from_its_text_and_written_back(rt: HostRuntime) -> Result<(), Fail> {
-        let rows: [(&str, PartitionId, [u32; 4]); 9] = [
-            ("all_0_0_0", None, [0, 0, 0, 0]),
-            ("all_1_3_1", None, [1, 3, 1, 0]),
-            ("all_0_2_1_1", None, [0, 2, 1, 1]),
-            ("0_0_0_0", Some(0), [0, 0, 0, 0]),
-            ("202405_10_19_2_23", Some(202405), [10, 19, 2, 23]),
-            ("18446744073709551615_7_7_0", Some(u64::MAX), [7, 7, 0, 0]),
-            ("9_0_4294967295_0", Some(9), [0, u32::MAX, 0, 0]),
-            (
-                "9_4294967295_4294967295_4294967295",
-                Some(9),
-                [u32::MAX, u32::MAX, u32::MAX, 0],
-            ),
-            ("all_100_101_1_4294967295", None, [100, 101, 1, u32::MAX]),
-        ];
-        for (row, partition, numbers) in rows {
-            let name = parse(row).ok_or("no name")?;
-            let fields = [name.min(), name.max(), name.level(), name.mutation()];
-            assert_eq!(rt; name.partition(), partition);
-            assert_eq!(rt; fields, numbers);
-            let written = text(rt.alloc(), &name)?;
-            assert_eq!(rt; written.as_str(), row);
-        }
-        Ok(())
-    }
-
-    #[test]
-    fn a_text_that_no_name_has_is_refused(rt: HostRuntime) {
-        let rows = [
-            // Fields too few, too many or empty.
-            "",
-            "all",
-            "_",
-            "____",
-            "all_0_0",
-            "0_0_0",
-            "_0_0_0",
-            "all__0_0",
-            "all_0_0_",
-            "all_0_0_0_",
-            "_all_0_0_0",
-            "all_0_0_0_1_",
-            "all_0_0_0_1_1",
-            // Zeros at the start, signs and a mutation of 0.
-            "all_00_0_0",
-            "all_0_0_0_0",
-            "all_0_0_0_00",
-            "all_0_0_0_01",
-            "00_0_0_0",
-            "01_0_0_0",
-            "+1_0_0_0",
-            "-1_0_0_0",
-            "all_+0_0_0",
-            "all_0_-1_0",
-            "all_0_0_-0",
-            // Numbers out of range, and a highest below the lowest.
-            "18446744073709551616_0_0_0",
-            "all_0_4294967296_0",
-            "all_4294967296_4294967296_0",
-            "all_0_0_4294967296",
-            "all_0_0_0_4294967296",
-            "all_1_0_0",
-            "5_4294967295_4294967294_0",
-            // Other bytes.
-            "ALL_0_0_0",
-            "al_0_0_0",
-            "alle_0_0_0",
-            "all-0-0-0",
-            " all_0_0_0",
-            "all_0_0_0 ",
-            "all_0_0_0\n",
-            "all_0_0_\0",
-            "all_0x1_1_0",
-            "é_0_0_0",
-            "all_0_0_٠",
-            "０_0_0_0",
-        ];
-        for row in rows {
-            assert_eq!(rt; parse(row), None, "{row:?}");
-        }
-    }
-
-    #[test]
-    fn a_merged_part_covers_its_sources(rt: HostRuntime) -> Result<(), Fail> {
-        let source = block_name(None, 2);
-        assert_eq!(rt; text(rt.alloc(), &source)?.as_str(), "all_2_2_0");
-        assert_eq!(rt; data_version(&source), 2);
-        let rows = [
-            ("all_1_3_1", true),
-            ("all_2_2_0_4", true),
-            ("all_2_2_0", true),
-            ("all_3_4_1", false),
-            ("all_0_1_1", false),
-            ("7_1_3_1", false),
-        ];
-        for (row, expected) in rows {
-            let name = parse(row).ok_or("no name")?;
-            assert_eq!(rt; covers(&name, &source), expected, "{row}");
-        }
-        let mutated = PartName::new(None, 2, 2, 0, 4);
-        assert_eq!(rt; parse("all_2_2_0_4"), Some(mutated));
-        assert_eq!(rt; data_version(&mutated), 4);
-        assert!(rt; !covers(&source, &mutated));
-        Ok(())
-    }
 }

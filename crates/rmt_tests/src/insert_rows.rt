@@ -62,7 +62,7 @@ fn parsed_text(alloc: Global, parsed: &Parsed, schema: &Schema) -> Result<String
 /// The rows of an INSERT to a table of the columns `a UInt64`, `b Int64` and `c String`.
 fn insert_rows(alloc: Global, script: &str) -> Result<String, AllocError> {
     let columns = columns(alloc)?;
-    match Schema::new(alloc, columns, Vec::new(alloc), 8192, 100) {
+    match Schema::new(alloc, columns, Vec::new(alloc), None, 8192, 100) {
         Ok(schema) => {
             let parsed = next_statement(alloc, script.as_bytes(), 0)?;
             parsed_text(alloc, &parsed, &schema)

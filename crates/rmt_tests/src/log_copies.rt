@@ -141,7 +141,7 @@ fn a_log_of_all_kinds_is_followed(rt: HostRuntime) -> Result<(), Fail> {
             kind: Kind::UInt64
         },
     ]?;
-    let Ok(schema) = Schema::new(alloc, columns, Vec::new(alloc), 8192, 100) else {
+    let Ok(schema) = Schema::new(alloc, columns, Vec::new(alloc), None, 8192, 100) else {
         return Err("no schema".into());
     };
     let mut copy = LogCopy::new(alloc, Arc::new(alloc, schema)?);

@@ -17,7 +17,7 @@ fn data_of(alloc: Global, numbers: &[u64]) -> Result<Arc<PartData, Global>, Allo
             kind: Kind::UInt64
         },
     ]?;
-    let schema = Schema::new(alloc, columns, key, 8192, 100).map_err(|_| AllocError)?;
+    let schema = Schema::new(alloc, columns, key, None, 8192, 100).map_err(|_| AllocError)?;
     let mut rows = Vec::new(alloc);
     for number in numbers {
         rows.push(Row::new(vec![in alloc; Value::UInt(*number)]?))?;

@@ -17,7 +17,7 @@ fn one_column(alloc: Global) -> Result<Arc<Schema, Global>, Fail> {
         name,
         kind: Kind::UInt64,
     })?;
-    match Schema::new(alloc, columns, Vec::new(alloc), 8192, 100) {
+    match Schema::new(alloc, columns, Vec::new(alloc), None, 8192, 100) {
         Ok(schema) => Ok(Arc::new(alloc, schema)?),
         Err(_) => Err("no schema".into()),
     }

@@ -346,9 +346,10 @@ fn play_line(
 
 /// Plays the lines of a script on a new tree, and tells what comes otherwise.
 ///
-/// A command opens a session, ends one, is a multi, or after `one` an operation by its own call: `create PATH DATA [OWNER]`, `seq PATH DATA [OWNER]`,
-/// `set PATH DATA VERSION`, `delete PATH VERSION` and `check PATH VERSION`, joined by `&`, with `*` for any version and `-`
-/// for no data. A state has `PATH=DATA:VERSION:COUNTER` for each node, the upper ones first, and children in order.
+/// A command opens a session, ends one, is a multi, or after `one` an operation by its own call: `create PATH DATA
+/// [OWNER]`, `seq PATH DATA [OWNER]`, `set PATH DATA VERSION`, `delete PATH VERSION` and `check PATH VERSION`, joined by
+/// `&`, with `*` for any version and `-` for no data. A state has `PATH=DATA:VERSION:COUNTER` for each node, the upper
+/// ones first, and children in order.
 fn play_all(alloc: Global, script: &str) -> Result<String, Fail> {
     let mut tree = Tree::new(alloc);
     let mut wrong = String::new(alloc);

@@ -2,7 +2,7 @@ use Rattle.std.proofs.Common.{◌∙◌, ap, refl, arith, List}
 use Rattle.std.proofs.lemmas.Grind.{common_steps}
 use Rattle.std.specs.List.{All}
 use Rattle.rmt_values.specs.declared.value.Value.{Value}
-use Rattle.rmt_block.specs.Blocks.{IsInRange}
+use Rattle.rmt_bytes.specs.Encoding.{IsInRange}
 use Rattle.sha2.specs.Sha256.{sha256}
 use Rattle.rmt_block.proofs.BlockLemmas.{All-is_value-at, All-take-at, block_bytes-all}
 use Rattle.rmt_block.proofs.spelling.digest_of.Goals as goal

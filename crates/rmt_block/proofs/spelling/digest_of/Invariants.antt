@@ -1,7 +1,8 @@
 use Rattle.std.proofs.Common.{◌++◌, take, length}
 use Rattle.std.specs.List.{All, flat_map}
 use Rattle.sha2.specs.Hashers.{Holds256}
-use Rattle.rmt_block.specs.Blocks.{head_bytes, row_bytes, IsInRange}
+use Rattle.rmt_bytes.specs.Encoding.{IsInRange}
+use Rattle.rmt_block.specs.Blocks.{head_bytes, row_bytes}
 use Rattle.rmt_block.proofs.spelling.digest_of.Given as goal
 
 abbrev pub invariant-rows : goal.invariant-rows

@@ -1,5 +1,5 @@
 use Rattle.std.proofs.Common.{◌≡◌, ◌++◌, take, map}
-use Rattle.rmt_block.specs.Blocks.{kind_byte}
+use Rattle.rmt_bytes.specs.Encoding.{kind_byte}
 use Rattle.rmt_block.proofs.spelling.push_kinds.Given as goal
 
 abbrev pub invariant-kinds : goal.invariant-kinds

@@ -1,6 +1,6 @@
 use Rattle.std.proofs.Common.{arith}
 use Rattle.std.proofs.lemmas.Grind.{common_steps}
-use Rattle.rmt_block.specs.Blocks.{IsInRange}
+use Rattle.rmt_bytes.specs.Encoding.{IsInRange}
 use Rattle.rmt_block.proofs.BlockLemmas.{All-take-at}
 use Rattle.rmt_block.proofs.spelling.push_row.Goals as goal
 

@@ -1,0 +1,3 @@
+pub mod NameCodes
+pub mod FilterCodes
+pub mod EntryCodes
