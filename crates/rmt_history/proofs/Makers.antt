@@ -14,9 +14,9 @@ use Rattle.rmt_entries.specs.Entries.{result_name}
 use Rattle.rmt_entries.specs.declared.entry.Entry.{Entry}
 use Rattle.rmt_model.specs.Words.{Has}
 use Rattle.rmt_model.specs.Live.{made, made_with}
-use Rattle.rmt_model.specs.Lawful.{entry_at}
+use Rattle.rmt_model.specs.Lawful.{entry_at, MakesAt}
 use Rattle.rmt_model.proofs.Drops.{entry-below}
-use Rattle.rmt_history.specs.Copies.{MakesAt, IsMadeBy, maker_after, name_cmp}
+use Rattle.rmt_history.specs.Copies.{IsMadeBy, maker_after, name_cmp}
 
 pub exact-option : CmpEqualImpliesEq (option_cmp nat_cmp)
 exact-option None None e = refl

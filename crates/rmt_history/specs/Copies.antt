@@ -1,4 +1,4 @@
--- What a copy of the prefix of a log keeps.
+-- What a copy of a prefix of a log keeps.
 use Rattle.std.specs.Prelude.{◌≡◌, ℕ, ◌≤◌, ◌<◌, ◌&&◌, Bool, false, cond, nat_eq, nat_lt, nat_le, length, List, [], ◌∷◌, map, reverse, slice_get, MatchOption}
 use Rattle.std.specs.declared.option.Option.{Option}
 use Rattle.std.specs.declared.option.Option.TheVariants.{Some, None}
@@ -9,12 +9,11 @@ use Rattle.std.specs.BTreeMap.{BTreeMap, get}
 use Rattle.rmt_names.specs.Names.{Name, rank}
 use Rattle.rmt_values.specs.Rows.{Shape}
 use Rattle.rmt_row.specs.Token.{Token}
-use Rattle.rmt_entries.specs.Entries.{result_name}
 use Rattle.rmt_entries.specs.declared.entry.Entry.{Entry}
 use Rattle.rmt_entries.specs.declared.entry.Entry.TheVariants.{Get, Merge, Mutate, Mutation, DropRange}
 use Rattle.rmt_model.specs.Words.{Has}
 use Rattle.rmt_model.specs.Live.{live, made}
-use Rattle.rmt_model.specs.Lawful.{Lawful, entry_at}
+use Rattle.rmt_model.specs.Lawful.{Lawful, MakesAt}
 use Rattle.rmt_history.specs.declared.last_drop.LastDrop.{LastDrop}
 
 -- a table's log: its schema, its entries, the newest first, and the cells that hold them, in the order of their places
@@ -30,12 +29,6 @@ entries tokens = reverse (map (λ t. t.value) tokens)
 -- the cells of tokens
 abbrev pub cells_of : List (Token Entry) → List ℕ
 cells_of tokens = map (λ t. t.cell) tokens
-
--- the entry at the place makes the name
-pub record MakesAt (log : List Entry) (i : ℕ) (a : Name) : Type 0 where
-  pub entry : Entry
-  pub stands : entry_at log i ≡ Some entry
-  pub makes : result_name entry ≡ Some a
 
 -- the place of the entry that makes the name; none where no entry does
 abbrev pub IsMadeBy : List Entry → Name → Option ℕ → Type 0

@@ -6,6 +6,7 @@ use Rattle.rmt_values.specs.declared.checked_mutation.CheckedMutation.{CheckedMu
 use Rattle.rmt_values.specs.Rows.{Shape}
 use Rattle.rmt_values.specs.Commands.{CommandFits}
 use Rattle.rmt_names.specs.Names.{Name, rank, Spans, data_version, merged_name}
+use Rattle.rmt_entries.specs.Entries.{result_name}
 use Rattle.rmt_entries.specs.declared.entry.Entry.{Entry}
 use Rattle.rmt_entries.specs.declared.entry.Entry.TheVariants.{Get, Merge, Mutate, Mutation, DropRange}
 use Rattle.rmt_model.specs.Words.{Has, Each, Pairwise}
@@ -63,6 +64,17 @@ ver log a = version_below log a.partition (data_version a)
 abbrev pub entry_at : List Entry → ℕ → Option Entry
 entry_at [] i = None
 entry_at (e ∷ log) i = cond (nat_eq i (length log)) (Some e) (entry_at log i)
+
+-- the entry at the place makes the name
+pub record MakesAt (log : List Entry) (i : ℕ) (a : Name) : Type 0 where
+  pub entry : Entry
+  pub stands : entry_at log i ≡ Some entry
+  pub makes : result_name entry ≡ Some a
+
+-- the shorter log is a prefix of the longer: all its entries are older than those that the longer one has besides
+pub record IsPrefix (shorter longer : List Entry) : Type 0 where
+  pub gained : List Entry
+  pub is : longer ≡ gained ++ shorter
 
 -- a mutation with this number in p is at this place
 abbrev pub IsMutationWith : Option Entry → Option ℕ → ℕ → Type 0

@@ -1,5 +1,5 @@
--- What is live after a list of entries. A log is a list of entries, the newest first,
--- so the place of an entry is the number of those after it.
+-- What is live after a list of entries. A log is a list of entries, the newest first, so the place of an entry is the
+-- number of the older ones, which stand after it in the list.
 use Rattle.std.specs.Prelude.{◌≡◌, ℕ, ◌<◌, ◌≤◌, ◌⊎◌, ◌&&◌, ◌||◌, Bool, cond, not, nat_eq, nat_lt, nat_le, List, [], ◌∷◌, filter, length}
 use Rattle.std.specs.declared.option.Option.{Option}
 use Rattle.std.specs.declared.option.Option.TheVariants.{Some, None}

@@ -1,21 +1,18 @@
--- Parts with their lineage, replicas, and the table that is kept beside the log.
-use Rattle.std.specs.Prelude.{◌≡◌, ◌⊎◌, ℕ, ◌<◌, Bool, cond, nat_eq, List, [], ◌∷◌, ◌++◌}
+-- Parts with what they were made from.
+-- ClickHouse documentation, MergeTree, "Data storage", and Data Replication: a part is made by one entry of the log, of
+-- blocks or of other parts. That a part keeps its blocks and mutations beside its rows is this program's own, for proofs.
+use Rattle.std.specs.Prelude.{◌≡◌, ℕ, ◌<◌, ◌≤◌, ◌&&◌, nat_lt, nat_le, List, [], ◌∷◌, ◌++◌, length}
+use Rattle.std.specs.List.{filter_map}
 use Rattle.std.specs.declared.option.Option.{Option}
-use Rattle.rmt_values.specs.Rows.{Shape}
-use Rattle.rmt_names.specs.Names.{Name, Covers, Spans, block_name}
+use Rattle.std.specs.declared.option.Option.TheVariants.{Some}
+use Rattle.rmt_values.specs.Rows.{Shape, in_key_order}
+use Rattle.rmt_names.specs.Names.{Name}
+use Rattle.rmt_entries.specs.Entries.{result_name}
 use Rattle.rmt_entries.specs.declared.entry.Entry.{Entry}
-use Rattle.rmt_entries.specs.declared.entry.Entry.TheVariants.{Get}
+use Rattle.rmt_entries.specs.declared.entry.Entry.TheVariants.{Get, Merge, Mutate, Mutation, DropRange}
 use Rattle.rmt_model.specs.Words.{Has, Each, Pairwise}
-use Rattle.rmt_model.specs.Live.{live, Dropped}
-use Rattle.rmt_model.specs.Lawful.{Used, AboveDrops, Lawful}
-use Rattle.rmt_model.specs.Content.{Row, Blocks, content}
-use Rattle.rmt_model.specs.Window.{Kept, kept}
-use Rattle.rmt_model.specs.Fair.{AreFair}
-
--- the longer log goes on from the shorter one
-pub record GoesOn (shorter longer : List Entry) : Type 0 where
-  pub gained : List Entry
-  pub is : longer ≡ gained ++ shorter
+use Rattle.rmt_model.specs.Lawful.{IsMutationWith}
+use Rattle.rmt_model.specs.Content.{Row, changed}
 
 -- a block by its number, its digest and its rows
 pub record Lodged : Type 0 where
@@ -23,86 +20,79 @@ pub record Lodged : Type 0 where
   pub digest : List ℕ
   pub rows : List Row
 
--- a part: the place of the entry that made it, its name, the blocks that went into it, its rows in order
-pub record PartView : Type 0 where
-  pub place : ℕ
-  pub name : Name
-  pub lineage : List Lodged
-  pub rows : List Row
-
--- the blocks that a lineage gives
-abbrev pub blocks_of : List Lodged → Blocks
-blocks_of [] p n = []
-blocks_of (b ∷ rest) p n = cond (nat_eq b.number n) b.rows (blocks_of rest p n)
-
--- one of the blocks has this number
-abbrev pub HasNumber : List Lodged → ℕ → Type 0
-HasNumber [] n = ⊥
-HasNumber (b ∷ rest) n = (b.number ≡ n) ⊎ HasNumber rest n
-
--- the log has this block at its number
+-- the log has this block of p at its number
 pub record IsOf (log : List Entry) (p : Option ℕ) (b : Lodged) : Type 0 where
   pub source : ℕ
   pub need : ℕ
   pub entry : Has log (Get p b.number b.digest source need)
 
--- the lineage has exactly the blocks of the name's range, each with its id, in order of number
-pub record IsLineage (log : List Entry) (a : Name) (lineage : List Lodged) : Type 0 where
-  pub rising : Pairwise (λ x y. x.number < y.number) lineage
-  pub within : Each (λ b. Spans a a.partition b.number × IsOf log a.partition b) lineage
-  pub whole : (n source need : ℕ) (digest : List ℕ) → Has log (Get a.partition n digest source need) → Spans a a.partition n → HasNumber lineage n
+-- what a part was made from: its blocks in order of number, and the mutations up to the last one applied, the newest first
+pub record Lineage : Type 0 where
+  pub blocks : List Lodged
+  pub mutations : List Entry
 
--- a part's data is the content of its name
+-- the rows of a block of p, after the mutations above its number and up to a limit
+abbrev pub lodged_rows : List Entry → Option ℕ → ℕ → Lodged → List Row
+lodged_rows mutations p limit b = filter_map (changed mutations p (λ k. nat_lt b.number k && nat_le k limit)) b.rows
+
+-- the rows of blocks of p, one after the other
+abbrev pub lineage_rows : List Entry → Option ℕ → ℕ → List Lodged → List Row
+lineage_rows mutations p limit [] = []
+lineage_rows mutations p limit (b ∷ rest) = lodged_rows mutations p limit b ++ lineage_rows mutations p limit rest
+
+-- the rows of a part of this name by what it was made from alone
+abbrev pub own_content : Shape → Lineage → Name → List Row
+own_content schema lineage a =
+    in_key_order schema (lineage_rows lineage.mutations a.partition a.mutation lineage.blocks)
+
+-- how many blocks the entry says that its part has
+abbrev pub blocks_told : Entry → ℕ
+blocks_told (Get p n digest source need) = 1
+blocks_told (Merge new sources count) = count
+blocks_told (Mutate old new upto count mcount) = count
+blocks_told (Mutation id numbers command) = 0
+blocks_told (DropRange p n) = 0
+
+-- mutations with the ids from some number down to 0
+abbrev pub AreNumbered : List Entry → Type 0
+AreNumbered [] = Unit {0}
+AreNumbered (Mutation id numbers command ∷ older) = (id ≡ length older) × AreNumbered older
+AreNumbered (Get p n digest source need ∷ older) = ⊥
+AreNumbered (Merge new sources count ∷ older) = ⊥
+AreNumbered (Mutate old new upto count mcount ∷ older) = ⊥
+AreNumbered (DropRange p n ∷ older) = ⊥
+
+-- the newest mutation has this number in p; where there is none, the number is 0
+abbrev pub EndAt : List Entry → Option ℕ → ℕ → Type 0
+EndAt [] p m = m ≡ 0
+EndAt (e ∷ older) p m = IsMutationWith (Some e) p m
+
+-- what a part of this name, made by this entry, keeps of its lineage: its blocks rise in number, lie in the name's range, and
+-- are as many as the entry says; its mutations are the first ones, up to the name's own
+pub record IsLineage (e : Entry) (a : Name) (lineage : Lineage) : Type 0 where
+  pub made : result_name e ≡ Some a
+  pub rising : Pairwise (λ x y. x.number < y.number) lineage.blocks
+  pub within : Each (λ b. (a.min ≤ b.number) × (b.number ≤ a.max)) lineage.blocks
+  pub whole : length lineage.blocks ≡ blocks_told e
+  pub numbered : AreNumbered lineage.mutations
+  pub upto : EndAt lineage.mutations a.partition a.mutation
+
+-- the log has the entry that made the part, and those of its lineage
+pub record ComesFrom (log : List Entry) (e : Entry) (a : Name) (lineage : Lineage) : Type 0 where
+  pub made : Has log e
+  pub blocks : Each (IsOf log a.partition) lineage.blocks
+  pub mutations : Each (Has log) lineage.mutations
+
+-- a part: the place of the entry that made it, its name, the entry, what it was made from, its rows in order
+pub record PartView : Type 0 where
+  pub place : ℕ
+  pub name : Name
+  pub entry : Entry
+  pub lineage : Lineage
+  pub rows : List Row
+
+-- a part's rows are the content of its name, and it comes from the log
 pub record IsPartOf (schema : Shape) (log : List Entry) (part : PartView) : Type 0 where
-  pub lineage : IsLineage log part.name part.lineage
-  pub holds : part.rows ≡ content schema log (blocks_of part.lineage) part.name
-
--- the names of the parts
-abbrev pub names_of : List PartView → List Name
-names_of [] = []
-names_of (part ∷ parts) = part.name ∷ names_of parts
-
--- a replica by what it keeps: its copy of the log, its marks, its parts, its staged blocks
-pub record ReplicaView : Type 0 where
-  pub log : List Entry
-  pub done : ℕ → Bool
-  pub parts : List PartView
-  pub staged : List (Option ℕ × ℕ)
-  pub noted : List Name
-
--- the copy is lawful, the names are fair, each part holds what the log says of it, and what was noted is covered or
--- dropped
-pub record IsStandingReplica (schema : Shape) (r : ReplicaView) : Type 0 where
-  pub lawful : Lawful schema r.log
-  pub fair : AreFair r.log r.done (names_of r.parts)
-  pub contents : Each (IsPartOf schema r.log) r.parts
-  pub noted : Each (λ a. ((part : PartView) × Has r.parts part × Covers part.name a) ⊎ Dropped r.log a) r.noted
-
--- the replica has the block staged, or in a part that was made within a copy of this length
-pub record HasPart (parts : List PartView) (length_of_copy : ℕ) (a : Name) : Type 0 where
-  pub part : PartView
-  pub is_in : Has parts part
-  pub covers : Covers part.name a
-  pub within : part.place < length_of_copy
-
--- the replica has the block staged or in a part
-abbrev pub IsHolder : ReplicaView → ℕ → Option ℕ → ℕ → Type 0
-IsHolder r length_of_copy p n = Has r.staged (p, n) ⊎ HasPart r.parts length_of_copy (block_name p n)
-
--- the table beside its log: the next numbers, the locks and the kept blocks
-pub record TableView : Type 0 where
-  pub schema : Shape
-  pub log : List Entry
-  pub next : List (Option ℕ × ℕ)
-  pub locks : List (Option ℕ × ℕ)
-  pub window : List Kept
-
--- the log is lawful; numbers in use are below the next; locked ones are unused, in no live part and above the drops;
--- the window is the one of the log
-pub record IsSoundTable (t : TableView) : Type 0 where
-  pub lawful : Lawful t.schema t.log
-  pub numbers : (p : Option ℕ) (n : ℕ) → Used t.log p n ⊎ Has t.locks (p, n) → (m : ℕ) × Has t.next (p, m) × (n < m)
-  pub unused : Each (λ k. Used t.log k.0 k.1 → ⊥) t.locks
-  pub outside : Each (λ k. (a : Name) → Has (live t.log) a → Spans a k.0 k.1 → ⊥) t.locks
-  pub above : Each (λ k. AboveDrops t.log k.0 k.1) t.locks
-  pub window : t.window ≡ kept t.schema.window t.log
+  pub keeps : IsLineage part.entry part.name part.lineage
+  pub comes : ComesFrom log part.entry part.name part.lineage
+  pub holds : part.rows ≡ own_content schema part.lineage part.name

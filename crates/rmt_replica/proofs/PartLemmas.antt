@@ -112,7 +112,7 @@ split-at (y ∷ xs) zero x e = ap (λ z. z ∷ xs) (some-same y x e)
 split-at (y ∷ xs) (suc i) x e = ap (λ zs. y ∷ zs) (split-at xs i x e)
 
 pub first-inactive : (active names : List Name) (i : ℕ) (a : Name) → slice_get names i ≡ Some a → Each (Has active) (take i names) → (Has active a → ⊥) → IsFirstInactive active names a
-first-inactive active names i a e k n = record { prefix = take i names; behind = drop (suc i) names; parts = split-at names i a e; before = k; inactive = n }
+first-inactive active names i a e k n = record { prefix = take i names; after = drop (suc i) names; parts = split-at names i a e; before = k; inactive = n }
 
 -- a query reads the names of the parts
 pub names-shown : (parts : List BlockPart) → names_in (shown parts) ≡ part_names parts

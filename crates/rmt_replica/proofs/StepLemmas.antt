@@ -10,14 +10,14 @@ use Rattle.rmt_entries.specs.declared.entry.Entry.{Entry}
 use Rattle.rmt_entries.specs.declared.entry.Entry.TheVariants.{Get, Merge, Mutate, Mutation, DropRange}
 use Rattle.rmt_model.specs.Words.{Has, Each}
 use Rattle.rmt_model.specs.Live.{made, placed, in_drop, TakesAway, Dropped, DroppedAfter}
-use Rattle.rmt_model.specs.Lawful.{entry_at, is_mutation}
+use Rattle.rmt_model.specs.Lawful.{entry_at, MakesAt, is_mutation}
 use Rattle.rmt_model.specs.Laws.{Supersedes}
 use Rattle.rmt_model.specs.Fair.{CoveredBy, AreFair, DroppedAtMark}
 use Rattle.rmt_model.proofs.Lists.{Each-at, Each-all}
 use Rattle.rmt_model.proofs.LiveLaws.{Covers-refl, Covers-trans, Pairwise-cases, later-covers}
 use Rattle.rmt_model.proofs.Drops.{some-same, entry-made, dropped-with, marked-dropped, after-dropped, dropped-after}
 use Rattle.rmt_model.proofs.Standing.{with_mark, fair-marked, fair-looked, fair-dropped, fair-installed, fair-fewer}
-use Rattle.rmt_history.specs.Copies.{History, MakesAt}
+use Rattle.rmt_history.specs.Copies.{History}
 use Rattle.rmt_queue.specs.Marks.{done_at}
 use Rattle.rmt_replica.specs.declared.supply.Supply.{Supply}
 use Rattle.rmt_replica.specs.declared.entry_state.EntryState.{EntryState}

@@ -11,9 +11,8 @@ use Rattle.rmt_entries.specs.declared.entry.Entry.{Entry}
 use Rattle.rmt_entries.specs.declared.entry.Entry.TheVariants.{Get, Merge, Mutate, Mutation, DropRange}
 use Rattle.rmt_model.specs.Words.{Has, Each}
 use Rattle.rmt_model.specs.Live.{Dropped, in_drop}
-use Rattle.rmt_model.specs.Lawful.{entry_at, is_mutation}
+use Rattle.rmt_model.specs.Lawful.{entry_at, MakesAt, is_mutation}
 use Rattle.rmt_model.specs.Fair.{CoveredBy}
-use Rattle.rmt_history.specs.Copies.{MakesAt}
 use Rattle.rmt_queue.specs.Marks.{done_at}
 use Rattle.rmt_replica.specs.declared.supply.Supply.{Supply}
 use Rattle.rmt_replica.specs.Supplies.{supplied}

@@ -77,7 +77,7 @@ pub record IsCovering (parts : List BlockPart) (a : Name) (part : BlockPart) : T
 -- these names are active, and this one, which is the next, isn't
 pub record IsFirstInactive (active names : List Name) (a : Name) : Type 0 where
   pub prefix : List Name
-  pub behind : List Name
-  pub parts : names ≡ prefix ++ a ∷ behind
+  pub after : List Name
+  pub parts : names ≡ prefix ++ a ∷ after
   pub before : Each (Has active) prefix
   pub inactive : Has active a → ⊥

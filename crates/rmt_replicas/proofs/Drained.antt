@@ -11,7 +11,7 @@ use Rattle.rmt_names.specs.Names.{block_name}
 use Rattle.rmt_entries.specs.declared.entry.Entry.{Entry}
 use Rattle.rmt_model.specs.Words.{Has, Each}
 use Rattle.rmt_model.proofs.Lists.{Each-at}
-use Rattle.rmt_history.specs.Copies.{MakesAt}
+use Rattle.rmt_model.specs.Lawful.{MakesAt}
 use Rattle.rmt_queue.specs.Marks.{done_at}
 use Rattle.rmt_replica.specs.Parts.{BlockPart}
 use Rattle.rmt_replica.specs.Replicas.{ReplicaView, IsOfCopy, IsStandingReplica}

@@ -11,12 +11,10 @@ use Rattle.rmt_entries.specs.declared.entry.Entry.{Entry}
 use Rattle.rmt_entries.specs.declared.entry.Entry.TheVariants.{Get, Merge, Mutate, Mutation, DropRange}
 use Rattle.rmt_model.specs.Words.{Has}
 use Rattle.rmt_model.specs.Live.{Dropped}
-use Rattle.rmt_model.specs.Lawful.{entry_at, Lawful, Used}
-use Rattle.rmt_model.specs.Parts.{GoesOn}
+use Rattle.rmt_model.specs.Lawful.{entry_at, Lawful, MakesAt, Used, IsPrefix}
 use Rattle.rmt_model.specs.Fair.{MadeAtMark, CoveredBy}
 use Rattle.rmt_model.proofs.Lists.{Each-at}
 use Rattle.rmt_model.proofs.Drops.{entry-older, entry-below, entry-cases, fresh}
-use Rattle.rmt_history.specs.Copies.{MakesAt}
 use Rattle.rmt_queue.specs.Marks.{done_at}
 use Rattle.rmt_replica.specs.Parts.{BlockPart, IsBlockPart}
 use Rattle.rmt_replica.specs.Replicas.{ReplicaView, IsOfCopy, IsStandingReplica}
@@ -99,7 +97,7 @@ has-part r i s g d = go (s.fair.answered (block_name None i) (made-at-mark r.log
     go (inr t) = absurd (gets-keep r.log (block_name None i) g t)
 
 -- a part of a replica that follows the log was made in the log
-pub part-on : (r : ReplicaView) (log : List Entry) (part : BlockPart) → IsStandingReplica r → GoesOn r.log log → Has r.parts part → IsOfCopy log part
+pub part-on : (r : ReplicaView) (log : List Entry) (part : BlockPart) → IsStandingReplica r → IsPrefix r.log log → Has r.parts part → IsOfCopy log part
 part-on r log part s g h =
     subst (λ (l : List Entry). IsOfCopy l part) (sym g.is) (entry-on g.gained r.log part.made.place part.made.value (Each-at (λ p. IsOfCopy r.log p × IsBlockPart p) r.parts part s.made h).0)
 

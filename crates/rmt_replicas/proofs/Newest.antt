@@ -13,10 +13,10 @@ use Rattle.rmt_entries.specs.declared.entry.Entry.{Entry}
 use Rattle.rmt_block.specs.Blocks.{BlockView}
 use Rattle.rmt_row.specs.Token.{Token}
 use Rattle.rmt_model.specs.Words.{Has}
-use Rattle.rmt_model.specs.Lawful.{entry_at}
+use Rattle.rmt_model.specs.Lawful.{entry_at, MakesAt}
 use Rattle.rmt_model.proofs.LiveLaws.{Covers-refl}
 use Rattle.rmt_model.proofs.Drops.{some-same}
-use Rattle.rmt_history.specs.Copies.{entries, MakesAt}
+use Rattle.rmt_history.specs.Copies.{entries}
 use Rattle.rmt_history.proofs.Copied.{token_at, length-entries}
 use Rattle.rmt_replica.specs.declared.supply.Supply.TheVariants.{Built}
 use Rattle.rmt_replica.specs.Parts.{BlockPart, IsBlockPart, rows_in}

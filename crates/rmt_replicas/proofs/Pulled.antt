@@ -6,8 +6,7 @@ use Rattle.std.specs.declared.option.Option.TheVariants.{Some}
 use Rattle.rmt_values.specs.Rows.{Shape}
 use Rattle.rmt_row.specs.Token.{Token}
 use Rattle.rmt_entries.specs.declared.entry.Entry.{Entry}
-use Rattle.rmt_model.specs.Lawful.{Lawful}
-use Rattle.rmt_model.specs.Parts.{GoesOn}
+use Rattle.rmt_model.specs.Lawful.{Lawful, IsPrefix}
 use Rattle.rmt_history.specs.Copies.{entries}
 use Rattle.rmt_history.proofs.Copied.{entries-snoc, length-entries}
 use Rattle.rmt_queue.specs.Marks.{grown}
@@ -59,11 +58,11 @@ length-take-is zero xs l = refl
 length-take-is (suc n) [] l = absurd (omega (arith, l))
 length-take-is (suc n) (x ∷ xs) l = ap suc (length-take-is n xs (omega (arith, l)))
 
-prefix-within : (log all : List Entry) → GoesOn log all → length log ≤ length all
+prefix-within : (log all : List Entry) → IsPrefix log all → length log ≤ length all
 prefix-within log all g = let a = length-both g.gained log in let b = ap (λ us. length us) g.is in omega (arith, a, b)
 
 -- where a replica begins
-pub pulled-start : (old : ReplicaView) (tokens : List (Token Entry)) (start : ℕ) → IsStandingReplica old → GoesOn old.log (entries tokens) → start ≡ length old.log → PulledTo old tokens start old
+pub pulled-start : (old : ReplicaView) (tokens : List (Token Entry)) (start : ℕ) → IsStandingReplica old → IsPrefix old.log (entries tokens) → start ≡ length old.log → PulledTo old tokens start old
 pulled-start old tokens start s g e = record {
   copy = same-behind g.gained old.log (entries (drop start tokens)) (entries (take start tokens)) (sym g.is ∙ entries-split start tokens) (sym (length-entries (take start tokens) ∙ (length-take-is start tokens within ∙ e)));
   done = let m = s.marks in
@@ -77,7 +76,7 @@ pulled-start old tokens start s g e = record {
     within : start ≤ length tokens
     within = let a = prefix-within old.log (entries tokens) g in let b = length-entries tokens in omega (arith, a, b, e)
 
-pub start-within : (old : ReplicaView) (tokens : List (Token Entry)) (start : ℕ) → GoesOn old.log (entries tokens) → start ≡ length old.log → start ≤ length tokens
+pub start-within : (old : ReplicaView) (tokens : List (Token Entry)) (start : ℕ) → IsPrefix old.log (entries tokens) → start ≡ length old.log → start ≤ length tokens
 start-within old tokens start g e = let a = prefix-within old.log (entries tokens) g in let b = length-entries tokens in omega (arith, a, b, e)
 
 lawful-prefix : (schema : Shape) (xs ys : List Entry) → Lawful schema (xs ++ ys) → Lawful schema ys

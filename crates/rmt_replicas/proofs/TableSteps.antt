@@ -13,8 +13,7 @@ use Rattle.rmt_entries.specs.declared.entry.Entry.TheVariants.{Get}
 use Rattle.rmt_block.specs.Blocks.{BlockView, block_of, kinds_of}
 use Rattle.rmt_row.specs.Token.{Token}
 use Rattle.rmt_model.specs.Words.{Each}
-use Rattle.rmt_model.specs.Lawful.{entry_at}
-use Rattle.rmt_model.specs.Parts.{GoesOn}
+use Rattle.rmt_model.specs.Lawful.{entry_at, IsPrefix}
 use Rattle.rmt_model.proofs.Lists.{Each-at, Each-all}
 use Rattle.rmt_history.specs.Copies.{entries}
 use Rattle.rmt_model.proofs.Drops.{some-same, entry-older}
@@ -284,8 +283,8 @@ pub record IsStep (schema : Shape) (tokens all : List (Token Entry)) (bs : List 
   pub next : ComesNext self r t b
   pub all_is : all ≡ tokens ++ t ∷ []
 
-pub step-prefix : (r : ReplicaView) (tokens all : List (Token Entry)) (t : Token Entry) → all ≡ tokens ++ t ∷ [] → GoesOn r.log (entries tokens) → GoesOn r.log (entries all)
-step-prefix r tokens all t e g = subst (λ (ts : List (Token Entry)). GoesOn r.log (entries ts)) (sym e) (record { gained = t.value ∷ g.gained; is = entries-snoc tokens t ∙ ap (λ (l : List Entry). t.value ∷ l) g.is })
+pub step-prefix : (r : ReplicaView) (tokens all : List (Token Entry)) (t : Token Entry) → all ≡ tokens ++ t ∷ [] → IsPrefix r.log (entries tokens) → IsPrefix r.log (entries all)
+step-prefix r tokens all t e g = subst (λ (ts : List (Token Entry)). IsPrefix r.log (entries ts)) (sym e) (record { gained = t.value ∷ g.gained; is = entries-snoc tokens t ∙ ap (λ (l : List Entry). t.value ∷ l) g.is })
 
 pub step-numbered : (schema : Shape) (tokens all : List (Token Entry)) (bs : List BlockView) (replicas : List ReplicaView) (self : TableState) (r : ℕ) (t : Token Entry) (b : BlockView) → IsStep schema tokens all bs replicas self r t b → (i : ℕ) (u : Token Entry) → slice_get all i ≡ Some u → u.place ≡ i
 step-numbered schema tokens all bs replicas self r t b s i u q = numbered-snoc tokens t (next-of schema tokens bs replicas self r t b s.view s.next).place s.table.numbered i u (subst (λ (ts : List (Token Entry)). slice_get ts i ≡ Some u) s.all_is q)
@@ -374,7 +373,7 @@ pub numbers-agree : (schema : Shape) (tokens : List (Token Entry)) (bs : List Bl
 numbers-agree schema tokens bs replicas self k e = subst (λ (x : TableState). length x.log ≡ length x.blocks) e (same-length (entries tokens) bs k.of_blocks ∙ sym (length-accepted bs))
 
 -- what a table has once it took a block is what it has once it accepted the rows
-pub accepts-of : (self new : TableState) (r : ℕ) (rows : List Row) (name : Name) (t : Token Entry) (b : BlockView) → new ≡ with_block self r t b → length self.log ≡ length self.blocks → name ≡ block_name None (length self.log) → b ≡ block_of (kinds_of self.schema.columns) rows
+pub accepts-of : (self new : TableState) (r : ℕ) (rows : List Row) (name : Name) (t : Token Entry) (b : BlockView) → new ≡ with_block self r t b → length self.log ≡ length self.blocks → name ≡ block_name None (length self.log) → b ≡ block_of None (kinds_of self.schema.columns) rows
     → t.value ≡ Get None (length self.log) b.digest (r + 1) 0 → Accepts self r rows name new
 accepts-of self new r rows name t b e n m q v = record {
   named = m ∙ ap (λ k. block_name None k) n;
@@ -385,7 +384,7 @@ accepts-of self new r rows name t b e n m q v = record {
     put x k rs = record self { log = x ∷ self.log; blocks = record { number = k; rows = rs } ∷ self.blocks; known = slice_set self.known r (learned (known_at self r) (length self.log)) }
 
     newest : Entry
-    newest = Get None (length self.blocks) (block_of (kinds_of self.schema.columns) rows).digest (r + 1) 0
+    newest = Get None (length self.blocks) (block_of None (kinds_of self.schema.columns) rows).digest (r + 1) 0
 
     value : t.value ≡ newest
     value = v ∙ (ap (λ k. Get None k b.digest (r + 1) 0) n ∙ ap (λ (c : BlockView). Get None (length self.blocks) c.digest (r + 1) 0) q)

@@ -8,9 +8,7 @@ use Rattle.rmt_entries.specs.declared.entry.Entry.{Entry}
 use Rattle.rmt_entries.specs.declared.entry.Entry.TheVariants.{Get, Merge, Mutate, Mutation, DropRange}
 use Rattle.rmt_block.specs.Blocks.{BlockView}
 use Rattle.rmt_model.specs.Words.{Has}
-use Rattle.rmt_model.specs.Lawful.{entry_at}
-use Rattle.rmt_model.specs.Parts.{GoesOn}
-use Rattle.rmt_history.specs.Copies.{MakesAt}
+use Rattle.rmt_model.specs.Lawful.{entry_at, MakesAt, IsPrefix}
 use Rattle.rmt_queue.specs.Marks.{done_at, grown}
 use Rattle.rmt_replica.specs.declared.supply.Supply.{Supply}
 use Rattle.rmt_replica.specs.Supplies.{supplied}
@@ -76,7 +74,7 @@ HaveSources log replicas = (i : ℕ) → i < length log → HasSource log replic
 -- the replica is up and has a prefix of the log
 pub record Lags (log : List Entry) (r : ReplicaView) : Type 0 where
   pub is_up : r.up ≡ true
-  pub copied : GoesOn r.log log
+  pub copied : IsPrefix r.log log
 
 -- one of the replicas has the part
 pub record IsHeld (replicas : List ReplicaView) (part : BlockPart) : Type 0 where

@@ -17,7 +17,7 @@ use Rattle.rmt_granules.specs.MadePart.{data_of}
 use Rattle.rmt_partset.specs.Snapshots.{NamedData, names_in, data_in, all_rows}
 use Rattle.rmt_values.specs.Order.{SameBag}
 use Rattle.rmt_model.specs.Words.{Each}
-use Rattle.rmt_model.specs.Parts.{GoesOn}
+use Rattle.rmt_model.specs.Lawful.{IsPrefix}
 use Rattle.rmt_row.specs.Token.{Token}
 use Rattle.rmt_history.specs.Copies.{entries}
 use Rattle.rmt_queue.specs.Marks.{grown, done_at}
@@ -74,7 +74,7 @@ with_block t r token b = record t {
 pub record Accepts (old : TableState) (r : ℕ) (rows : List Row) (name : Name) (new : TableState) : Type 0 where
   pub named : name ≡ block_name None (next_number old)
   pub change : new ≡ record old {
-    log = Get None (next_number old) (block_of (kinds_of old.schema.columns) rows).digest (r + 1) 0 ∷ old.log;
+    log = Get None (next_number old) (block_of None (kinds_of old.schema.columns) rows).digest (r + 1) 0 ∷ old.log;
     blocks = record { number = next_number old; rows = rows } ∷ old.blocks;
     known = slice_set old.known r (learned (known_at old r) (length old.log));
   }
@@ -124,7 +124,7 @@ pub record Holds (schema : Shape) (bs : List BlockView) (part : BlockPart) : Typ
 pub record Follows (schema : Shape) (log : List Entry) (bs : List BlockView) (r : ReplicaView) : Type 0 where
   pub schema_is : r.schema ≡ schema
   pub is_up : r.up ≡ true
-  pub copied : GoesOn r.log log
+  pub copied : IsPrefix r.log log
   pub blocks : Each (Holds schema bs) r.parts
 
 -- the log has the Gets of the blocks; each replica follows it, and each entry is done at its source

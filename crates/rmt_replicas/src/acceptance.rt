@@ -6,8 +6,7 @@ ghost use Rattle.std.specs.declared.option.Option.TheVariants.{Some};
 ghost use Rattle.rmt_values.specs.Rows.{fits};
 ghost use Rattle.rmt_row.specs.Token.{Token};
 ghost use Rattle.rmt_entries.specs.declared.entry.Entry.{Entry as OneEntry};
-ghost use Rattle.rmt_model.specs.Lawful.{Lawful};
-ghost use Rattle.rmt_model.specs.Parts.{GoesOn};
+ghost use Rattle.rmt_model.specs.Lawful.{Lawful, IsPrefix};
 ghost use Rattle.rmt_history.specs.Copies.{entries};
 ghost use Rattle.rmt_replicas.specs.Following.{IsNewest, TakesBlock};
 
@@ -44,7 +43,7 @@ pub(crate) fn accept(
     schema: &Schema,
 ) -> Result<(), AllocError>
     requires newest { IsNewest (entries log.now) (arc_value block) }
-    requires copied { GoesOn replica.old.log (entries log.now) }
+    requires copied { IsPrefix replica.old.log (entries log.now) }
     requires numbered { (i : ℕ) (t : Token OneEntry) → slice_get log.now i ≡ Some t → t.place ≡ i }
     requires lawful { Lawful replica.old.schema (entries log.now) }
     requires fit { All (λ row. fits schema.now.columns row ≡ true) (arc_value block).rows }

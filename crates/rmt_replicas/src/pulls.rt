@@ -3,8 +3,7 @@ ghost use Rattle.std.specs.Prelude.{◌≡◌, ◌∷◌, ◌++◌, [], ℕ, len
 ghost use Rattle.std.specs.declared.option.Option.TheVariants.{Some};
 ghost use Rattle.rmt_row.specs.Token.{Token};
 ghost use Rattle.rmt_entries.specs.declared.entry.Entry.{Entry as OneEntry};
-ghost use Rattle.rmt_model.specs.Lawful.{Lawful};
-ghost use Rattle.rmt_model.specs.Parts.{GoesOn};
+ghost use Rattle.rmt_model.specs.Lawful.{Lawful, IsPrefix};
 ghost use Rattle.rmt_history.specs.Copies.{entries};
 ghost use Rattle.rmt_replicas.specs.Following.{Pulls};
 
@@ -29,7 +28,7 @@ fn extend(replica: &mut Replica, next: Seen<Entry>) -> Result<(), AllocError>
 
 /// Brings a replica's copy up to the log. At an error no memory was left.
 pub(crate) fn pull(replica: &mut Replica, log: &[Seen<Entry>]) -> Result<(), AllocError>
-    requires copied { GoesOn replica.old.log (entries log.now) }
+    requires copied { IsPrefix replica.old.log (entries log.now) }
     requires numbered { (i : ℕ) (t : Token OneEntry) → slice_get log.now i ≡ Some t → t.place ≡ i }
     requires lawful { Lawful replica.old.schema (entries log.now) }
     requires up { replica.old.up ≡ true }

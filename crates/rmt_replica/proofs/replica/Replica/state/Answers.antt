@@ -1,8 +1,7 @@
 use Rattle.std.proofs.Common.{◌≡◌, ◌<◌, ◌≤◌, ◌∙◌, false, length, subst, sym, ap}
 use Rattle.std.specs.Prelude.{MatchOption}
 use Rattle.std.specs.declared.option.Option.TheVariants.{Some}
-use Rattle.rmt_model.specs.Lawful.{entry_at}
-use Rattle.rmt_history.specs.Copies.{MakesAt}
+use Rattle.rmt_model.specs.Lawful.{entry_at, MakesAt}
 use Rattle.rmt_replica.specs.declared.entry_state.EntryState.TheVariants as states
 use Rattle.rmt_replica.specs.Replicas.{ReplicaView, replica_of}
 use Rattle.rmt_replica.specs.Answers.{IsEntryState}

@@ -19,7 +19,7 @@ pub take-requires-clause-next : goal.take-requires-clause-next
 take-requires-clause-next c =
     let i = c.self.inside in
     let place : c.len-place.result ≡ length i.log.items = grind (arith, common_steps) in
-    let block = c.in_ok-block.ensures.ok ∙ (c.in_ok-new.ensures ∙ ap (λ (s : Shape). block_of (kinds_of s.columns) c.args.rows.items) (c.deref.ensures ∙ ap (λ (t : TableState). t.schema) c.self.view_is)) in
+    let block = c.in_ok-block.ensures.ok ∙ (c.in_ok-new.ensures ∙ ap (λ (s : Shape). block_of None (kinds_of s.columns) c.args.rows.items) (c.deref.ensures ∙ ap (λ (t : TableState). t.schema) c.self.view_is)) in
     let value = ap (λ (t : Token Entry). t.value) c.of-token.ensures ∙ (c.in_ok-new-2.ensures.ok ∙ (c.get_of.ensures ∙ ap (λ (b : BlockView). Get b.partition c.in_ok-number.number b.digest c.number-source.result 0) c.deref-2.ensures)) in
     comes-next (arc_value i.schema) i.log.items (reverse (map arc_value i.blocks.items)) i.replicas.items c.args.self c.args.replica c.of-token.result (arc_value c.in_ok-block.block) c.in_ok-number.number c.len-place.result c.number-source.result
     c.self.view_is place c.in_ok-number.ensures c.number-source.ensures (ap (λ (t : Token Entry). t.place) c.of-token.ensures) value (ap (λ (b : BlockView). b.partition) block)
@@ -29,7 +29,7 @@ pub returns : goal.returns
 returns c =
     let i = c.self.inside in
     let place : c.len-place.result ≡ length i.log.items = grind (arith, common_steps) in
-    let block = c.in_ok-block.ensures.ok ∙ (c.in_ok-new.ensures ∙ ap (λ (s : Shape). block_of (kinds_of s.columns) c.args.rows.items) (c.deref.ensures ∙ ap (λ (t : TableState). t.schema) c.self.view_is)) in
+    let block = c.in_ok-block.ensures.ok ∙ (c.in_ok-new.ensures ∙ ap (λ (s : Shape). block_of None (kinds_of s.columns) c.args.rows.items) (c.deref.ensures ∙ ap (λ (t : TableState). t.schema) c.self.view_is)) in
     let value = ap (λ (t : Token Entry). t.value) c.of-token.ensures ∙ (c.in_ok-new-2.ensures.ok ∙ (c.get_of.ensures ∙ (ap (λ (b : BlockView). Get b.partition c.in_ok-number.number b.digest c.number-source.result 0) c.deref-2.ensures
     ∙ ap (λ k. Get (arc_value c.in_ok-block.block).partition c.in_ok-number.number (arc_value c.in_ok-block.block).digest k 0) c.number-source.ensures))) in
     let here = place ∙ table-length (arc_value i.schema) i.log.items (reverse (map arc_value i.blocks.items)) i.replicas.items c.args.self c.self.view_is in

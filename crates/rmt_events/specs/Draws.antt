@@ -1,0 +1,139 @@
+-- Background events that a generator draws, each from the state before it.
+-- The generator is the example of rand() in the C standard (ISO/IEC 9899, section on pseudo-random sequences), modulo 2^31
+-- and with draws below 2^15. Which event a draw gives, and which parts are merged, is this program's own.
+use Rattle.std.specs.Prelude.{◌≡◌, ℕ, zero, suc, ◌+◌, ◌*◌, ◌/◌, ◌%◌, ◌^◌, ◌-◌, ◌&&◌, Bool, true, false, cond, nat_eq, nat_lt, nat_le, List, [], ◌∷◌, length, slice_get, slice_index_or}
+use Rattle.std.specs.declared.option.Option.{Option}
+use Rattle.std.specs.declared.option.Option.TheVariants.{Some, None}
+use Rattle.rmt_names.specs.Names.{Name, rank, highest}
+use Rattle.rmt_entries.specs.declared.entry.Entry.{Entry}
+use Rattle.rmt_entries.specs.declared.entry.Entry.TheVariants.{Get, Merge, Mutate, Mutation, DropRange}
+use Rattle.rmt_model.specs.Live.{live}
+use Rattle.rmt_model.specs.Lawful.{ver}
+use Rattle.rmt_events.specs.Views.{Replica}
+use Rattle.rmt_events.specs.Clusters.{Cluster}
+use Rattle.rmt_events.specs.Steps.{Step}
+use Rattle.rmt_events.specs.declared.event.Event.{Event}
+use Rattle.rmt_events.specs.declared.reply.Reply.{Reply}
+use Rattle.rmt_events.specs.declared.event.Event.TheVariants as ev
+
+-- ---- the generator
+
+-- its state after one step
+abbrev pub stepped : ℕ → ℕ
+stepped x = (x * 1103515245 + 12345) % 2 ^ 31
+
+-- the draw that a state gives
+abbrev pub drawn : ℕ → ℕ
+drawn x = x / 65536
+
+-- so many draws from a state on
+abbrev pub draws : ℕ → ℕ → List ℕ
+draws zero x = []
+draws (suc n) x = drawn (stepped x) ∷ draws n (stepped x)
+
+-- ---- what is asked of a replica's copy
+
+-- the places below a length that have no mark, lowest first, from a place on
+abbrev pub pending_from : List Bool → ℕ → List ℕ
+pending_from [] i = []
+pending_from (true ∷ done) i = pending_from done (i + 1)
+pending_from (false ∷ done) i = i ∷ pending_from done (i + 1)
+
+-- the places of a replica's copy that aren't done, lowest first
+abbrev pub pending : Replica → List ℕ
+pending r = pending_from r.done 0
+
+-- the names that go on from one: of its partition and its version
+abbrev pub run_from : List Entry → Name → ℕ → List Name → List Name
+run_from log a zero rest = []
+run_from log a (suc k) [] = []
+run_from log a (suc k) (b ∷ rest) =
+    cond (nat_eq (rank b.partition) (rank a.partition) && nat_eq (ver log b) (ver log a)) (b ∷ run_from log a k rest) []
+
+-- the better of a run and the best of those after it: the one whose greatest level is less, the first among equals; a run
+-- has two names or more
+abbrev pub better : Name → List Name → Option (List Name) → Option (List Name)
+better a [] best = best
+better a (b ∷ rest) None = Some (a ∷ b ∷ rest)
+better a (b ∷ rest) (Some []) = Some (a ∷ b ∷ rest)
+better a (b ∷ rest) (Some (x ∷ xs)) =
+    cond (nat_le (highest (λ n. n.level) a (b ∷ rest)) (highest (λ n. n.level) x xs)) (Some (a ∷ b ∷ rest)) (Some (x ∷ xs))
+
+-- the run to merge among these names, of at most so many
+abbrev pub chosen_among : List Entry → ℕ → List Name → Option (List Name)
+chosen_among log most [] = None
+chosen_among log most (a ∷ names) = better a (run_from log a (most - 1) names) (chosen_among log most names)
+
+-- the run to merge among the live names
+abbrev pub chosen : List Entry → ℕ → Option (List Name)
+chosen log most = chosen_among log most (live log)
+
+-- whether one of the numbers is of the name's partition and above its version
+abbrev pub has_pending : List Entry → Name → List (Option ℕ × ℕ) → Bool
+has_pending log a [] = false
+has_pending log a (x ∷ xs) = cond (nat_eq (rank x.0) (rank a.partition) && nat_lt (ver log a) x.1) true (has_pending log a xs)
+
+-- the last place of a mutation that is pending for the name
+abbrev pub last_pending : List Entry → Name → List Entry → Option ℕ
+last_pending log a [] = None
+last_pending log a (Mutation id numbers command ∷ rest) = cond (has_pending log a numbers) (Some (length rest)) (last_pending log a rest)
+last_pending log a (Get p n digest source need ∷ rest) = last_pending log a rest
+last_pending log a (Merge name sources count ∷ rest) = last_pending log a rest
+last_pending log a (Mutate old name upto count mcount ∷ rest) = last_pending log a rest
+last_pending log a (DropRange p n ∷ rest) = last_pending log a rest
+
+-- the name with the place, where there is one
+abbrev pub or_next : Name → Option ℕ → Option (Name × ℕ) → Option (Name × ℕ)
+or_next a None other = other
+or_next a (Some i) other = Some (a, i)
+
+-- the first live name with one, and that place
+abbrev pub next_mutation_among : List Entry → List Name → Option (Name × ℕ)
+next_mutation_among log [] = None
+next_mutation_among log (a ∷ names) = or_next a (last_pending log a log) (next_mutation_among log names)
+
+-- ---- a turn
+
+-- the event of a turn, and the generator's state after it
+pub record Turn : Type 0 where
+  pub event : Event
+  pub state : ℕ
+
+-- a merge where there is a run to merge, else a pull
+abbrev pub merge_or_pull : ℕ → Option (List Name) → Event
+merge_or_pull k None = ev.Pull k
+merge_or_pull k (Some names) = ev.Merge k names
+
+-- a mutate where a mutation is pending, else a pull
+abbrev pub mutate_or_pull : ℕ → Option (Name × ℕ) → Event
+mutate_or_pull k None = ev.Pull k
+mutate_or_pull k (Some m) = ev.Mutate k m.0 m.1
+
+-- the entry that is drawn of those that are pending; the draw is made only where there are any
+abbrev pub apply_or_pull : ℕ → ℕ → List ℕ → Turn
+apply_or_pull x k [] = record { event = ev.Pull k; state = x }
+apply_or_pull x k (i ∷ is) = record { event = ev.Apply k (slice_index_or (i ∷ is) (drawn (stepped x) % length (i ∷ is)) i); state = stepped x }
+
+-- what is done at a replica by the first draw: 0 and 1 pull, 2 to 4 apply, 5 merge, 6 mutate, 7 restart
+abbrev pub turn_at : ℕ → ℕ → Replica → Turn
+turn_at a x r =
+    cond (nat_le a 1) (record { event = ev.Pull r.number; state = x })
+    (cond (nat_le a 4) (apply_or_pull x r.number (pending r))
+    (cond (nat_eq a 5) (record { event = merge_or_pull r.number (chosen r.log 10); state = x })
+    (cond (nat_eq a 6) (record { event = mutate_or_pull r.number (next_mutation_among r.log (live r.log)); state = x })
+    (record { event = cond r.up (ev.Restart r.number) (ev.Pull r.number); state = x }))))
+
+-- what is done at the replica that the second draw gives
+abbrev pub turn_with : ℕ → ℕ → Option Replica → Turn
+turn_with a x None = record { event = ev.Pull 0; state = x }
+turn_with a x (Some r) = turn_at a x r
+
+-- the turn in a state: the first draw gives the kind of event, the second the replica
+abbrev pub turn : Cluster → ℕ → Turn
+turn s x = turn_with (drawn (stepped x) % 8) (stepped (stepped x)) (slice_get s.replicas (drawn (stepped (stepped x)) % length s.replicas))
+
+-- so many turns from one state lead to another, each drawn from the state before it
+abbrev pub Runs : Cluster → ℕ → ℕ → Cluster → ℕ → Type 0
+Runs s seed zero t x = (t ≡ s) × (x ≡ seed)
+Runs s seed (suc n) t x =
+    (mid : Cluster) × (y : ℕ) × (reply : Reply) × Runs s seed n mid y × Step mid (turn mid y).event reply t × (x ≡ (turn mid y).state)

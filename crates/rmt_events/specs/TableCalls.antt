@@ -1,0 +1,203 @@
+-- What the calls on a table change, and the limits that they keep.
+-- ClickHouse documentation, Data Replication: an insert takes a block number under a lock, and writes the entry and the
+-- block's checksum in one step. ALTER: mutations and DROP PARTITION. That they all take numbers of one sequence, and the
+-- limits, are this program's own.
+use Rattle.std.specs.Prelude.{◌≡◌, ℕ, ◌+◌, ◌<◌, ◌≤◌, ◌&&◌, ◌||◌, Bool, true, false, not, cond, nat_eq, nat_lt, nat_le, List, [], ◌∷◌, filter, take, length, count_by}
+use Rattle.std.specs.Str.{bytes_eq}
+use Rattle.std.specs.declared.option.Option.{Option}
+use Rattle.std.specs.declared.option.Option.TheVariants.{Some, None}
+use Rattle.rmt_values.specs.declared.limit.Limit.{Limit}
+use Rattle.rmt_values.specs.declared.limit.Limit.TheVariants as limits
+use Rattle.rmt_values.specs.declared.checked_mutation.CheckedMutation.{CheckedMutation}
+use Rattle.rmt_values.specs.Commands.{CommandFits}
+use Rattle.rmt_names.specs.Names.{Name, rank, Spans, block_name}
+use Rattle.rmt_entries.specs.declared.entry.Entry.{Entry}
+use Rattle.rmt_entries.specs.declared.entry.Entry.TheVariants.{Get, Merge, Mutate, Mutation, DropRange}
+use Rattle.rmt_model.specs.Words.{Has, Each}
+use Rattle.rmt_model.specs.Lawful.{Meets, mutation_count}
+use Rattle.rmt_model.specs.Window.{Kept}
+use Rattle.rmt_quorums.specs.Quorum.{quorum_after_block, quorum_after_drop, quorum_after_note}
+use Rattle.rmt_events.specs.Views.{Lock, Table}
+
+-- the next number of a partition, 0 before it exists
+abbrev pub next_number : List (Option ℕ × ℕ) → Option ℕ → ℕ
+next_number [] p = 0
+next_number (x ∷ xs) p = cond (nat_eq (rank x.0) (rank p)) x.1 (next_number xs p)
+
+-- the next numbers with another one for one partition, which exists then
+abbrev pub with_next : List (Option ℕ × ℕ) → Option ℕ → ℕ → List (Option ℕ × ℕ)
+with_next [] p n = (p, n) ∷ []
+with_next (x ∷ xs) p n =
+    cond (nat_lt (rank x.0) (rank p)) (x ∷ with_next xs p n) (cond (nat_eq (rank x.0) (rank p)) ((p, n) ∷ xs) ((p, n) ∷ x ∷ xs))
+
+-- the next numbers once one number was taken in each partition
+abbrev pub next_numbers_after : List (Option ℕ × ℕ) → List (Option ℕ × ℕ)
+next_numbers_after [] = []
+next_numbers_after (x ∷ xs) = (x.0, x.1 + 1) ∷ next_numbers_after xs
+
+-- the number n of p is held
+pub record IsLocked (locks : List Lock) (p : Option ℕ) (n : ℕ) : Type 0 where
+  pub lock : Lock
+  pub is_in : Has locks lock
+  pub partition : lock.partition ≡ p
+  pub number : lock.number ≡ n
+
+-- whether a lock comes before another: by partition, then by number
+abbrev pub precedes : Lock → Lock → Bool
+precedes k l = nat_lt (rank k.partition) (rank l.partition) || (nat_eq (rank k.partition) (rank l.partition) && nat_lt k.number l.number)
+
+-- the locks in order with one more
+abbrev pub with_lock : Lock → List Lock → List Lock
+with_lock k [] = k ∷ []
+with_lock k (x ∷ xs) = cond (precedes x k) (x ∷ with_lock k xs) (k ∷ x ∷ xs)
+
+-- the replicas in order with one more
+abbrev pub with_session : ℕ → List ℕ → List ℕ
+with_session r [] = r ∷ []
+with_session r (x ∷ xs) = cond (nat_lt x r) (x ∷ with_session r xs) (r ∷ x ∷ xs)
+
+-- whether the lock holds the number n of p
+abbrev pub holds_number : Option ℕ → ℕ → Lock → Bool
+holds_number p n k = nat_eq (rank k.partition) (rank p) && nat_eq k.number n
+
+-- the locks without those of one number
+abbrev pub locks_without : List Lock → Option ℕ → ℕ → List Lock
+locks_without locks p n = filter (λ k. not (holds_number p n k)) locks
+
+-- the locks without those of a partition below a number
+abbrev pub locks_without_below : List Lock → Option ℕ → ℕ → List Lock
+locks_without_below locks p n = filter (λ k. not (nat_eq (rank k.partition) (rank p) && nat_lt k.number n)) locks
+
+-- the part that an id is kept with
+abbrev pub kept_part : List Kept → Option ℕ → List ℕ → Option Name
+kept_part [] p digest = None
+kept_part (k ∷ ks) p digest = cond (nat_eq (rank p) (rank k.part.partition) && bytes_eq digest k.digest) (Some k.part) (kept_part ks p digest)
+
+-- the kept ids with one more, at most w of them
+abbrev pub window_with : ℕ → List Kept → Option ℕ → ℕ → List ℕ → List Kept
+window_with w window p n digest = take w (record { digest = digest; part = block_name p n } ∷ window)
+
+-- the kept ids without those of a partition's blocks below a number
+abbrev pub window_without : List Kept → Option ℕ → ℕ → List Kept
+window_without window p n = filter (λ k. not (nat_eq (rank k.part.partition) (rank p) && nat_lt k.part.min n)) window
+
+-- ---- limits
+
+-- the entry is of a client
+abbrev pub is_client : Entry → Bool
+is_client (Get p n digest source need) = true
+is_client (Mutation id numbers command) = true
+is_client (DropRange p n) = true
+is_client (Merge name sources count) = false
+is_client (Mutate old name upto count mcount) = false
+
+-- how many entries of clients the log has
+abbrev pub client_count : List Entry → ℕ
+client_count log = count_by is_client log
+
+-- how many entries of background work the log has
+abbrev pub worker_count : List Entry → ℕ
+worker_count log = count_by (λ e. not (is_client e)) log
+
+-- the limit that one more entry of a client would pass, and its count as it stands
+abbrev pub client_limit : List Entry → Option (Limit × ℕ)
+client_limit log = cond (nat_le 32768 (client_count log)) (Some (limits.ClientEntries, client_count log)) None
+
+-- the limit that one more entry of background work would pass
+abbrev pub worker_limit : List Entry → Option (Limit × ℕ)
+worker_limit log = cond (nat_le 32768 (worker_count log)) (Some (limits.WorkerEntries, worker_count log)) None
+
+-- the first limit that one more number of p for a block would pass
+abbrev pub allocate_limit : List (Option ℕ × ℕ) → List Entry → Option ℕ → Option (Limit × ℕ)
+allocate_limit next log p =
+    cond (nat_eq (next_number next p) 0 && nat_le 1024 (length next)) (Some (limits.Partitions, length next))
+    (cond (nat_le 65536 (next_number next p)) (Some (limits.Numbers, next_number next p)) (client_limit log))
+
+-- the first limit that one more block of so many values would pass
+abbrev pub commit_limit : Table → ℕ → Option (Limit × ℕ)
+commit_limit t values =
+    cond (nat_le 32768 (client_count t.log)) (Some (limits.ClientEntries, client_count t.log))
+    (cond (nat_lt 8388608 (t.values + values)) (Some (limits.Values, t.values)) None)
+
+-- the first limit that one more number in each partition would pass
+abbrev pub numbers_limit : List (Option ℕ × ℕ) → List Entry → Option (Limit × ℕ)
+numbers_limit [] log = client_limit log
+numbers_limit (x ∷ next) log = cond (nat_le 65536 x.1) (Some (limits.Numbers, x.1)) (numbers_limit next log)
+
+-- the first limit that one more mutation would pass
+abbrev pub mutation_limit : List (Option ℕ × ℕ) → List Entry → Option (Limit × ℕ)
+mutation_limit next log = cond (nat_le 1024 (mutation_count log)) (Some (limits.Mutations, mutation_count log)) (numbers_limit next log)
+
+-- the first limit that one more drop of p would pass
+abbrev pub drop_limit : List (Option ℕ × ℕ) → List Entry → Option ℕ → Option (Limit × ℕ)
+drop_limit next log p = cond (nat_le 65536 (next_number next p)) (Some (limits.Numbers, next_number next p)) (client_limit log)
+
+-- ---- the calls
+
+-- the table after one more entry
+abbrev pub with_entry : Entry → Table → Table
+with_entry e t = record t { log = e ∷ t.log }
+
+-- a number is taken for a block whose id isn't kept, and a lock holds it
+pub record Allocates (old : Table) (r : ℕ) (p : Option ℕ) (digest : List ℕ) (n : ℕ) (new : Table) : Type 0 where
+  pub session : Has old.sessions r
+  pub unkept : kept_part old.window p digest ≡ None
+  pub within : allocate_limit old.next old.log p ≡ None
+  pub number : n ≡ next_number old.next p
+  pub change : new ≡ record old { next = with_next old.next p (n + 1); locks = with_lock (record { partition = p; number = n; owner = r }) old.locks }
+
+-- the block of a lock is accepted
+pub record Commits (old : Table) (p : Option ℕ) (n : ℕ) (digest : List ℕ) (r need values : ℕ) (new : Table) : Type 0 where
+  pub locked : IsLocked old.locks p n
+  pub unkept : kept_part old.window p digest ≡ None
+  pub none_pending : 2 ≤ need → old.quorum.pending ≡ None
+  pub within : commit_limit old values ≡ None
+  pub change : new ≡ record old {
+    log = Get p n digest r need ∷ old.log;
+    locks = locks_without old.locks p n;
+    window = window_with old.schema.window old.window p n digest;
+    quorum = quorum_after_block (block_name p n) need old.quorum;
+    values = old.values + values;
+  }
+
+-- a lock goes, where it is there
+abbrev pub Unlocks : Table → Option ℕ → ℕ → Table → Type 0
+Unlocks old p n new = new ≡ record old { locks = locks_without old.locks p n }
+
+-- a merge enters the log: it meets its line of a lawful log, and no lock lies in its range
+pub record AssignsMerge (old : Table) (name : Name) (sources : List Name) (count : ℕ) (new : Table) : Type 0 where
+  pub meets : Meets old.schema old.log (Merge name sources count)
+  pub free : Each (λ k. Spans name k.partition k.number → ⊥) old.locks
+  pub within : worker_limit old.log ≡ None
+  pub change : new ≡ with_entry (Merge name sources count) old
+
+-- a mutate of one part enters the log
+pub record AssignsMutate (old : Table) (part name : Name) (upto count mcount : ℕ) (new : Table) : Type 0 where
+  pub meets : Meets old.schema old.log (Mutate part name upto count mcount)
+  pub within : worker_limit old.log ≡ None
+  pub change : new ≡ with_entry (Mutate part name upto count mcount) old
+
+-- a mutation takes a number in each partition
+pub record CreatesMutation (old : Table) (command : CheckedMutation) (new : Table) : Type 0 where
+  pub fits : CommandFits old.schema command
+  pub within : mutation_limit old.next old.log ≡ None
+  pub change : new ≡ record old { log = Mutation (mutation_count old.log) old.next command ∷ old.log; next = next_numbers_after old.next }
+
+-- a drop takes the next number of a partition that exists, with the locks and the kept ids below it
+pub record DropsPartition (old : Table) (p : Option ℕ) (n : ℕ) (new : Table) : Type 0 where
+  pub exists : 0 < next_number old.next p
+  pub within : drop_limit old.next old.log p ≡ None
+  pub number : n ≡ next_number old.next p
+  pub change : new ≡ record old { log = DropRange p n ∷ old.log; next = with_next old.next p (n + 1); locks = locks_without_below old.locks p n; window = window_without old.window p n; quorum = quorum_after_drop p n old.quorum }
+
+-- a session ends, and its locks go
+abbrev pub Closes : Table → ℕ → Table → Type 0
+Closes old r new = new ≡ record old { locks = filter (λ k. not (nat_eq k.owner r)) old.locks; sessions = filter (λ s. not (nat_eq s r)) old.sessions }
+
+-- a session is open
+abbrev pub Opens : Table → ℕ → Table → Type 0
+Opens old r new = new ≡ record old { sessions = with_session r (filter (λ s. not (nat_eq s r)) old.sessions) }
+
+-- a replica has noted the part that is pending
+abbrev pub Notes : Table → ℕ → Table → Type 0
+Notes old r new = new ≡ record old { quorum = quorum_after_note r old.quorum }

@@ -1,0 +1,91 @@
+-- What always holds of a table with its replicas.
+-- No public source: this program's own.
+use Rattle.std.specs.Prelude.{◌≡◌, ◌⊎◌, ℕ, ◌<◌, true, List}
+use Rattle.std.specs.declared.option.Option.{Option}
+use Rattle.std.specs.declared.option.Option.TheVariants.{Some}
+use Rattle.rmt_names.specs.Names.{block_name}
+use Rattle.rmt_entries.specs.declared.entry.Entry.TheVariants.{Get}
+use Rattle.rmt_model.specs.Words.{Has, Each, Pairwise}
+use Rattle.rmt_model.specs.Live.{Dropped}
+use Rattle.rmt_model.specs.Lawful.{Used, entry_at, IsPrefix}
+use Rattle.rmt_model.specs.Fair.{CoveredBy}
+use Rattle.rmt_model.specs.Parts.{Lodged}
+use Rattle.rmt_model.specs.CopiedParts.{Copied, names_of}
+use Rattle.rmt_events.specs.Views.{Block, Staged, Replica}
+use Rattle.rmt_events.specs.TableCalls.{next_number}
+use Rattle.rmt_events.specs.Sound.{IsSoundTable}
+use Rattle.rmt_events.specs.ReplicaCalls.{IsStanding, IsStaged}
+use Rattle.rmt_events.specs.Clusters.{accepted, values_in, Attempt, Cluster, block_of, committed_at}
+
+-- the block is the one that the log's Get of its number was committed with
+pub record IsBlockAt (s : Cluster) (p : Option ℕ) (b : Lodged) : Type 0 where
+  pub place : ℕ
+  pub source : ℕ
+  pub need : ℕ
+  pub entry : entry_at s.table.log place ≡ Some (Get p b.number b.digest source need)
+  pub block : committed_at s.events place ≡ Some (record { partition = p; digest = b.digest; rows = b.rows })
+
+-- the blocks of a part are those that were committed
+abbrev pub HasItsBlocks : Cluster → Copied → Type 0
+HasItsBlocks s part = Each (IsBlockAt s part.name.partition) part.lineage
+
+-- a staged block's number was taken; it is the block of the Get of that number, and of the open attempt that has it
+pub record IsRightlyStaged (s : Cluster) (z : Staged) : Type 0 where
+  pub below : z.number < next_number s.table.next z.block.partition
+  pub of_get : (i source need : ℕ) (digest : List ℕ) → entry_at s.table.log i ≡ Some (Get z.block.partition z.number digest source need) → committed_at s.events i ≡ Some z.block
+  pub of_try : (a : Attempt) → Has s.attempts a → a.block.partition ≡ z.block.partition → a.number ≡ z.number → z.block ≡ a.block
+
+-- a block with this digest is staged under this number
+pub record KeepsBlock (x : Replica) (p : Option ℕ) (n : ℕ) (digest : List ℕ) : Type 0 where
+  pub block : Block
+  pub staged : IsStaged x p n block
+  pub same_id : block.digest ≡ digest
+
+-- the block of a Get is staged here, or an active part covers it, or it is dropped
+abbrev pub IsKeptAt : Replica → Option ℕ → ℕ → List ℕ → Type 0
+IsKeptAt x p n digest = KeepsBlock x p n digest ⊎ (CoveredBy (names_of x.parts) (block_name p n) ⊎ Dropped x.log (block_name p n))
+
+-- a replica is standing; its copy is a prefix of the log; its session is open exactly where it is up; it has kept what it is the
+-- source of; the blocks of its parts are those that were committed; its staged blocks are the right ones
+pub record Follows (s : Cluster) (x : Replica) : Type 0 where
+  pub stands : IsStanding s.table.schema x
+  pub prefix : IsPrefix x.log s.table.log
+  pub session : (x.up ≡ true → Has s.table.sessions x.number) × (Has s.table.sessions x.number → x.up ≡ true)
+  pub sources : (p : Option ℕ) (n need : ℕ) (digest : List ℕ) → Has s.table.log (Get p n digest x.number need) → IsKeptAt x p n digest
+  pub blocks : Each (HasItsBlocks s) x.parts
+  pub waiting : Each (IsRightlyStaged s) x.staged
+
+-- an open attempt: its block is that of its Allocate; its number was taken, and no entry uses it
+pub record IsOpen (s : Cluster) (a : Attempt) : Type 0 where
+  pub counted : a.id < s.attempts_made
+  pub allocated : block_of s.events a.id ≡ Some a.block
+  pub below : a.number < next_number s.table.next a.block.partition
+  pub unused : Used s.table.log a.block.partition a.number → ⊥
+
+-- the block of a Get's commit has the Get's id
+pub record IsCommitted (s : Cluster) (i : ℕ) (p : Option ℕ) (digest : List ℕ) : Type 0 where
+  pub block : Block
+  pub is : committed_at s.events i ≡ Some block
+  pub partition : block.partition ≡ p
+  pub same_id : block.digest ≡ digest
+
+-- the source of a Get is a replica
+pub record HasReplica (xs : List Replica) (k : ℕ) : Type 0 where
+  pub replica : Replica
+  pub is_in : Has xs replica
+  pub numbered : replica.number ≡ k
+
+-- two attempts have different ids, and different numbers of one partition
+abbrev pub HoldDifferentNumbers : Attempt → Attempt → Type 0
+HoldDifferentNumbers a b = (a.id ≡ b.id → ⊥) × (a.block.partition ≡ b.block.partition → a.number ≡ b.number → ⊥)
+
+-- the table is sound and its values are those of the accepted blocks; each replica follows it; each Get has its block and its
+-- source; open attempts have numbers of their own
+pub record IsWhole (s : Cluster) : Type 0 where
+  pub table : IsSoundTable s.table
+  pub rising : Pairwise (λ x y. x.number < y.number) s.replicas
+  pub follow : Each (Follows s) s.replicas
+  pub committed : (i : ℕ) (p : Option ℕ) (n source need : ℕ) (digest : List ℕ) → entry_at s.table.log i ≡ Some (Get p n digest source need) → IsCommitted s i p digest × HasReplica s.replicas source
+  pub attempts : Each (IsOpen s) s.attempts
+  pub apart : Pairwise HoldDifferentNumbers s.attempts
+  pub counted : s.table.values ≡ values_in s.table.schema (accepted s)
