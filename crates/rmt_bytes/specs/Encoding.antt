@@ -1,6 +1,6 @@
 -- The encodings of numbers, types, values and lists. Numbers have their most significant byte first.
 -- Which bytes a value has is this program's own.
-use Rattle.std.specs.Prelude.{ℕ, ◌<◌, ◌^◌, List, [], ◌∷◌, ◌++◌, length, FitsSigned}
+use Rattle.std.specs.Prelude.{◌≡◌, ℕ, ◌<◌, ◌^◌, List, [], ◌∷◌, ◌++◌, length, FitsSigned}
 use Rattle.std.specs.Int.{w16, w64, to_be_bytes, cast_unsigned}
 use Rattle.std.specs.List.{flat_map, AllByRecursion}
 use Rattle.std.specs.declared.option.Option.{Option}
@@ -10,6 +10,10 @@ use Rattle.rmt_values.specs.declared.kind.Kind.{Kind}
 use Rattle.rmt_values.specs.declared.kind.Kind.TheVariants as kinds
 use Rattle.rmt_values.specs.declared.value.Value.{Value}
 use Rattle.rmt_values.specs.declared.value.Value.TheVariants.{UInt, Int, Text}
+
+-- the first bytes are a prefix of the second
+abbrev pub Begins : List ℕ → List ℕ → Type 0
+Begins first second = (rest : List ℕ) × (second ≡ first ++ rest)
 
 -- each number of the list is a byte
 abbrev pub AreBytes : List ℕ → Type 0

@@ -1,4 +1,4 @@
-ghost use Rattle.std.specs.Prelude.{◌≡◌, ◌++◌, OnOk};
+ghost use Rattle.std.specs.Prelude.{◌≡◌, ◌++◌, OnOk, OnErr};
 ghost use Rattle.std.specs.Int.{w16, w32, w64, to_be_bytes, cast_unsigned};
 ghost use Rattle.rmt_bytes.specs.Decoding.{DecodesPrefix, decode_byte, decode_number, decode_signed};
 
@@ -6,9 +6,10 @@ use crate::decode_error::DecodeError;
 use byteorder::{BigEndian, ByteOrder};
 use std::alloc::AllocError;
 
-/// Appends a number in 2 bytes. At an error no memory was left, and what was appended before it may stay.
+/// Appends a number in 2 bytes. At an error no memory was left, and nothing was appended.
 pub fn put_u16(out: &mut Vec<u8>, number: u16) -> Result<(), AllocError>
     ensures ok { OnOk result (out.new.items ≡ out.old.items ++ to_be_bytes w16 number) }
+    ensures err { OnErr result (out.new.items ≡ out.old.items) }
 {
     let mut bytes = [0; 2];
     BigEndian::write_u16(&mut bytes, number);
@@ -16,9 +17,10 @@ pub fn put_u16(out: &mut Vec<u8>, number: u16) -> Result<(), AllocError>
     Ok(())
 }
 
-/// Appends a number in 4 bytes. At an error no memory was left.
+/// Appends a number in 4 bytes. At an error no memory was left, and nothing was appended.
 pub fn put_u32(out: &mut Vec<u8>, number: u32) -> Result<(), AllocError>
     ensures ok { OnOk result (out.new.items ≡ out.old.items ++ to_be_bytes w32 number) }
+    ensures err { OnErr result (out.new.items ≡ out.old.items) }
 {
     let mut bytes = [0; 4];
     BigEndian::write_u32(&mut bytes, number);
@@ -26,9 +28,10 @@ pub fn put_u32(out: &mut Vec<u8>, number: u32) -> Result<(), AllocError>
     Ok(())
 }
 
-/// Appends a number in 8 bytes. At an error no memory was left.
+/// Appends a number in 8 bytes. At an error no memory was left, and nothing was appended.
 pub fn put_u64(out: &mut Vec<u8>, number: u64) -> Result<(), AllocError>
     ensures ok { OnOk result (out.new.items ≡ out.old.items ++ to_be_bytes w64 number) }
+    ensures err { OnErr result (out.new.items ≡ out.old.items) }
 {
     let mut bytes = [0; 8];
     BigEndian::write_u64(&mut bytes, number);
@@ -36,9 +39,11 @@ pub fn put_u64(out: &mut Vec<u8>, number: u64) -> Result<(), AllocError>
     Ok(())
 }
 
-/// Appends a signed number in 8 bytes, in two's complement. At an error no memory was left.
+/// Appends a signed number in 8 bytes, in two's complement. At an error no memory was left, and nothing
+/// was appended.
 pub fn put_i64(out: &mut Vec<u8>, number: i64) -> Result<(), AllocError>
     ensures ok { OnOk result (out.new.items ≡ out.old.items ++ to_be_bytes w64 (cast_unsigned w64 number)) }
+    ensures err { OnErr result (out.new.items ≡ out.old.items) }
 {
     let mut bytes = [0; 8];
     BigEndian::write_i64(&mut bytes, number);
@@ -46,9 +51,11 @@ pub fn put_i64(out: &mut Vec<u8>, number: i64) -> Result<(), AllocError>
     Ok(())
 }
 
-/// Appends a length in 2 bytes: of one past 65,535 its lowest 16 bits. At an error no memory was left.
+/// Appends a length in 2 bytes: of one past 65,535 its lowest 16 bits. At an error no memory was left, and nothing was
+/// appended.
 pub fn put_len(out: &mut Vec<u8>, len: usize) -> Result<(), AllocError>
     ensures ok { OnOk result (out.new.items ≡ out.old.items ++ to_be_bytes w16 len) }
+    ensures err { OnErr result (out.new.items ≡ out.old.items) }
 {
     put_u16(out, (len % 65_536) as u16)?;
     Ok(())

@@ -1,14 +1,16 @@
-ghost use Rattle.std.specs.Prelude.{◌≡◌, ◌++◌, OnOk};
-ghost use Rattle.rmt_bytes.specs.Encoding.{partition_bytes};
+ghost use Rattle.std.specs.Prelude.{◌≡◌, ◌++◌, OnOk, OnErr};
+ghost use Rattle.rmt_bytes.specs.Encoding.{partition_bytes, Begins};
 ghost use Rattle.rmt_bytes.specs.Decoding.{DecodesPrefix, decode_partition};
 
 use crate::decode_error::DecodeError;
 use crate::numbers::{put_u64, read_u64};
 use std::alloc::AllocError;
 
-/// Appends an optional partition number. At an error no memory was left.
+/// Appends an optional partition number. At an error no memory was left, and a prefix of
+/// its bytes may have been appended.
 pub fn put_partition(out: &mut Vec<u8>, partition: Option<u64>) -> Result<(), AllocError>
     ensures ok { OnOk result (out.new.items ≡ out.old.items ++ partition_bytes partition) }
+    ensures err { OnErr result (Begins out.old.items out.new.items) }
 {
     match partition {
         None => {

@@ -1,6 +1,6 @@
-ghost use Rattle.std.specs.Prelude.{◌≡◌, ◌≤◌, ◌++◌, length, OnOk};
+ghost use Rattle.std.specs.Prelude.{◌≡◌, ◌≤◌, ◌++◌, length, OnOk, OnErr};
 ghost use Rattle.rmt_values.specs.declared.value.Value.TheVariants.{Text};
-ghost use Rattle.rmt_bytes.specs.Encoding.{text_bytes, IsInRange};
+ghost use Rattle.rmt_bytes.specs.Encoding.{text_bytes, IsInRange, Begins};
 ghost use Rattle.rmt_bytes.specs.Decoding.{DecodesPrefix, decode_text};
 
 use crate::decode_error::DecodeError;
@@ -8,9 +8,11 @@ use crate::numbers::{put_len, read_u16};
 use rmt_values::Blob;
 use std::alloc::{AllocError, Global};
 
-/// Appends a String, after its length. At an error no memory was left.
+/// Appends a String, after its length. At an error no memory was left, and a prefix of
+/// its bytes may have been appended.
 pub fn put_text(out: &mut Vec<u8>, text: &[u8]) -> Result<(), AllocError>
     ensures ok { OnOk result (out.new.items ≡ out.old.items ++ text_bytes text.now) }
+    ensures err { OnErr result (Begins out.old.items out.new.items) }
     ensures in_range { length text.now ≤ 65535 → IsInRange (Text text.now) }
 {
     put_len(out, text.len())?;

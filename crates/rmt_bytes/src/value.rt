@@ -1,6 +1,6 @@
-ghost use Rattle.std.specs.Prelude.{◌≡◌, ◌++◌, ◌∷◌, [], true, OnOk};
+ghost use Rattle.std.specs.Prelude.{◌≡◌, ◌++◌, ◌∷◌, [], true, OnOk, OnErr};
 ghost use Rattle.rmt_values.specs.Rows.{is_value};
-ghost use Rattle.rmt_bytes.specs.Encoding.{kind_byte as byte_of, value_bytes, typed_bytes, IsInRange};
+ghost use Rattle.rmt_bytes.specs.Encoding.{kind_byte as byte_of, value_bytes, typed_bytes, IsInRange, Begins};
 ghost use Rattle.rmt_bytes.specs.Decoding.{DecodesPrefix, decode_kind, decode_value, decode_typed};
 
 use crate::decode_error::DecodeError;
@@ -20,17 +20,20 @@ pub fn kind_byte(kind: Kind) -> u8
     }
 }
 
-/// Appends a type. At an error no memory was left.
+/// Appends a type. At an error no memory was left, and nothing was appended.
 pub fn put_kind(out: &mut Vec<u8>, kind: Kind) -> Result<(), AllocError>
     ensures ok { OnOk result (out.new.items ≡ out.old.items ++ byte_of kind ∷ []) }
+    ensures err { OnErr result (out.new.items ≡ out.old.items) }
 {
     out.push(kind_byte(kind))?;
     Ok(())
 }
 
-/// Appends a value without its type: whoever decodes it has to know it. At an error no memory was left.
+/// Appends a value without its type: whoever decodes it has to know it. At an error no memory was left, and a prefix of
+/// its bytes may have been appended.
 pub fn put_value(out: &mut Vec<u8>, value: &Value) -> Result<(), AllocError>
     ensures ok { OnOk result (out.new.items ≡ out.old.items ++ value_bytes value.now) }
+    ensures err { OnErr result (Begins out.old.items out.new.items) }
     ensures in_range { is_value value.now ≡ true → IsInRange value.now }
 {
     match value {
@@ -41,9 +44,11 @@ pub fn put_value(out: &mut Vec<u8>, value: &Value) -> Result<(), AllocError>
     Ok(())
 }
 
-/// Appends a value, after its type. At an error no memory was left.
+/// Appends a value, after its type. At an error no memory was left, and a prefix of
+/// its bytes may have been appended.
 pub fn put_typed(out: &mut Vec<u8>, value: &Value) -> Result<(), AllocError>
     ensures ok { OnOk result (out.new.items ≡ out.old.items ++ typed_bytes value.now) }
+    ensures err { OnErr result (Begins out.old.items out.new.items) }
 {
     put_kind(out, value.kind())?;
     put_value(out, value)?;

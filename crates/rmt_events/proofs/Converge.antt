@@ -13,7 +13,7 @@ use Rattle.rmt_model.specs.Words.{Has, Each}
 use Rattle.rmt_model.specs.Live.{live, made}
 use Rattle.rmt_model.specs.Lawful.{Lawful, Used, entry_at, MakesAt, IsPrefix}
 use Rattle.rmt_model.specs.Content.{Row, Blocks, changed, content, rows, snapshot}
-use Rattle.rmt_model.specs.Parts.{Lodged}
+use Rattle.rmt_model.specs.Parts.{NumberedBlock}
 use Rattle.rmt_model.specs.CopiedParts.{Copied, IsCopied, names_of}
 use Rattle.rmt_model.proofs.Lists.{Each-at, Each-all, rank-injective}
 use Rattle.rmt_model.proofs.VersionLaws.{made-sized}
@@ -82,7 +82,7 @@ part-content s x part w f h = (of-log x.log f.stands.lawful g.0 g.1, of-log s.ta
     theirs : Each (λ b. rows_at (accepted s) part.name.partition b.number ≡ b.rows) part.lineage
     theirs = Each-all (λ b. rows_at (accepted s) part.name.partition b.number ≡ b.rows) part.lineage (λ b k. one b (Each-at (IsBlockAt s part.name.partition) part.lineage b (Each-at (HasItsBlocks s) x.parts part f.blocks h) k))
       where
-        one : (b : Lodged) → IsBlockAt s part.name.partition b → rows_at (accepted s) part.name.partition b.number ≡ b.rows
+        one : (b : NumberedBlock) → IsBlockAt s part.name.partition b → rows_at (accepted s) part.name.partition b.number ≡ b.rows
         one b k = block-given s.table.schema s.table.log s.events k.place part.name.partition b.number k.source k.need b.digest (record { partition = part.name.partition; digest = b.digest; rows = b.rows }) l k.entry k.block
 
     of-log : (log : List Entry) → Lawful s.table.schema log → Has (made log) part.name → IsCopied s.table.schema log part → part.rows ≡ content s.table.schema log (rows_at (accepted s)) part.name

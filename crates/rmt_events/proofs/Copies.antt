@@ -13,7 +13,7 @@ use Rattle.rmt_model.specs.Live.{made, Dropped}
 use Rattle.rmt_model.specs.Lawful.{Lawful, entry_at, MakesAt, IsPrefix}
 use Rattle.rmt_model.specs.Laws.{Committed}
 use Rattle.rmt_model.specs.Content.{Row, Blocks, changed, has_block, block_rows, joined, content}
-use Rattle.rmt_model.specs.Parts.{Lodged, IsOf}
+use Rattle.rmt_model.specs.Parts.{NumberedBlock, IsOf}
 use Rattle.rmt_model.specs.CopiedParts.{Copied, blocks_of, HasNumber, AreBlocksOf, IsCopied}
 use Rattle.rmt_model.proofs.Lists.{Each-at, Each-all, rank-injective}
 use Rattle.rmt_model.proofs.Drops.{made-more, entry-older, entry-made}
@@ -29,7 +29,7 @@ get-within schema e log a n source need digest l m s (inl q) =
     absurd (outside-made log a.partition n a k.1 m s)
 
 -- the lineage of a made name stays
-lineage-more : (schema : Shape) (e : Entry) (log : List Entry) (a : Name) (bs : List Lodged) → Lawful schema (e ∷ log) → Has (made log) a → AreBlocksOf log a bs → AreBlocksOf (e ∷ log) a bs
+lineage-more : (schema : Shape) (e : Entry) (log : List Entry) (a : Name) (bs : List NumberedBlock) → Lawful schema (e ∷ log) → Has (made log) a → AreBlocksOf log a bs → AreBlocksOf (e ∷ log) a bs
 lineage-more schema e log a bs l m i =
     record {
       rising = i.rising;
@@ -37,7 +37,7 @@ lineage-more schema e log a bs l m i =
       whole = λ n source need digest h s. i.whole n source need digest (get-within schema e log a n source need digest l m s h) s;
     }
 
-lineage-less : (schema : Shape) (e : Entry) (log : List Entry) (a : Name) (bs : List Lodged) → Lawful schema (e ∷ log) → Has (made log) a → AreBlocksOf (e ∷ log) a bs → AreBlocksOf log a bs
+lineage-less : (schema : Shape) (e : Entry) (log : List Entry) (a : Name) (bs : List NumberedBlock) → Lawful schema (e ∷ log) → Has (made log) a → AreBlocksOf (e ∷ log) a bs → AreBlocksOf log a bs
 lineage-less schema e log a bs l m i =
     record {
       rising = i.rising;
@@ -166,7 +166,7 @@ found-get (Mutation id numbers command ∷ log) p n h = let c = found-get log p 
 found-get (DropRange q m ∷ log) p n h = let c = found-get log p n h in record { digest = c.digest; source = c.source; need = c.need; entry = inr c.entry }
 
 -- a lineage whose blocks are those of others gives their rows
-lineage-gives : (bs : List Lodged) (blocks : Blocks) (p : Option ℕ) (n : ℕ) → Each (λ b. blocks p b.number ≡ b.rows) bs → HasNumber bs n → blocks_of bs p n ≡ blocks p n
+lineage-gives : (bs : List NumberedBlock) (blocks : Blocks) (p : Option ℕ) (n : ℕ) → Each (λ b. blocks p b.number ≡ b.rows) bs → HasNumber bs n → blocks_of bs p n ≡ blocks p n
 lineage-gives [] blocks p n e h = absurd h
 lineage-gives (b ∷ bs) blocks p n e h = go (nat_eq b.number n) refl h (lineage-gives bs blocks p n e.1)
   where
@@ -175,7 +175,7 @@ lineage-gives (b ∷ bs) blocks p n e h = go (nat_eq b.number n) refl h (lineage
     go false q (inl r) f = absurd (grind (arith, nat_tests))
     go false q (inr h) f = f h
 
-pub content-of-lineage : (schema : Shape) (log : List Entry) (blocks : Blocks) (a : Name) (bs : List Lodged) → AreBlocksOf log a bs → Each (λ b. blocks a.partition b.number ≡ b.rows) bs → a.min ≤ a.max → content schema log (blocks_of bs) a ≡ content schema log blocks a
+pub content-of-lineage : (schema : Shape) (log : List Entry) (blocks : Blocks) (a : Name) (bs : List NumberedBlock) → AreBlocksOf log a bs → Each (λ b. blocks a.partition b.number ≡ b.rows) bs → a.min ≤ a.max → content schema log (blocks_of bs) a ≡ content schema log blocks a
 content-of-lineage schema log blocks a bs i e sized =
     ap (in_key_order schema) (joined-equal (of (blocks_of bs)) (of blocks) a.min (a.max + 1 - a.min) (λ n l m. each n l (omega (arith, l, m, sized)) (has_block log a.partition n) refl))
   where

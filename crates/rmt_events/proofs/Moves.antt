@@ -8,7 +8,7 @@ use Rattle.rmt_entries.specs.declared.entry.Entry.{Entry}
 use Rattle.rmt_entries.specs.declared.entry.Entry.TheVariants.{Get, Merge, Mutate, Mutation, DropRange}
 use Rattle.rmt_model.specs.Words.{Has, Each, Pairwise}
 use Rattle.rmt_model.specs.Lawful.{Used, entry_at, IsPrefix}
-use Rattle.rmt_model.specs.Parts.{Lodged}
+use Rattle.rmt_model.specs.Parts.{NumberedBlock}
 use Rattle.rmt_model.specs.CopiedParts.{Copied}
 use Rattle.rmt_model.proofs.Lists.{Each-at, Each-all}
 use Rattle.rmt_model.proofs.Drops.{entry-below}
@@ -54,7 +54,7 @@ grows-same s t e f =
       blocks = λ i b l q. ap (λ (xs : List (Event × Reply)). committed_at xs i) f ∙ q;
     }
 
-pub block-moved : (s t : Cluster) (p : Option ℕ) (b : Lodged) → GrowsTo s t → IsBlockAt s p b → IsBlockAt t p b
+pub block-moved : (s t : Cluster) (p : Option ℕ) (b : NumberedBlock) → GrowsTo s t → IsBlockAt s p b → IsBlockAt t p b
 block-moved s t p b g k =
     record {
       place = k.place;

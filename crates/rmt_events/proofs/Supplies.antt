@@ -6,7 +6,7 @@ use Rattle.rmt_names.specs.Names.{Name, block_name}
 use Rattle.rmt_entries.specs.declared.entry.Entry.TheVariants.{Get}
 use Rattle.rmt_model.specs.Lawful.{MakesAt}
 use Rattle.rmt_model.specs.Words.{Has, Each}
-use Rattle.rmt_model.specs.Parts.{Lodged}
+use Rattle.rmt_model.specs.Parts.{NumberedBlock}
 use Rattle.rmt_model.specs.CopiedParts.{Copied, IsCopied}
 use Rattle.rmt_model.proofs.Lists.{Each-at, Each-all}
 use Rattle.rmt_events.specs.Views.{Block, Replica}
@@ -33,7 +33,7 @@ of-block-blocks s x i b n part f k r =
     let q = entry-goes-on x.log s.table.log i (Get b.partition n b.digest k.source k.need) f.prefix k.entry in
     let w : HasItsBlocks s (record part { name = block_name b.partition n; lineage = record { number = n; digest = b.digest; rows = b.rows } ∷ [] }) =
     (record { place = i; source = k.source; need = k.need; entry = q; block = r.of_get i k.source k.need b.digest q }, tt) in
-    subst (λ (bs : List Lodged). Each (IsBlockAt s part.name.partition) bs) (sym k.lineage) (subst (λ (a : Name). Each (IsBlockAt s a.partition) (record { number = n; digest = b.digest; rows = b.rows } ∷ [])) (sym k.named) w)
+    subst (λ (bs : List NumberedBlock). Each (IsBlockAt s part.name.partition) bs) (sym k.lineage) (subst (λ (a : Name). Each (IsBlockAt s a.partition) (record { number = n; digest = b.digest; rows = b.rows } ∷ [])) (sym k.named) w)
 
 -- each supply serves
 pub supply-serves : (s : Cluster) (x : Replica) (i : ℕ) (part : Copied) → IsWhole s → Follows s x → Fits x i part → IsSupply s x i part → Serves s.table.schema x i part × HasItsBlocks s part
@@ -46,7 +46,7 @@ supply-serves s x i part w f t (inr (inl k)) = (
   Each-all (IsBlockAt s part.name.partition) part.lineage (λ b h. theirs b (k.blocks b h)),
 )
   where
-    theirs : (b : Lodged) → (from : Copied) × Has x.parts from × (from.name.partition ≡ part.name.partition) × Has from.lineage b → IsBlockAt s part.name.partition b
+    theirs : (b : NumberedBlock) → (from : Copied) × Has x.parts from × (from.name.partition ≡ part.name.partition) × Has from.lineage b → IsBlockAt s part.name.partition b
     theirs b g = subst (λ (o : Option ℕ). IsBlockAt s o b) g.2 (Each-at (IsBlockAt s (Copied.name g.0).partition) (Copied.lineage g.0) b (Each-at (HasItsBlocks s) x.parts g.0 f.blocks g.1) g.3)
 supply-serves s x i part w f t (inr (inr (inl k))) =
     let g = Each-at (Follows s) s.replicas k.from w.follow k.may.other.is_in in

@@ -10,7 +10,7 @@ use Rattle.rmt_entries.specs.declared.entry.Entry.{Entry}
 use Rattle.rmt_entries.specs.declared.entry.Entry.TheVariants.{Get, Merge, Mutate, Mutation, DropRange}
 use Rattle.rmt_model.specs.Words.{Has, Each}
 use Rattle.rmt_model.specs.Lawful.{entry_at, MakesAt}
-use Rattle.rmt_model.specs.Parts.{Lodged}
+use Rattle.rmt_model.specs.Parts.{NumberedBlock}
 use Rattle.rmt_model.specs.CopiedParts.{Copied, IsCopied, names_of}
 use Rattle.rmt_events.specs.Views.{Block, Replica}
 use Rattle.rmt_events.specs.ReplicaCalls.{IsStaged, Waits, Settles, DoesDrop, DoesPart, IsAlready}
@@ -67,7 +67,7 @@ pub record IsFromParts (s : Cluster) (x : Replica) (i : ℕ) (part : Copied) : T
   pub sources : HasSources entry x
   pub made_here : MakesAt x.log i part.name
   pub place : part.place ≡ i
-  pub blocks : (b : Lodged) → Has part.lineage b → (from : Copied) × Has x.parts from × (from.name.partition ≡ part.name.partition) × Has from.lineage b
+  pub blocks : (b : NumberedBlock) → Has part.lineage b → (from : Copied) × Has x.parts from × (from.name.partition ≡ part.name.partition) × Has from.lineage b
   pub holds : IsCopied s.table.schema x.log part
 
 -- the replica may fetch for the Get at the place, whose block isn't staged here, from the lowest-numbered other live holder

@@ -9,7 +9,7 @@ use Rattle.rmt_model.specs.Words.{Has, Each, Pairwise}
 use Rattle.rmt_model.specs.Live.{Dropped}
 use Rattle.rmt_model.specs.Lawful.{Used, entry_at, IsPrefix}
 use Rattle.rmt_model.specs.Fair.{CoveredBy}
-use Rattle.rmt_model.specs.Parts.{Lodged}
+use Rattle.rmt_model.specs.Parts.{NumberedBlock}
 use Rattle.rmt_model.specs.CopiedParts.{Copied, names_of}
 use Rattle.rmt_events.specs.Views.{Block, Staged, Replica}
 use Rattle.rmt_events.specs.TableCalls.{next_number}
@@ -18,7 +18,7 @@ use Rattle.rmt_events.specs.ReplicaCalls.{IsStanding, IsStaged}
 use Rattle.rmt_events.specs.Clusters.{accepted, values_in, Attempt, Cluster, block_of, committed_at}
 
 -- the block is the one that the log's Get of its number was committed with
-pub record IsBlockAt (s : Cluster) (p : Option ℕ) (b : Lodged) : Type 0 where
+pub record IsBlockAt (s : Cluster) (p : Option ℕ) (b : NumberedBlock) : Type 0 where
   pub place : ℕ
   pub source : ℕ
   pub need : ℕ

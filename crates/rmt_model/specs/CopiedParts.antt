@@ -9,13 +9,13 @@ use Rattle.rmt_entries.specs.declared.entry.Entry.{Entry}
 use Rattle.rmt_entries.specs.declared.entry.Entry.TheVariants.{Get}
 use Rattle.rmt_model.specs.Words.{Has, Each, Pairwise}
 use Rattle.rmt_model.specs.Content.{Row, Blocks, content}
-use Rattle.rmt_model.specs.Parts.{Lodged, IsOf}
+use Rattle.rmt_model.specs.Parts.{NumberedBlock, IsOf}
 
 -- a part: the place of the entry that made it, its name, the blocks that went into it, its rows in order
 pub record Copied : Type 0 where
   pub place : ℕ
   pub name : Name
-  pub lineage : List Lodged
+  pub lineage : List NumberedBlock
   pub rows : List Row
 
 -- the names of the parts
@@ -24,17 +24,17 @@ names_of [] = []
 names_of (part ∷ parts) = part.name ∷ names_of parts
 
 -- the rows of blocks by their numbers; none of a number that no block has
-abbrev pub blocks_of : List Lodged → Blocks
+abbrev pub blocks_of : List NumberedBlock → Blocks
 blocks_of [] p n = []
 blocks_of (b ∷ rest) p n = cond (nat_eq b.number n) b.rows (blocks_of rest p n)
 
 -- one of the blocks has this number
-abbrev pub HasNumber : List Lodged → ℕ → Type 0
+abbrev pub HasNumber : List NumberedBlock → ℕ → Type 0
 HasNumber [] n = ⊥
 HasNumber (b ∷ rest) n = (b.number ≡ n) ⊎ HasNumber rest n
 
 -- these are exactly the log's blocks of the name's range, each with its id, in order of number
-pub record AreBlocksOf (log : List Entry) (a : Name) (blocks : List Lodged) : Type 0 where
+pub record AreBlocksOf (log : List Entry) (a : Name) (blocks : List NumberedBlock) : Type 0 where
   pub rising : Pairwise (λ x y. x.number < y.number) blocks
   pub within : Each (λ b. Spans a a.partition b.number × IsOf log a.partition b) blocks
   pub whole : (n source need : ℕ) (digest : List ℕ) → Has log (Get a.partition n digest source need) → Spans a a.partition n → HasNumber blocks n

@@ -15,30 +15,30 @@ use Rattle.rmt_model.specs.Lawful.{IsMutationWith}
 use Rattle.rmt_model.specs.Content.{Row, changed}
 
 -- a block by its number, its digest and its rows
-pub record Lodged : Type 0 where
+pub record NumberedBlock : Type 0 where
   pub number : ℕ
   pub digest : List ℕ
   pub rows : List Row
 
 -- the log has this block of p at its number
-pub record IsOf (log : List Entry) (p : Option ℕ) (b : Lodged) : Type 0 where
+pub record IsOf (log : List Entry) (p : Option ℕ) (b : NumberedBlock) : Type 0 where
   pub source : ℕ
   pub need : ℕ
   pub entry : Has log (Get p b.number b.digest source need)
 
 -- what a part was made from: its blocks in order of number, and the mutations up to the last one applied, the newest first
 pub record Lineage : Type 0 where
-  pub blocks : List Lodged
+  pub blocks : List NumberedBlock
   pub mutations : List Entry
 
 -- the rows of a block of p, after the mutations above its number and up to a limit
-abbrev pub lodged_rows : List Entry → Option ℕ → ℕ → Lodged → List Row
-lodged_rows mutations p limit b = filter_map (changed mutations p (λ k. nat_lt b.number k && nat_le k limit)) b.rows
+abbrev pub mutated_rows : List Entry → Option ℕ → ℕ → NumberedBlock → List Row
+mutated_rows mutations p limit b = filter_map (changed mutations p (λ k. nat_lt b.number k && nat_le k limit)) b.rows
 
 -- the rows of blocks of p, one after the other
-abbrev pub lineage_rows : List Entry → Option ℕ → ℕ → List Lodged → List Row
+abbrev pub lineage_rows : List Entry → Option ℕ → ℕ → List NumberedBlock → List Row
 lineage_rows mutations p limit [] = []
-lineage_rows mutations p limit (b ∷ rest) = lodged_rows mutations p limit b ++ lineage_rows mutations p limit rest
+lineage_rows mutations p limit (b ∷ rest) = mutated_rows mutations p limit b ++ lineage_rows mutations p limit rest
 
 -- the rows of a part of this name by what it was made from alone
 abbrev pub own_content : Shape → Lineage → Name → List Row

@@ -1,3 +1,4 @@
 pub mod DecimalLemmas
 pub mod FieldLemmas
 pub mod TextLemmas
+pub mod MergeLemmas

@@ -1,7 +1,7 @@
 -- What the name of a part says.
 -- ClickHouse documentation, MergeTree, "Data storage", and Data Replication: partition, block range, level of merges, mutation.
 -- A partition's number stands for its id; an unpartitioned table has the one partition `all`.
-use Rattle.std.specs.Prelude.{◌≡◌, ℕ, ◌+◌, ◌<◌, ◌≤◌, ◌^◌, ◌&&◌, Bool, cond, max, nat_eq, nat_le, List, [], ◌∷◌, IfSome}
+use Rattle.std.specs.Prelude.{◌≡◌, ℕ, ◌+◌, ◌-◌, ◌<◌, ◌≤◌, ◌^◌, ◌&&◌, Bool, cond, max, nat_eq, nat_le, List, [], ◌∷◌, IfSome}
 use Rattle.std.specs.declared.option.Option.{Option}
 use Rattle.std.specs.declared.option.Option.TheVariants.{Some, None}
 
@@ -78,3 +78,33 @@ merged_name a rest = record {
   level = highest (λ c. c.level) a rest + 1;
   mutation = highest (λ c. c.mutation) a rest;
 }
+
+-- each range lies after that of the name before it, in the same partition
+abbrev pub AreRising : Name → List Name → Type 0
+AreRising a [] = Unit {0}
+AreRising a (b ∷ rest) = (a.partition ≡ b.partition) × (a.max < b.min) × AreRising b rest
+
+-- names that a merge can put into one: two or more, rising, with levels below the greatest that a name can have
+abbrev pub CanMerge : List Name → Type 0
+CanMerge [] = ⊥
+CanMerge (a ∷ []) = ⊥
+CanMerge (a ∷ b ∷ rest) = AreRising a (b ∷ rest) × (highest (λ c. c.level) a (b ∷ rest) < 2 ^ 32 - 1)
+
+-- the name that a merge of these gives
+abbrev pub IsMergedOf : List Name → Name → Type 0
+IsMergedOf [] new = ⊥
+IsMergedOf (a ∷ rest) new = CanMerge (a ∷ rest) × (new ≡ merged_name a rest)
+
+-- ---- what only private functions cite
+
+-- the name stands behind the other, in the same partition
+abbrev pub IsNext : Name → Name → Type 0
+IsNext a b = (a.partition ≡ b.partition) × (a.max < b.min)
+
+-- what both span, at the higher level and with the later mutation
+abbrev pub joined_name : Name → Name → Name
+joined_name a b = record { partition = a.partition; min = a.min; max = b.max; level = max a.level b.level; mutation = max a.mutation b.mutation }
+
+-- the name is that of both together
+abbrev pub IsJoined : Name → Name → Name → Type 0
+IsJoined a b new = IsNext a b × (new ≡ joined_name a b)

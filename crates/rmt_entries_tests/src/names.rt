@@ -1,5 +1,5 @@
 //! Names of parts, read and written, and what they cover.
-use rmt_names::{PartName, PartitionId, block_name, covers, data_version, parse, text};
+use rmt_names::{PartName, PartitionId, block_name, covers, data_version, merged, parse, text};
 use std::test::Fail;
 
 #[test]
@@ -107,5 +107,36 @@ fn a_merged_part_covers_its_sources(rt: HostRuntime) -> Result<(), Fail> {
     assert_eq!(rt; parse("all_2_2_0_4"), Some(mutated));
     assert_eq!(rt; data_version(&mutated), 4);
     assert!(rt; !covers(&source, &mutated));
+    Ok(())
+}
+
+#[test]
+fn names_merge_where_they_rise_in_one_partition(rt: HostRuntime) -> Result<(), Fail> {
+    // The names, one after the other, and what they merge into.
+    let rows: [(&str, Option<&str>); 10] = [
+        ("", None),
+        ("all_0_0_0", None),
+        ("all_0_0_0 all_1_1_0", Some("all_0_1_1")),
+        ("7_0_0_0 7_2_5_3 7_9_9_1", Some("7_0_9_4")),
+        ("all_0_0_0_4 all_1_2_1_6 all_3_3_0_6", Some("all_0_3_2_6")),
+        // Not rising, overlapping, of two partitions.
+        ("all_1_1_0 all_0_0_0", None),
+        ("all_0_2_1 all_2_3_1", None),
+        ("all_0_0_0 7_1_1_0", None),
+        // The highest level that can be merged, and one more.
+        ("all_0_0_4294967294 all_1_1_0", Some("all_0_1_4294967295")),
+        ("all_0_0_0 all_1_1_4294967295", None),
+    ];
+    for (names, expected) in rows {
+        let mut sources = Vec::new(rt.alloc());
+        for name in names.split_whitespace() {
+            sources.push(parse(name).ok_or("no name")?)?;
+        }
+        let expected = match expected {
+            Some(name) => Some(parse(name).ok_or("no name")?),
+            None => None,
+        };
+        assert_eq!(rt; merged(&sources), expected, "{names:?}");
+    }
     Ok(())
 }

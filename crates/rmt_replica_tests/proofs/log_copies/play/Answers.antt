@@ -3,8 +3,8 @@ use Rattle.std.specs.declared.option.Option.{Option}
 use Rattle.std.specs.declared.option.Option.TheVariants.{Some}
 use Rattle.rmt_names.specs.Names.{Name}
 use Rattle.rmt_entries.specs.declared.entry.Entry.TheVariants.{Get, Merge, Mutate, Mutation, DropRange}
-use Rattle.rmt_tests.proofs.PlayedLog.{lawful4, lawful5, lawful6, lawful7, lawful8, same-lawful, same-more, same-two, part}
-use Rattle.rmt_tests.proofs.log_copies.play.Goals as goal
+use Rattle.rmt_replica_tests.proofs.PlayedLog.{lawful4, lawful5, lawful6, lawful7, lawful8, same-lawful, same-more, same-two, part}
+use Rattle.rmt_replica_tests.proofs.log_copies.play.Goals as goal
 
 pub add-requires-4 : goal.add-requires-4
 add-requires-4 g c =

@@ -1,0 +1,5 @@
+//! Tests of the coordination tree, which need its public calls alone.
+#![tactic(auto)]
+
+#[cfg(test)]
+mod tree;
