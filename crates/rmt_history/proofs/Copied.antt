@@ -1,20 +1,22 @@
 -- Tokens in their order, and the log that they are of.
 use Rattle.std.proofs.Common.{◌≡◌, ℕ, zero, suc, Bool, true, false, cond, List, [], ◌∷◌, ◌++◌, length, map, reverse, refl, sym, ap, subst, arith, ◌∙◌, nat_eq}
 use Rattle.std.proofs.lemmas.Bool.Decides.{nat_tests}
-use Rattle.std.proofs.Math.Dec.{eqb-suc-zero, eqb-zero-suc, eqb-suc-suc}
 use Rattle.std.proofs.lemmas.List.{reverse-append, reverse-reverse, length-map, length-reverse}
-use Rattle.std.specs.Prelude.{slice_get}
+use Rattle.std.specs.Prelude.{slice_get, option_to_list}
 use Rattle.std.specs.BTreeMap.{BTreeMap, get}
 use Rattle.std.specs.declared.option.Option.{Option}
-use Rattle.std.specs.declared.option.Option.TheVariants.{Some}
+use Rattle.std.specs.declared.option.Option.TheVariants.{Some, None}
 use Rattle.rmt_values.specs.Rows.{Shape}
 use Rattle.rmt_names.specs.Names.{Name}
 use Rattle.rmt_row.specs.Token.{Token}
 use Rattle.rmt_entries.specs.Entries.{result_name}
 use Rattle.rmt_entries.specs.declared.entry.Entry.{Entry}
 use Rattle.rmt_model.specs.Live.{live, live_after}
-use Rattle.rmt_model.specs.Lawful.{Lawful, entry_at}
-use Rattle.rmt_history.specs.Copies.{entries, cells_of, IsMadeBy, maker_after, drop_after, last_drop, partition_cmp, IsCopy, name_cmp}
+use Rattle.rmt_model.specs.Lawful.{Lawful, entry_at, is_mutation}
+use Rattle.rmt_history.specs.Copies.{entries, cells_of, IsMadeBy, maker_after, drop_after, last_drop, partition_cmp, ArePrefixes, mutation_tokens, IsCopy, name_cmp}
+use Rattle.rmt_history.specs.Mutations.{last_list}
+use Rattle.rmt_history.proofs.ListLemmas.{get-snoc}
+use Rattle.rmt_history.proofs.SharedLemmas.{shared-more}
 use Rattle.rmt_history.proofs.LastDrops.{drop-more}
 use Rattle.rmt_history.specs.declared.last_drop.LastDrop.{LastDrop}
 use Rattle.rmt_history.proofs.Makers.{made-more}
@@ -30,13 +32,6 @@ entries-snoc tokens next = ap reverse (map-snoc (λ t. t.value) tokens next) ∙
 pub length-entries : (tokens : List (Token Entry)) → length (entries tokens) ≡ length tokens
 length-entries tokens = length-reverse (map (λ t. t.value) tokens) ∙ length-map tokens (λ t. t.value)
 
--- the element at a place of a list with one more at its end
-pub get-snoc : {A : Type 0} (xs : List A) (x : A) (i : ℕ) → slice_get (xs ++ x ∷ []) i ≡ cond (nat_eq i (length xs)) (Some x) (slice_get xs i)
-get-snoc [] x zero = refl
-get-snoc [] x (suc i) = rw eqb-suc-zero refl
-get-snoc (y ∷ xs) x zero = rw eqb-zero-suc refl
-get-snoc {A} (y ∷ xs) x (suc i) = get-snoc xs x i ∙ ap (λ (b : Bool). cond {A = Option A} b (Some x) (slice_get xs i)) (sym (eqb-suc-suc i (length xs)))
-
 -- places count from the other end
 entry_at-reverse : (log : List Entry) (i : ℕ) → entry_at log i ≡ slice_get (reverse log) i
 entry_at-reverse [] i = refl
@@ -45,7 +40,7 @@ entry_at-reverse (e ∷ log) i =
     ∙ (ap (λ n. cond (nat_eq i n) (Some e) (slice_get (reverse log) i)) (sym (length-reverse log))
     ∙ (sym (get-snoc (reverse log) e i) ∙ ap (λ (xs : List Entry). slice_get xs i) (sym (reverse-append (e ∷ []) log))))
 
-get-map : {A B : Type 0} (f : A → B) (xs : List A) (i : ℕ) (x : A) → slice_get xs i ≡ Some x → slice_get (map f xs) i ≡ Some (f x)
+pub get-map : {A B : Type 0} (f : A → B) (xs : List A) (i : ℕ) (x : A) → slice_get xs i ≡ Some x → slice_get (map f xs) i ≡ Some (f x)
 get-map f [] i x e = cc
 get-map f (y ∷ xs) zero x e = let q : y ≡ x = cc in ap (λ z. Some (f z)) q
 get-map f (y ∷ xs) (suc i) x e = get-map f xs i x e
@@ -64,13 +59,14 @@ pub cells-snoc : (tokens : List (Token Entry)) (next : Token Entry) → cells_of
 cells-snoc tokens next = map-snoc (λ t. t.cell) tokens next
 
 -- a copy with its next token is a copy
-pub IsCopy-more : (schema : Shape) (tokens more : List (Token Entry)) (names after : List Name) (next : Token Entry) (index newer : BTreeMap Name ℕ) (drops later : BTreeMap (Option ℕ) LastDrop)
-    → IsCopy schema tokens names index drops → next.place ≡ length (entries tokens) → Lawful schema (next.value ∷ entries tokens)
+pub IsCopy-more : (schema : Shape) (tokens more : List (Token Entry)) (names after : List Name) (next : Token Entry) (index newer : BTreeMap Name ℕ) (drops later : BTreeMap (Option ℕ) LastDrop) (lists longer : List (List (Token Entry))) (list : Option (List (Token Entry)))
+    → IsCopy schema tokens names index drops lists → next.place ≡ length (entries tokens) → Lawful schema (next.value ∷ entries tokens)
     → more ≡ tokens ++ next ∷ [] → after ≡ live_after next.value names
     → ((a : Name) → get name_cmp newer a ≡ maker_after (result_name next.value) (length tokens) (get name_cmp index a) a)
     → ((q : Option ℕ) → get partition_cmp later q ≡ drop_after next.value (length tokens) (get partition_cmp drops q) q)
-    → IsCopy schema more after newer later
-IsCopy-more schema tokens more names after next index newer drops later c p l m a n d =
+    → list ≡ cond (is_mutation next.value) (Some (last_list lists ++ next ∷ [])) None → longer ≡ lists ++ option_to_list list
+    → IsCopy schema more after newer later longer
+IsCopy-more schema tokens more names after next index newer drops later lists all list c p l m a n d s w =
     record {
       lawful = subst (Lawful schema) longer l;
       numbered = λ i t e. numbered i t (subst (λ (xs : List (Token Entry)). slice_get xs i ≡ Some t) m e);
@@ -79,6 +75,7 @@ IsCopy-more schema tokens more names after next index newer drops later c p l m 
           (subst (IsMadeBy (next.value ∷ entries tokens) b) (sym (n b))
           (made-more next.value (entries tokens) b (result_name next.value) (length tokens) (get name_cmp index b) refl (sym (length-entries tokens)) (c.indexed b)));
       dropped = λ q. d q ∙ (drop-more next.value (entries tokens) q (length tokens) (get partition_cmp drops q) (sym (length-entries tokens)) (c.dropped q) ∙ ap (λ (log : List Entry). last_drop log q) longer);
+      mutating = subst (λ (xs : List (Token Entry)). ArePrefixes all (mutation_tokens xs)) (sym m) (subst (λ (ls : List (List (Token Entry))). ArePrefixes ls (mutation_tokens (tokens ++ next ∷ []))) (sym w) (shared-more lists tokens next list c.mutating s));
     }
   where
     longer : next.value ∷ entries tokens ≡ entries more

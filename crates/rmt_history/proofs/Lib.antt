@@ -2,3 +2,10 @@ pub mod NextLive
 pub mod Makers
 pub mod LastDrops
 pub mod Copied
+pub mod NumberLemmas
+pub mod PlaceLemmas
+pub mod ListLemmas
+pub mod KeptLemmas
+pub mod VersionLemmas
+pub mod SharedLemmas
+pub mod NeighbourLemmas

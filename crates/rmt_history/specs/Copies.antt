@@ -1,5 +1,5 @@
 -- What a copy of a prefix of a log keeps.
-use Rattle.std.specs.Prelude.{◌≡◌, ℕ, ◌≤◌, ◌<◌, ◌&&◌, Bool, false, cond, nat_eq, nat_lt, nat_le, length, List, [], ◌∷◌, map, reverse, slice_get, MatchOption}
+use Rattle.std.specs.Prelude.{◌≡◌, ℕ, ◌+◌, ◌&&◌, Bool, false, cond, nat_eq, nat_lt, nat_le, length, List, [], ◌∷◌, map, filter, reverse, take, slice_get, MatchOption}
 use Rattle.std.specs.declared.option.Option.{Option}
 use Rattle.std.specs.declared.option.Option.TheVariants.{Some, None}
 use Rattle.std.specs.declared.cmp.Ordering.{Ordering}
@@ -13,7 +13,7 @@ use Rattle.rmt_entries.specs.declared.entry.Entry.{Entry}
 use Rattle.rmt_entries.specs.declared.entry.Entry.TheVariants.{Get, Merge, Mutate, Mutation, DropRange}
 use Rattle.rmt_model.specs.Words.{Has}
 use Rattle.rmt_model.specs.Live.{live, made}
-use Rattle.rmt_model.specs.Lawful.{Lawful, MakesAt}
+use Rattle.rmt_model.specs.Lawful.{Lawful, MakesAt, is_mutation}
 use Rattle.rmt_history.specs.declared.last_drop.LastDrop.{LastDrop}
 
 -- a table's log: its schema, its entries, the newest first, and the cells that hold them, in the order of their places
@@ -76,10 +76,21 @@ abbrev pub takes_after : Option LastDrop → ℕ → Name → Bool
 takes_after None i a = false
 takes_after (Some d) i a = nat_lt i d.place && nat_le a.max d.number
 
--- tokens of a lawful log, with its live names, the places at which its names were made, and the last drop of each partition
-pub record IsCopy (schema : Shape) (tokens : List (Token Entry)) (names : List Name) (index : BTreeMap Name ℕ) (drops : BTreeMap (Option ℕ) LastDrop) : Type 0 where
+-- the tokens of mutations
+abbrev pub mutation_tokens : List (Token Entry) → List (Token Entry)
+mutation_tokens tokens = filter (λ t. is_mutation t.value) tokens
+
+-- a list for each of these elements, which has all up to it
+pub record ArePrefixes {A : Type 0} (lists : List (List A)) (all : List A) : Type 0 where
+  pub counted : length lists ≡ length all
+  pub upto : (k : ℕ) (xs : List A) → slice_get lists k ≡ Some xs → xs ≡ take (k + 1) all
+
+-- tokens of a lawful log, with its live names, the places at which its names were made, the last drop of each
+-- partition, and a list of mutations for each mutation
+pub record IsCopy (schema : Shape) (tokens : List (Token Entry)) (names : List Name) (index : BTreeMap Name ℕ) (drops : BTreeMap (Option ℕ) LastDrop) (lists : List (List (Token Entry))) : Type 0 where
   pub lawful : Lawful schema (entries tokens)
   pub numbered : (i : ℕ) (t : Token Entry) → slice_get tokens i ≡ Some t → t.place ≡ i
   pub living : names ≡ live (entries tokens)
   pub indexed : (a : Name) → IsMadeBy (entries tokens) a (get name_cmp index a)
   pub dropped : (p : Option ℕ) → get partition_cmp drops p ≡ last_drop (entries tokens) p
+  pub mutating : ArePrefixes lists (mutation_tokens tokens)

@@ -1,14 +1,19 @@
-ghost use Rattle.std.specs.Prelude.{◌≡◌, ◌∷◌, [], ◌++◌, length, slice_get, IfSome, OnOk, OnErr, MatchOption, IsTrue, ◌≤◌, ◌<◌, ◌^◌, ◌↔◌};
+ghost use Rattle.std.specs.Prelude.{◌≡◌, ◌∷◌, [], ◌++◌, length, slice_get, IfOk, IfSome, OnOk, OnErr, MatchOption, IsTrue, ◌≤◌, ◌<◌, ◌^◌, ◌↔◌};
 ghost use Rattle.std.specs.declared.option.Option.TheVariants.{Some};
 ghost use Rattle.std.specs.Arc.{arc_value};
 ghost use Rattle.rmt_model.specs.Live.{live as live_of, DroppedAfter};
-ghost use Rattle.rmt_model.specs.Lawful.{Lawful, entry_at};
+ghost use Rattle.rmt_model.specs.Lawful.{Lawful, entry_at, ver as ver_of, AreNeighbours};
 ghost use Rattle.rmt_history.specs.Copies.{IsMadeBy};
+ghost use Rattle.rmt_history.specs.Mutations.{AreTokensBelow, mutations_below, pending_below, last_pending as last_pending_of};
 
 use crate::last_drop::{LastDrop, takes_after};
+use crate::mutation_list::{copied, count_below, count_settled, last_list, next_list, push_list};
 use crate::name_key::NameKey;
+use crate::neighbours::stand_at;
+use crate::number::{is_pending, number_in};
 use crate::update::{follow, note};
 use rmt_entries::Entry;
+use rmt_list::List;
 use rmt_names::{PartName, PartitionId};
 use rmt_nameset::NameSet;
 use rmt_row::Seen;
@@ -27,9 +32,12 @@ pub struct LogCopy {
     live: NameSet,
     makers: BTreeMap<NameKey, usize>,
     drops: BTreeMap<PartitionId, LastDrop>,
+    /// For each mutation, the tokens of those up to it, the oldest first.
+    mutations: Vec<Arc<List<Seen<Entry>>, Global>>,
 }
 
 impl Model for LogCopy {
+    ghost use Rattle.std.specs.Prelude.{map};
     ghost use Rattle.std.specs.Arc.{arc_value};
     ghost use Rattle.rmt_history.specs.Copies.{History, entries, cells_of, IsCopy};
     ghost use Rattle.std.specs.Coded.{codes};
@@ -41,7 +49,7 @@ impl Model for LogCopy {
 
     ghost view = { λ c. record { schema = arc_value c.schema; log = entries c.seen.items; cells = cells_of c.seen.items } };
 
-    ghost invariant = { λ c. IsCopy (arc_value c.schema) c.seen.items c.live.names c.makers c.drops };
+    ghost invariant = { λ c. IsCopy (arc_value c.schema) c.seen.items c.live.names c.makers c.drops (map arc_value c.mutations.items) };
 }
 
 impl LogCopy {
@@ -55,6 +63,7 @@ impl LogCopy {
             live: NameSet::new(alloc),
             makers: BTreeMap::new(alloc),
             drops: BTreeMap::new(alloc),
+            mutations: Vec::new(alloc),
         }
     }
 
@@ -62,6 +71,7 @@ impl LogCopy {
     pub fn len(&self) -> usize
         ensures len { result ≡ length self.now.log }
         ensures small { result < 2 ^ 63 }
+        ensures lawful { Lawful self.now.schema self.now.log }
     {
         self.seen.len()
     }
@@ -92,9 +102,12 @@ impl LogCopy {
     {
         self.seen.reserve(1)?;
         self.live.reserve()?;
+        self.mutations.reserve(1)?;
+        let list = next_list(*self.seen.allocator(), &self.mutations, &next)?;
         let place = self.seen.len();
         note(&mut self.makers, &mut self.drops, next.value(), place)?;
         follow(&mut self.live, next.value());
+        push_list(&mut self.mutations, list);
         self.seen.push(next).unwrap();
         Ok(())
     }
@@ -119,5 +132,84 @@ impl LogCopy {
     {
         let last = self.drops.get(&name.partition()).copied();
         takes_after(last, i, name)
+    }
+
+    /// The current version of a part: the greatest number that a mutation took in its partition and that isn't above
+    /// its data's version; 0 where there is none.
+    pub fn ver(&self, name: &PartName) -> u32
+        ensures { result ≡ ver_of self.now.log name.now }
+    {
+        let all = last_list(&self.mutations);
+        let settled = count_settled(all, name);
+        if settled == 0 {
+            return 0;
+        }
+        let last = settled - 1;
+        let Some(number) = number_in(all[last].value(), name.partition()) else {
+            return 0;
+        };
+        number
+    }
+
+    /// Whether the names are neighbours among the live ones, in their order; true of no names.
+    pub fn neighbours(&self, names: &[PartName]) -> bool
+        ensures { IsTrue result ↔ AreNeighbours self.now.log names.now }
+    {
+        let Some(first) = names.first() else {
+            return true;
+        };
+        let Some(at) = self.live.covering(first) else {
+            return false;
+        };
+        stand_at(self.live.as_slice(), at, names)
+    }
+
+    /// Returns copies of the tokens of the mutations at places below `upto` that are pending for the part, the oldest
+    /// first. At an error no memory was left.
+    pub fn pending(
+        &self,
+        alloc: Global,
+        name: &PartName,
+        upto: usize,
+    ) -> Result<Vec<Seen<Entry>>, AllocError>
+        ensures { IfOk result (λ all.
+            AreTokensBelow self.now upto (pending_below self.now.log name.now upto) all.items) }
+    {
+        let all = last_list(&self.mutations);
+        let below = all.split_at(count_below(all, upto)).0;
+        let settled = count_settled(below, name);
+        let pending = copied(alloc, below.split_at(settled).1)?;
+        Ok(pending)
+    }
+
+    /// The last place below `upto` of a mutation that is pending for the part.
+    pub fn last_pending(&self, name: &PartName, upto: usize) -> Option<usize>
+        ensures { result ≡ last_pending_of self.now.log name.now upto }
+    {
+        let all = last_list(&self.mutations);
+        let count = count_below(all, upto);
+        if count == 0 {
+            return None;
+        }
+        let newest = count - 1;
+        let token = &all[newest];
+        if !is_pending(name, token.value()) {
+            return None;
+        }
+        Some(token.place())
+    }
+
+    /// The tokens of the mutations at places below `end`, the oldest first; none where there is no such mutation.
+    pub fn mutations(&self, end: usize) -> Option<&Arc<List<Seen<Entry>>, Global>>
+        ensures tokens { MatchOption result (mutations_below self.now.log end ≡ [])
+            (λ list. AreTokensBelow self.now end (mutations_below self.now.log end) (arc_value list.now)) }
+        ensures some { IfSome result (λ list. 0 < length (arc_value list.now)) }
+    {
+        let count = count_below(last_list(&self.mutations), end);
+        if count == 0 {
+            return None;
+        }
+        let last = count - 1;
+        Some(&self.mutations[last])
     }
 }

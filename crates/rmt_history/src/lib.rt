@@ -4,7 +4,10 @@
 
 mod copy;
 mod last_drop;
+mod mutation_list;
 mod name_key;
+mod neighbours;
+mod number;
 mod update;
 
 pub use copy::LogCopy;

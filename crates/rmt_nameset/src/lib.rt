@@ -8,3 +8,4 @@ mod search;
 
 pub use name_set::NameSet;
 pub use range::Range;
+pub use search::{before, is_after};

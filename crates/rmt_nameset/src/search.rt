@@ -7,8 +7,8 @@ ghost use Rattle.rmt_nameset.specs.NameSets.{AreApart};
 
 use rmt_names::{PartName, PartitionId};
 
-/// Whether a lies wholly before b.
-fn before(a: &PartName, b: &PartName) -> bool
+/// Whether a lies wholly before b: in an earlier partition, or below it in the same one.
+pub fn before(a: &PartName, b: &PartName) -> bool
     ensures { result ≡ before_of a.now b.now }
 {
     a.partition() < b.partition() || (a.partition() == b.partition() && a.max() < b.min())
@@ -22,8 +22,8 @@ pub(crate) fn count_before(names: &[PartName], new: &PartName) -> usize
     names.partition_point(|a| before(a, new))
 }
 
-/// Whether the name lies wholly after this number of a partition.
-fn is_after(a: &PartName, partition: PartitionId, number: u32) -> bool
+/// Whether the name lies wholly after this number of a partition: in a later one, or above it in the same one.
+pub fn is_after(a: &PartName, partition: PartitionId, number: u32) -> bool
     ensures { result ≡ (nat_lt (rank partition) (rank a.now.partition) || (nat_eq (rank partition) (rank a.now.partition) && nat_lt number a.now.min)) }
 {
     partition < a.partition() || (partition == a.partition() && number < a.min())

@@ -1,0 +1,9 @@
+pub use Rattle.rmt_names.specs.Names
+pub use Rattle.rmt_entries.specs.Entries
+pub use Rattle.rmt_model.specs.Words
+pub use Rattle.rmt_model.specs.Live
+pub use Rattle.rmt_model.specs.Lawful
+pub use Rattle.rmt_history.specs.Copies
+pub use Rattle.rmt_history.specs.Mutations
+pub mod Choices
+pub mod Runs
