@@ -1,4 +1,6 @@
 pub mod Columns
 pub mod Granules
 pub mod MadePart
+pub mod MergedData
+pub mod Places
 pub mod Stored

@@ -1,8 +1,9 @@
 ghost use Rattle.std.specs.Prelude.{◌≡◌, [], ◌∷◌, ◌++◌, length, slice_get, IfOk, OnOk, OnErr};
-ghost use Rattle.rmt_values.specs.Rows.{kind_of};
+ghost use Rattle.rmt_values.specs.Rows.{kind_of, cell_cmp};
 
 use rmt_values::{Blob, Kind, Value};
 use std::alloc::{AllocError, Global};
+use std::cmp::Ordering;
 use std::marker::Model;
 
 /// The values of one column, a value for each row, in the order of the rows. Contracts see it as a `ColumnView`. A
@@ -87,6 +88,35 @@ impl ColumnValues {
                 Some(text) => Ok(Some(Value::Text(text.copy()?))),
                 None => Ok(None),
             },
+        }
+    }
+
+    /// The order of value `i` and of value `j` of another column of this type, both counted from 0. One that is missing
+    /// comes first.
+    pub fn order(&self, i: usize, other: &ColumnValues, j: usize) -> Ordering
+        requires { other.now.kind ≡ self.now.kind }
+        ensures { result ≡ cell_cmp (slice_get self.now.values i) (slice_get other.now.values j) }
+    {
+        match (&self.stored, &other.stored) {
+            (Stored::Unsigned(left), Stored::Unsigned(right)) => match (left.get(i), right.get(j)) {
+                (Some(a), Some(b)) => a.cmp(b),
+                (Some(_), None) => Ordering::Greater,
+                (None, Some(_)) => Ordering::Less,
+                (None, None) => Ordering::Equal,
+            },
+            (Stored::Signed(left), Stored::Signed(right)) => match (left.get(i), right.get(j)) {
+                (Some(a), Some(b)) => a.cmp(b),
+                (Some(_), None) => Ordering::Greater,
+                (None, Some(_)) => Ordering::Less,
+                (None, None) => Ordering::Equal,
+            },
+            (Stored::Texts(left), Stored::Texts(right)) => match (left.get(i), right.get(j)) {
+                (Some(a), Some(b)) => a.as_bytes().cmp(b.as_bytes()),
+                (Some(_), None) => Ordering::Greater,
+                (None, Some(_)) => Ordering::Less,
+                (None, None) => Ordering::Equal,
+            },
+            _ => unreachable!(),
         }
     }
 

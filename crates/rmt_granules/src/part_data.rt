@@ -1,4 +1,4 @@
-ghost use Rattle.std.specs.Prelude.{◌≡◌, ◌<◌, ◌≤◌, ◌+◌, ◌*◌, true, length, slice_get, IfOk};
+ghost use Rattle.std.specs.Prelude.{◌≡◌, ◌<◌, ◌≤◌, ◌+◌, ◌*◌, true, length, slice_get, get_or, [], IfOk};
 ghost use Rattle.std.specs.List.{All};
 ghost use Rattle.std.specs.List.Sorted.{IsSorted};
 ghost use Rattle.rmt_values.specs.Rows.{fits, key_cmp};
@@ -6,11 +6,13 @@ ghost use Rattle.rmt_granules.specs.Columns.{rows_of, kinds_of, AreLong};
 ghost use Rattle.rmt_granules.specs.Granules.{IsPart, Rising, granule_of};
 ghost use Rattle.rmt_granules.specs.MadePart.{data_of};
 
+use crate::cell_order::order_of_rows;
 use crate::column_values::ColumnValues;
 use crate::columns::{columns_in, row_at};
 use crate::index::marks_in;
 use rmt_values::{Row, Schema};
 use std::alloc::{AllocError, Global};
+use std::cmp::Ordering;
 use std::marker::Model;
 
 /// The rows of a part, sorted by key, in granules of so many rows, with a mark for each granule: the key of its first
@@ -115,6 +117,15 @@ impl PartData {
         }
         let row = row_at(*self.columns.allocator(), &self.columns, i)?;
         Ok(Some(row))
+    }
+
+    /// The order of row `i` and row `j` of another part with the same types, both counted from 0, by the key of this
+    /// one.
+    pub fn key_order(&self, i: usize, other: &PartData, j: usize) -> Ordering
+        requires { other.now.kinds ≡ self.now.kinds }
+        ensures { result ≡ key_cmp self.now.key (get_or self.now.rows i []) (get_or other.now.rows j []) }
+    {
+        order_of_rows(&self.key, &self.columns, i, &other.columns, j)
     }
 
     /// The rows of granule `g`, from the first to past the last, all counted from 0; `None` where there is no such

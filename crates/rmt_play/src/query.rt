@@ -67,7 +67,7 @@ fn select(
 {
     let snapshot = table.read(alloc, replica)?;
     let parts = names_of(alloc, snapshot.parts())?;
-    let tuples = answer(alloc, &snapshot, query, table.schema())?;
+    let tuples = answer(alloc, &snapshot, query, table.schema(), &[])?;
     Ok(Selection {
         parts,
         rows: List::new(tuples),

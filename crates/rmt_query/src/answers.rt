@@ -1,7 +1,10 @@
 //! Answers of queries.
-ghost use Rattle.std.specs.Prelude.{◌≡◌, map, IfOk};
+ghost use Rattle.std.specs.Prelude.{◌≡◌, [], map, IfOk};
 ghost use Rattle.std.specs.List.{All};
 ghost use Rattle.rmt_partset.specs.Snapshots.{all_rows, data_in};
+ghost use Rattle.rmt_changes.specs.Changes.{entries_of};
+ghost use Rattle.rmt_changes.specs.Laws.{EntryFits};
+ghost use Rattle.rmt_query.specs.ReadRows.{rows_read};
 ghost use Rattle.rmt_query.specs.Cells.{zero_of};
 ghost use Rattle.rmt_query.specs.Answers.{
   answer_of,
@@ -18,24 +21,32 @@ use crate::cells::{one_cell, zero_cell};
 use crate::matches::matching_rows;
 use crate::runs::tuples_of_runs;
 use crate::tuple::Tuple;
+use rmt_entries::Entry;
 use rmt_partset::Snapshot;
+use rmt_row::Seen;
 use rmt_values::{CheckedItem, CheckedQuery, Row, Schema};
 use std::alloc::{AllocError, Global};
 
-/// The answer of a query of a schema over the rows of a snapshot of its table: the tuples in ascending order, from left to
-/// right. Only the granules that the query's filter chooses are read.
+/// The answer of a query of a schema over the rows of a snapshot of its table: the tuples in ascending order, from left
+/// to right. Each row is first put through the mutations that are pending for its part: of the entries of `pending`,
+/// which are in the order of the log, those that have a number in the part's partition above its data version. Only the
+/// granules that the query's filter chooses are read. At an error no memory was left.
 #[tactic(auto, unfolding(crate::specs::Answers::answer_of))]
 pub fn answer(
     alloc: Global,
     snapshot: &Snapshot,
     query: &CheckedQuery,
     schema: &Schema,
+    pending: &[Seen<Entry>],
 ) -> Result<Vec<Tuple>, AllocError>
-    requires { All (λ part. part.rows.key ≡ schema.now.key) snapshot.now }
-    ensures { IfOk result (λ tuples. tuples.items
+    requires parts { All (λ part. part.rows.key ≡ schema.now.key) snapshot.now }
+    requires pending { All (λ token. EntryFits schema.now token.value) pending.now }
+    ensures ok { IfOk result (λ tuples. tuples.items
+        ≡ answer_of schema.now query.now (rows_read (entries_of pending.now) snapshot.now)) }
+    ensures none_pending { pending.now ≡ [] → IfOk result (λ tuples. tuples.items
         ≡ answer_of schema.now query.now (all_rows (data_in snapshot.now))) }
 {
-    let rows = matching_rows(alloc, snapshot.parts(), &query.filter, schema)?;
+    let rows = matching_rows(alloc, snapshot.parts(), &query.filter, schema, pending)?;
     let mut tuples = tuples_over(alloc, rows, query, schema)?;
     tuples.sort_by(|a, b| a.compare(b))?;
     Ok(tuples)

@@ -1,71 +1,117 @@
-//! The rows of parts that a filter keeps.
-ghost use Rattle.std.specs.Prelude.{◌≡◌, ◌<◌, ◌≤◌, ◌++◌, ℕ, [], true, map, length, slice_index_or, ◌∷◌, ◌*◌, IfOk, OnOk};
+//! The rows of parts that a filter keeps, after the mutations that are pending for each.
+ghost use Rattle.std.specs.Prelude.{◌≡◌, ◌<◌, ◌≤◌, ◌++◌, ℕ, [], true, map, length, slice_index_or, ◌*◌, IfOk, OnOk};
 ghost use Rattle.std.specs.Option.{option_to_list};
 ghost use Rattle.std.specs.List.{All};
-ghost use Rattle.rmt_partset.specs.Snapshots.{all_rows, data_in};
+ghost use Rattle.rmt_values.specs.declared.value.Value.{Value as OneValue};
+ghost use Rattle.std.specs.Prelude.{List};
+ghost use Rattle.rmt_values.specs.Rows.{key_of};
+ghost use Rattle.rmt_changes.specs.Changes.{entries_of};
+ghost use Rattle.rmt_changes.specs.Laws.{EntryFits};
 ghost use Rattle.rmt_query.specs.Answers.{matches as matches_filter, matching};
+ghost use Rattle.rmt_query.specs.ReadRows.{row_read, rows_of_part, rows_read};
 
+use rmt_changes::{keys_stay, pending_row};
+use rmt_entries::Entry;
 use rmt_expr::holds;
 use rmt_granules::PartData;
 use rmt_keyrange::{range_of, select};
+use rmt_names::data_version;
 use rmt_partset::NamedPart;
+use rmt_row::Seen;
 use rmt_values::{Checked, Row, Schema};
 use std::alloc::{AllocError, Global};
 
-/// The matching rows of parts, one part after the other.
+/// The matching rows of parts, one part after the other, each row after the mutations that are pending for its part.
 pub fn matching_rows(
     alloc: Global,
     parts: &[NamedPart],
     filter: &Option<Checked>,
     schema: &Schema,
+    pending: &[Seen<Entry>],
 ) -> Result<Vec<Row>, AllocError>
-    requires { All (λ part. part.rows.key ≡ schema.now.key) parts.now }
-    ensures { IfOk result (λ rows. rows.items ≡ matching filter.now (all_rows (data_in parts.now))) }
+    requires parts { All (λ part. part.rows.key ≡ schema.now.key) parts.now }
+    requires pending { All (λ token. EntryFits schema.now token.value) pending.now }
+    ensures { IfOk result (λ rows. rows.items ≡ matching filter.now (rows_read (entries_of pending.now) parts.now)) }
 {
     let mut rows = Vec::new(alloc);
     'parts: for part in parts {
-        add_matching(&mut rows, part.data(), filter, schema)?;
+        add_matching(alloc, &mut rows, part, filter, schema, pending)?;
     }
     Ok(rows)
 }
 
 /// Puts the matching rows of a part at the end. It reads the chosen granules alone.
 fn add_matching(
+    alloc: Global,
     rows: &mut Vec<Row>,
-    part: &PartData,
+    part: &NamedPart,
     filter: &Option<Checked>,
     schema: &Schema,
+    pending: &[Seen<Entry>],
 ) -> Result<(), AllocError>
-    requires { part.now.key ≡ schema.now.key }
-    ensures { OnOk result (rows.new.items ≡ rows.old.items ++ matching filter.now part.now.rows) }
+    requires part { part.now.rows.key ≡ schema.now.key }
+    requires pending { All (λ token. EntryFits schema.now token.value) pending.now }
+    ensures { OnOk result (rows.new.items
+        ≡ rows.old.items ++ matching filter.now (rows_of_part (entries_of pending.now) part.now)) }
 {
-    let (first, past) = rows_to_read(part, filter, schema)?;
+    keys_stay();
+    let (first, past) = rows_to_read(part.data(), filter, schema)?;
     'rows: for i in first..past {
-        if let Some(row) = matching_row(part, i, filter)? {
-            rows.push(row)?;
-        }
+        let Some(row) = matching_row(alloc, part, i, filter, pending)? else {
+            continue;
+        };
+        rows.push(row)?;
     }
     Ok(())
 }
 
-/// A copy of a row, where it matches.
+/// A row after the mutations that are pending for its part, where there is one then and it matches.
 fn matching_row(
-    part: &PartData,
+    alloc: Global,
+    part: &NamedPart,
     i: usize,
     filter: &Option<Checked>,
+    pending: &[Seen<Entry>],
 ) -> Result<Option<Row>, AllocError>
+    requires { i < length part.now.rows.rows }
+    ensures { IfOk result (λ row. option_to_list row ≡ matching filter.now
+        (option_to_list (row_read (entries_of pending.now) part.now.name (slice_index_or part.now.rows.rows i [])))) }
+{
+    let Some(row) = row_after(alloc, part, i, pending)? else {
+        return Ok(None);
+    };
+    if matches(filter, &row) {
+        Ok(Some(row))
+    } else {
+        Ok(None)
+    }
+}
+
+/// A row after the mutations that are pending for its part; none where one of them deletes it.
+fn row_after(
+    alloc: Global,
+    part: &NamedPart,
+    i: usize,
+    pending: &[Seen<Entry>],
+) -> Result<Option<Row>, AllocError>
+    requires { i < length part.now.rows.rows }
+    ensures { IfOk result (λ row. row
+        ≡ row_read (entries_of pending.now) part.now.name (slice_index_or part.now.rows.rows i [])) }
+{
+    let row = row_of(part.data(), i)?;
+    let name = part.name();
+    let new = pending_row(alloc, pending, name.partition(), data_version(name), row)?;
+    Ok(new)
+}
+
+/// A copy of a row of a part.
+fn row_of(part: &PartData, i: usize) -> Result<Row, AllocError>
     requires { i < length part.now.rows }
-    ensures { IfOk result (λ row. option_to_list row ≡ matching filter.now (slice_index_or part.now.rows i [] ∷ [])) }
+    ensures { IfOk result (λ row. row ≡ slice_index_or part.now.rows i []) }
 {
     match part.row(i)? {
-        Some(row) => {
-            if matches(filter, &row) {
-                Ok(Some(row))
-            } else {
-                Ok(None)
-            }
-        }
-        None => Ok(None),
+        Some(row) => Ok(row),
+        None => unreachable!(),
     }
 }
 
@@ -79,7 +125,8 @@ fn matches(filter: &Option<Checked>, row: &Row) -> bool
     }
 }
 
-/// The rows of the granules that a filter chooses, from the first to past the last.
+/// The rows of the granules that a filter chooses, from the first to past the last: no row is outside them whose key is
+/// that of a row that matches.
 fn rows_to_read(
     part: &PartData,
     filter: &Option<Checked>,
@@ -88,14 +135,16 @@ fn rows_to_read(
     requires { part.now.key ≡ schema.now.key }
     ensures order { IfOk result (λ r. r.0 ≤ r.1) }
     ensures bound { IfOk result (λ r. r.1 ≤ length part.now.rows) }
-    ensures others { IfOk result (λ r. (i : ℕ) → i < length part.now.rows
-        → matches_filter filter.now (slice_index_or part.now.rows i []) ≡ true → (r.0 ≤ i) × (i < r.1)) }
+    ensures others { IfOk result (λ r. (i : ℕ) (row : List OneValue) → i < length part.now.rows
+        → key_of schema.now.key row ≡ key_of schema.now.key (slice_index_or part.now.rows i [])
+        → matches_filter filter.now row ≡ true → (r.0 ≤ i) × (i < r.1)) }
 {
     match filter {
         None => Ok((0, part.rows())),
         Some(filter) => {
             let range = range_of(filter, schema)?;
             let (first, past) = select(part, &range);
+            let _marks = part.marks();
             Ok(rows_of_granules(part, first, past))
         }
     }

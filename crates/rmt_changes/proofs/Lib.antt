@@ -1,0 +1,3 @@
+pub mod TokenOrder
+pub mod CommandLaws
+pub mod ChangeLaws

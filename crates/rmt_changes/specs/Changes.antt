@@ -1,0 +1,21 @@
+-- Which mutations of a log change a row.
+-- ClickHouse documentation: ALTER TABLE .. UPDATE and DELETE (mutations); `apply_mutations_on_fly`. In a partition a
+-- mutation changes the blocks of lower number; that it has one number a partition is as in `block_numbers`.
+use Rattle.std.specs.Prelude.{ℕ, ◌&&◌, nat_lt, nat_le, Bool, List, map, reverse}
+use Rattle.std.specs.declared.option.Option.{Option}
+use Rattle.std.specs.declared.option.Option.TheVariants.{Some, None}
+use Rattle.rmt_entries.specs.declared.entry.Entry.{Entry}
+use Rattle.rmt_row.specs.Token.{Token}
+
+-- the entries of tokens, the newest first, where the tokens are in the order of the log
+abbrev pub entries_of : List (Token Entry) → List Entry
+entries_of tokens = reverse (map (λ t. t.value) tokens)
+
+-- the numbers above low and at most high
+abbrev pub between : ℕ → ℕ → ℕ → Bool
+between low high k = nat_lt low k && nat_le k high
+
+-- the numbers above low, where there is no highest; else those between
+abbrev pub in_range : ℕ → Option ℕ → ℕ → Bool
+in_range low None k = nat_lt low k
+in_range low (Some high) k = between low high k

@@ -1,0 +1,6 @@
+pub use Rattle.rmt_entries.specs.Entries
+pub use Rattle.rmt_row.specs.Token
+pub use Rattle.rmt_model.specs.Words
+pub use Rattle.rmt_model.specs.Content
+pub mod Changes
+pub mod Laws
