@@ -1,0 +1,13 @@
+pub use Rattle.rmt_names.specs.Names
+pub use Rattle.rmt_entries.specs.Entries
+pub use Rattle.rmt_row.specs.Token
+pub use Rattle.rmt_block.specs.Blocks
+pub use Rattle.rmt_granules.specs.Granules
+pub use Rattle.rmt_granules.specs.MadePart
+pub use Rattle.rmt_model.specs.Words
+pub use Rattle.rmt_model.specs.Lawful
+pub use Rattle.rmt_model.specs.Parts
+pub use Rattle.rmt_history.specs.Copies
+pub use Rattle.rmt_history.specs.Mutations
+pub use Rattle.rmt_part.specs.Lineages
+pub mod NewParts

@@ -1,0 +1,14 @@
+//! Parts made of a block, of other parts, and of a part and its pending mutations.
+#![tactic(auto)]
+
+mod block_part;
+mod gathered;
+mod merged_part;
+mod mutated_part;
+mod mutation_list;
+mod name;
+mod pending;
+
+pub use block_part::from_block;
+pub use merged_part::merge;
+pub use mutated_part::mutate;

@@ -1,0 +1,58 @@
+//! The part of a Mutate.
+ghost use Rattle.std.specs.Prelude.{◌≡◌, IfOk};
+ghost use Rattle.std.specs.Arc.{arc_value};
+ghost use Rattle.rmt_compact.specs.NewParts.{upto_of as upto_told, IsMutateOf, IsMutated};
+
+use crate::gathered::push_blocks;
+use crate::mutation_list::mutations_to;
+use crate::name::made_name;
+use crate::pending::{changed_rows, first_pending};
+use rmt_entries::Entry;
+use rmt_granules::from_rows;
+use rmt_history::LogCopy;
+use rmt_names::data_version;
+use rmt_part::Part;
+use rmt_row::Seen;
+use std::alloc::{AllocError, Global};
+use std::sync::Arc;
+
+/// Makes the part of a Mutate of the part that it brings up to its mutation. The rows keep their order, and only the
+/// mutations that are pending for the old part go over them. At an error no memory was left, and the token is gone.
+pub fn mutate(
+    alloc: Global,
+    old: &Arc<Part, Global>,
+    made: Seen<Entry>,
+    copy: &LogCopy,
+) -> Result<Part, AllocError>
+    requires { IsMutateOf made (arc_value old.now) copy.now }
+    ensures { IfOk result (IsMutated made (arc_value old.now) copy.now) }
+{
+    // The copy says of its log that it is lawful.
+    let _len = copy.len();
+    let name = made_name(made.value());
+    let end = upto_of(made.value()) as usize + 1;
+    let mutations = mutations_to(alloc, copy, end)?;
+    let tokens = mutations.as_slice();
+    let partition = name.partition();
+    let high = name.mutation();
+    let low = data_version(old.name());
+    let start = first_pending(tokens, partition, low, high);
+    let pending = tokens.split_at(start).1;
+    let rows = changed_rows(alloc, old.body(), pending, partition, low, high)?;
+    let data = from_rows(alloc, rows, old.schema())?;
+    let body = Arc::new(alloc, data)?;
+    let mut blocks = Vec::new(alloc);
+    push_blocks(&mut blocks, old.blocks())?;
+    let schema = Arc::try_clone(old.schema())?;
+    Ok(Part::of(schema, name, body, made, blocks, mutations))
+}
+
+/// The place of the last mutation that a Mutate applies; 0 for other entries.
+fn upto_of(entry: &Entry) -> u32
+    ensures { result ≡ upto_told entry.now }
+{
+    match entry {
+        Entry::Mutate { upto, .. } => *upto,
+        _ => 0,
+    }
+}

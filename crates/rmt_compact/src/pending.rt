@@ -1,0 +1,95 @@
+//! The rows of a part after its pending mutations.
+ghost use Rattle.std.specs.Prelude.{◌≡◌, ◌<◌, ◌≤◌, drop, length, slice_get, IfOk};
+ghost use Rattle.std.specs.declared.option.Option.TheVariants.{Some};
+ghost use Rattle.std.specs.List.{filter_map};
+ghost use Rattle.rmt_model.specs.Content.{Row as Values, chosen, changed};
+ghost use Rattle.rmt_changes.specs.Changes.{between};
+ghost use Rattle.rmt_part.specs.Lineages.{entries_of};
+ghost use Rattle.rmt_compact.specs.NewParts.{has_number as has_number_told};
+
+use rmt_changes::changed_row;
+use rmt_entries::Entry;
+use rmt_granules::PartData;
+use rmt_list::List;
+use rmt_names::PartitionId;
+use rmt_row::Seen;
+use rmt_values::Row;
+use std::alloc::{AllocError, Global};
+
+/// How many tokens come before the first whose mutation has a number in the partition, above `low` and at most `high`.
+/// They change no row of the partition.
+pub(crate) fn first_pending(
+    tokens: &[Seen<Entry>],
+    partition: PartitionId,
+    low: u32,
+    high: u32,
+) -> usize
+    ensures within { result ≤ length tokens.now }
+    ensures unchanged { (row : Values) → changed (entries_of (drop result tokens.now)) partition (between low high) row
+        ≡ changed (entries_of tokens.now) partition (between low high) row }
+{
+    'tokens: for (i, token) in tokens.iter().enumerate() {
+        if has_number(token.value(), partition, low, high) {
+            return i;
+        }
+    }
+    tokens.len()
+}
+
+/// Whether the entry is a mutation with a number in the partition, above `low` and at most `high`.
+fn has_number(entry: &Entry, partition: PartitionId, low: u32, high: u32) -> bool
+    ensures { result ≡ has_number_told entry.now partition (between low high) }
+{
+    match entry {
+        Entry::Mutation { numbers, .. } => is_among(numbers, partition, low, high),
+        _ => false,
+    }
+}
+
+/// Whether one of the numbers is in the partition, above `low` and at most `high`.
+fn is_among(numbers: &List<(PartitionId, u32)>, partition: PartitionId, low: u32, high: u32) -> bool
+    ensures { result ≡ chosen numbers.now partition (between low high) }
+{
+    let pairs = numbers.as_slice();
+    'pairs: for pair in pairs {
+        if pair.0 == partition && low < pair.1 && pair.1 <= high {
+            return true;
+        }
+    }
+    false
+}
+
+/// The rows of a part, each after the mutations of the tokens that have a number in the partition, above `low` and at most
+/// `high`, the first token first. Rows that one of them deletes are left out.
+pub(crate) fn changed_rows(
+    alloc: Global,
+    body: &PartData,
+    tokens: &[Seen<Entry>],
+    partition: PartitionId,
+    low: u32,
+    high: u32,
+) -> Result<Vec<Row>, AllocError>
+    ensures { IfOk result (λ rows. rows.items
+        ≡ filter_map (changed (entries_of tokens.now) partition (between low high)) body.now.rows) }
+{
+    let mut rows = Vec::new(alloc);
+    'rows: for i in 0..body.rows() {
+        let row = row_of(body, i)?;
+        let Some(new) = changed_row(alloc, tokens, partition, low, high, row)? else {
+            continue;
+        };
+        rows.push(new)?;
+    }
+    Ok(rows)
+}
+
+/// A copy of a row of a part.
+fn row_of(body: &PartData, i: usize) -> Result<Row, AllocError>
+    requires { i < length body.now.rows }
+    ensures { IfOk result (λ row. slice_get body.now.rows i ≡ Some row) }
+{
+    match body.row(i)? {
+        Some(row) => Ok(row),
+        None => unreachable!(),
+    }
+}

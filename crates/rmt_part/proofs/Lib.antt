@@ -1,0 +1,4 @@
+pub mod RowChanges
+pub mod LineageLaws
+pub mod PartLaws
+pub mod SameBlocks
