@@ -1,8 +1,11 @@
-//! The parts that a query reads.
+//! The active parts of a replica, and what a query reads of them.
 #![tactic(auto)]
 
 mod named_part;
+mod part_set;
+mod search;
 mod snapshot;
 
 pub use named_part::NamedPart;
+pub use part_set::PartSet;
 pub use snapshot::Snapshot;

@@ -1,110 +1,121 @@
--- Lists of parts and the lists of their names.
-use Rattle.std.proofs.Common.{◌≡◌, ℕ, zero, suc, ◌⊎◌, inl, inr, not, List, [], ◌∷◌, ◌++◌, length, map, filter, take, drop, refl, sym, ap, subst, ◌∙◌}
-use Rattle.std.proofs.lemmas.List.{take-map, drop-map, length-map}
-use Rattle.std.proofs.lemmas.Option.{slice_get-map}
+-- What a change does to the parts of a replica, and to their names.
+use Rattle.std.proofs.Common.{◌≡◌, ℕ, zero, suc, ◌<◌, ◌≤◌, ◌⊎◌, inl, inr, ◌&&◌, Bool, true, false, not, cond, List, [], ◌∷◌, ◌++◌, length, filter, take, drop, refl, sym, ap, subst, arith, ◌∙◌, nat_eq, nat_lt, nat_le}
+use Rattle.std.proofs.lemmas.Bool.Decides.{nat_tests}
 use Rattle.std.specs.Prelude.{slice_get}
-use Rattle.std.specs.Option.{option_map}
 use Rattle.std.specs.declared.option.Option.{Option}
 use Rattle.std.specs.declared.option.Option.TheVariants.{Some}
-use Rattle.rmt_names.specs.Names.{Name, Covers}
+use Rattle.rmt_values.specs.Rows.{Shape}
+use Rattle.rmt_names.specs.Names.{Name, rank, covers}
+use Rattle.rmt_entries.specs.Entries.{result_name}
+use Rattle.rmt_entries.specs.declared.entry.Entry.{Entry}
+use Rattle.rmt_entries.specs.declared.entry.Entry.TheVariants.{DropRange}
 use Rattle.rmt_model.specs.Words.{Has, Each}
-use Rattle.rmt_model.specs.Live.{placed, in_drop}
-use Rattle.rmt_model.proofs.Lists.{Has-append, Has-right}
-use Rattle.rmt_nameset.specs.declared.range.Range.{Range}
-use Rattle.rmt_nameset.specs.NameSets.{IsRange, CoversAt, cut, put}
-use Rattle.rmt_partset.specs.Snapshots.{names_in}
-use Rattle.rmt_replica.specs.Parts.{BlockPart, part_names, shown, Installs, TakesParts, IsCovering, IsFirstInactive}
+use Rattle.rmt_model.specs.Live.{made, placed, before, in_drop, Dropped, DroppedAfter}
+use Rattle.rmt_model.specs.Lawful.{Lawful, DropIn, entry_at}
+use Rattle.rmt_model.proofs.Lists.{Has-filter, rank-injective}
+use Rattle.rmt_model.proofs.Drops.{some-same, entry-below, entry-cases, entry-has, newest-made, drop-takes, dropped-after, dropped-place}
+use Rattle.rmt_part.specs.Lineages.{PartValue, IsPart, IsOfLog}
+use Rattle.rmt_partset.specs.ActiveParts.{Replace, Drop, after, put_in, part_names}
+use Rattle.rmt_partset.proofs.Replacing.{names-replaced}
+use Rattle.rmt_replica.specs.Parts.{IsMadeIn, IsFirstInactive}
 
-map-append : {A B : Type 0} (f : A → B) (xs ys : List A) → map f (xs ++ ys) ≡ map f xs ++ map f ys
-map-append f [] ys = refl
-map-append f (x ∷ xs) ys = ap (λ zs. f x ∷ zs) (map-append f xs ys)
+-- the part is in place of those that it covers, and all others stay
+pub record Installs (old : List PartValue) (part : PartValue) (new : List PartValue) : Type 0 where
+  pub names : part_names new ≡ placed part.name (part_names old)
+  pub others : (p : PartValue) → Has new p → (p ≡ part) ⊎ Has old p
+  pub there : Has new part
 
-pub map-cut : {A B : Type 0} (f : A → B) (xs : List A) (r : Range) → map f (cut xs r) ≡ cut (map f xs) r
-map-cut f xs r = map-append f (take r.from xs) (drop r.to xs) ∙ (ap (λ zs. zs ++ map f (drop r.to xs)) (sym (take-map f r.from xs)) ∙ ap (λ zs. take r.from (map f xs) ++ zs) (sym (drop-map f r.to xs)))
+-- the parts of a drop's range are gone, and all others stay
+pub record TakesParts (old : List PartValue) (p : Option ℕ) (n : ℕ) (new : List PartValue) : Type 0 where
+  pub names : part_names new ≡ filter (λ a. not (in_drop p n a)) (part_names old)
+  pub others : (part : PartValue) → Has new part → Has old part
 
-pub map-put : {A B : Type 0} (f : A → B) (xs : List A) (r : Range) (x : A) → map f (put xs r x) ≡ put (map f xs) r (f x)
-map-put f xs r x =
-    map-append f (take r.from (cut xs r)) (x ∷ drop r.from (cut xs r))
-    ∙ (ap (λ zs. zs ++ f x ∷ map f (drop r.from (cut xs r))) (sym (take-map f r.from (cut xs r)))
-    ∙ (ap (λ zs. take r.from (map f (cut xs r)) ++ f x ∷ zs) (sym (drop-map f r.from (cut xs r)))
-    ∙ ap (λ zs. take r.from zs ++ f x ∷ drop r.from zs) (map-cut f xs r)))
-
-Has-take : {A : Type 0} (n : ℕ) (xs : List A) (x : A) → Has (take n xs) x → Has xs x
-Has-take zero xs x h = absurd h
-Has-take (suc n) [] x h = absurd h
-Has-take (suc n) (y ∷ xs) x (inl q) = inl q
-Has-take (suc n) (y ∷ xs) x (inr h) = inr (Has-take n xs x h)
-
-Has-drop : {A : Type 0} (n : ℕ) (xs : List A) (x : A) → Has (drop n xs) x → Has xs x
-Has-drop zero xs x h = h
-Has-drop (suc n) [] x h = absurd h
-Has-drop (suc n) (y ∷ xs) x h = inr (Has-drop n xs x h)
-
-Has-cut : {A : Type 0} (xs : List A) (r : Range) (x : A) → Has (cut xs r) x → Has xs x
-Has-cut xs r x h = elim (Has-append (take r.from xs) (drop r.to xs) x h) [ inl k ↦ Has-take r.from xs x k | inr k ↦ Has-drop r.to xs x k ]
-
-Has-put : {A : Type 0} (xs : List A) (r : Range) (y x : A) → Has (put xs r y) x → (x ≡ y) ⊎ Has xs x
-Has-put xs r y x h = elim (Has-append (take r.from (cut xs r)) (y ∷ drop r.from (cut xs r)) x h) [
-  | inl k ↦ inr (Has-cut xs r x (Has-take r.from (cut xs r) x k))
-  | inr k ↦ behind k
-]
+put-others : (new : PartValue) (parts : List PartValue) (p : PartValue) → Has (put_in new parts) p → (p ≡ new) ⊎ Has parts p
+put-others new [] p (inl q) = inl (sym q)
+put-others new [] p (inr h) = absurd h
+put-others new (z ∷ parts) p h = go (before z.name new.name) h (put-others new parts p)
   where
-    behind : (y ≡ x) ⊎ Has (drop r.from (cut xs r)) x → (x ≡ y) ⊎ Has xs x
-    behind (inl q) = inl (sym q)
-    behind (inr k) = inr (Has-cut xs r x (Has-drop r.from (cut xs r) x k))
+    go : (b : Bool) → Has (cond b (z ∷ put_in new parts) (new ∷ z ∷ parts)) p → (Has (put_in new parts) p → (p ≡ new) ⊎ Has parts p) → (p ≡ new) ⊎ Has (z ∷ parts) p
+    go true (inl q) f = inr (inl q)
+    go true (inr k) f = elim (f k) [ inl q ↦ inl q | inr m ↦ inr (inr m) ]
+    go false (inl q) f = inl (sym q)
+    go false (inr k) f = inr k
 
-put-there : {A : Type 0} (xs : List A) (r : Range) (y : A) → Has (put xs r y) y
-put-there xs r y = Has-right (take r.from (cut xs r)) (y ∷ drop r.from (cut xs r)) y (inl refl)
-
--- a list of as many elements has the same ranges
-pub range-of : {A : Type 0} (f : A → BlockPart) (xs : List A) (names : List Name) (r : Range) → part_names (map f xs) ≡ names → IsRange r (length names) → IsRange r (length xs)
-range-of f xs names r e k = subst (IsRange r) (ap (λ (ns : List Name). length ns) (sym e) ∙ (length-map (map f xs) (λ p. p.name) ∙ length-map xs f)) k
-
-pub installed : {A : Type 0} (f : A → BlockPart) (xs ys : List A) (names after : List Name) (r : Range) (x : A) → part_names (map f xs) ≡ names → ys ≡ put xs r x → after ≡ put names r (f x).name → after ≡ placed (f x).name names → Installs (map f xs) (f x) (map f ys)
-installed f xs ys names after r x e p q s = record {
-  names = ap (λ (zs : List BlockPart). part_names zs) m ∙ (map-put (λ (p : BlockPart). p.name) (map f xs) r (f x) ∙ (ap (λ (ns : List Name). put ns r (f x).name) e ∙ (sym q ∙ (s ∙ ap (placed (f x).name) (sym e)))));
-  others = λ p h. Has-put (map f xs) r (f x) p (subst (λ (zs : List BlockPart). Has zs p) m h);
-  there = subst (λ (zs : List BlockPart). Has zs (f x)) (sym m) (put-there (map f xs) r (f x));
-}
+put-there : (new : PartValue) (parts : List PartValue) → Has (put_in new parts) new
+put-there new [] = inl refl
+put-there new (z ∷ parts) = go (before z.name new.name) (put-there new parts)
   where
-    m : map f ys ≡ put (map f xs) r (f x)
-    m = ap (map f) p ∙ map-put f xs r x
+    go : (b : Bool) → Has (put_in new parts) new → Has (cond b (z ∷ put_in new parts) (new ∷ z ∷ parts)) new
+    go true h = inr h
+    go false h = inl refl
 
--- and after it the names of the parts are the names that are kept
-pub still-named : {A : Type 0} (f : A → BlockPart) (xs ys : List A) (names after : List Name) (r : Range) (x : A) → part_names (map f xs) ≡ names → ys ≡ put xs r x → after ≡ put names r (f x).name → part_names (map f ys) ≡ after
-still-named f xs ys names after r x e p q =
-    ap (λ (zs : List BlockPart). part_names zs) (ap (map f) p ∙ map-put f xs r x) ∙ (map-put (λ (p : BlockPart). p.name) (map f xs) r (f x) ∙ (ap (λ (ns : List Name). put ns r (f x).name) e ∙ sym q))
-
-pub still-named-cut : {A : Type 0} (f : A → BlockPart) (xs ys : List A) (names after : List Name) (r : Range) → part_names (map f xs) ≡ names → ys ≡ cut xs r → after ≡ cut names r → part_names (map f ys) ≡ after
-still-named-cut f xs ys names after r e p q =
-    ap (λ (zs : List BlockPart). part_names zs) (ap (map f) p ∙ map-cut f xs r) ∙ (map-cut (λ (p : BlockPart). p.name) (map f xs) r ∙ (ap (λ (ns : List Name). cut ns r) e ∙ sym q))
-
-pub taken : {A : Type 0} (f : A → BlockPart) (xs ys : List A) (names after : List Name) (p : Option ℕ) (n : ℕ) (r : Range) → part_names (map f xs) ≡ names → ys ≡ cut xs r → after ≡ cut names r → after ≡ filter (λ a. not (in_drop p n a)) names → TakesParts (map f xs) p n (map f ys)
-taken f xs ys names after p n r e c q s = record {
-  names = still-named-cut f xs ys names after r e c q ∙ (s ∙ ap (filter (λ a. not (in_drop p n a))) (sym e));
-  others = λ part h. Has-cut (map f xs) r part (subst (λ (zs : List BlockPart). Has zs part) (ap (map f) c ∙ map-cut f xs r) h);
+pub installs : (part : PartValue) (old : List PartValue) → Installs old part (after (Replace part) old)
+installs part old = record {
+  names = names-replaced part old;
+  others = λ p h. elim (put-others part (filter (λ q. not (covers part.name q.name)) old) p h) [
+    | inl q ↦ inl q
+    | inr k ↦ inr (Has-filter (λ (q : PartValue). not (covers part.name q.name)) old p k).0
+  ];
+  there = put-there part (filter (λ q. not (covers part.name q.name)) old);
 }
 
-Has-at : {A : Type 0} (xs : List A) (i : ℕ) (x : A) → slice_get xs i ≡ Some x → Has xs x
-Has-at [] i x e = absurd (cc)
-Has-at (y ∷ xs) zero x e = inl (cc)
-Has-at (y ∷ xs) (suc i) x e = inr (Has-at xs i x e)
+-- what a name that a drop takes away was made by stands before the drop
+pub made-before : (schema : Shape) (log : List Entry) (i j : ℕ) (e : Entry) (p : Option ℕ) (n : ℕ) (a : Name) → Lawful schema log → entry_at log i ≡ Some (DropRange p n) → entry_at log j ≡ Some e → result_name e ≡ Some a → in_drop p n a ≡ true → j < i
+made-before schema [] i j e p n a l q m r t = absurd (cc)
+made-before schema (x ∷ log) i j e p n a l q m r t = go (entry-cases x log i (DropRange p n) q) (entry-cases x log j e m) (λ u v. made-before schema log i j e p n a l.0 u v r t)
+  where
+    same : p ≡ a.partition
+    same = rank-injective p a.partition (grind (arith, nat_tests))
 
-some-same : {A : Type 0} (a b : A) → ◌≡◌ {A = Option A} (Some a) (Some b) → a ≡ b
-some-same a b e = cc
+    low : a.max ≤ n
+    low = grind (arith, nat_tests)
 
--- the part at the place of the name that covers another
-pub covering-part : {A : Type 0} (f : A → BlockPart) (xs : List A) (names : List Name) (a : Name) (i : ℕ) (x : A) → part_names (map f xs) ≡ names → CoversAt names a i → slice_get xs i ≡ Some x → IsCovering (map f xs) a (f x)
-covering-part f xs names a i x e c g = record {
-  is_in = Has-at (map f xs) i (f x) there;
-  covers = subst (λ (y : Name). Covers y a) same c.covers;
+    -- a drop that is older than the newest maker would have to stand after it
+    never : j ≡ length log → x ≡ e → entry_at log i ≡ Some (DropRange p n) → ⊥
+    never u v w =
+        let new : Has (made (x ∷ log)) a = newest-made x log a (ap result_name v ∙ r) in
+        let gone : Dropped (x ∷ log) a = drop-takes schema (x ∷ log) p n a l (inr (entry-has log i (DropRange p n) w)) new same low in
+        later (dropped-after schema (x ∷ log) j e a l m r gone)
+      where
+        later : DroppedAfter (x ∷ log) j a → ⊥
+        later (inl d) = let k = dropped-place log j a d in absurd (omega (arith, k, u))
+        later (inr d) = let k = d.0 in absurd (omega (arith, k, u))
+
+    go : ((i ≡ length log) × (x ≡ DropRange p n)) ⊎ (entry_at log i ≡ Some (DropRange p n)) → ((j ≡ length log) × (x ≡ e)) ⊎ (entry_at log j ≡ Some e) → (entry_at log i ≡ Some (DropRange p n) → entry_at log j ≡ Some e → j < i) → j < i
+    go (inl u) (inl v) f = let s = ap result_name (sym v.1 ∙ u.1) in absurd (cc)
+    go (inl u) (inr v) f = let b = entry-below log j e v in let k = u.0 in omega (arith, b, k)
+    go (inr u) (inl v) f = absurd (never v.0 v.1 u)
+    go (inr u) (inr v) f = f u v
+
+-- a drop takes the parts of its range away, since all of them were made before it
+pub takes : (schema : Shape) (log : List Entry) (i : ℕ) (p : Option ℕ) (n : ℕ) (parts : List PartValue) → Lawful schema log → entry_at log i ≡ Some (DropRange p n) → Each (IsMadeIn schema log) parts → TakesParts parts p n (after (Drop p n i) parts)
+takes schema log i p n parts l q each = record {
+  names = names parts each;
+  others = λ part h. (Has-filter (λ (x : PartValue). not (in_drop p n x.name && nat_lt x.made.place i)) parts part h).0;
 }
   where
-    there : slice_get (map f xs) i ≡ Some (f x)
-    there = slice_get-map f xs i ∙ ap (option_map f) g
+    left : PartValue → Bool
+    left x = not (in_drop p n x.name && nat_lt x.made.place i)
 
-    same : c.name ≡ (f x).name
-    same = some-same c.name (f x).name (sym c.stands ∙ (ap (λ (ns : List Name). slice_get ns i) (sym e) ∙ (slice_get-map (λ (p : BlockPart). p.name) (map f xs) i ∙ ap (option_map (λ (p : BlockPart). p.name)) there)))
+    same-test : (x : PartValue) → IsMadeIn schema log x → left x ≡ not (in_drop p n x.name)
+    same-test x m = go (in_drop p n x.name) refl
+      where
+        go : (b : Bool) → in_drop p n x.name ≡ b → not (b && nat_lt x.made.place i) ≡ not b
+        go true e =
+            let k = made-before schema log i x.made.place x.made.value p n x.name l q m.of_log.made m.is_part.keeps.made e in
+            let t : nat_lt x.made.place i ≡ true = grind (arith, nat_tests) in
+            ap not t
+        go false e = refl
+
+    names : (ps : List PartValue) → Each (IsMadeIn schema log) ps → part_names (filter left ps) ≡ filter (λ a. not (in_drop p n a)) (part_names ps)
+    names [] k = refl
+    names (x ∷ ps) k = go (left x) (not (in_drop p n x.name)) (same-test x k.0) (names ps k.1)
+      where
+        go : (b c : Bool) → b ≡ c → part_names (filter left ps) ≡ filter (λ a. not (in_drop p n a)) (part_names ps) → part_names (cond b (x ∷ filter left ps) (filter left ps)) ≡ cond c (x.name ∷ filter (λ a. not (in_drop p n a)) (part_names ps)) (filter (λ a. not (in_drop p n a)) (part_names ps))
+        go true true f h = ap (λ (names : List Name). x.name ∷ names) h
+        go false false f h = h
+        go true false f h = absurd (cc)
+        go false true f h = absurd (cc)
 
 split-at : {A : Type 0} (xs : List A) (i : ℕ) (x : A) → slice_get xs i ≡ Some x → xs ≡ take i xs ++ x ∷ drop (suc i) xs
 split-at [] i x e = absurd (cc)
@@ -113,8 +124,3 @@ split-at (y ∷ xs) (suc i) x e = ap (λ zs. y ∷ zs) (split-at xs i x e)
 
 pub first-inactive : (active names : List Name) (i : ℕ) (a : Name) → slice_get names i ≡ Some a → Each (Has active) (take i names) → (Has active a → ⊥) → IsFirstInactive active names a
 first-inactive active names i a e k n = record { prefix = take i names; after = drop (suc i) names; parts = split-at names i a e; before = k; inactive = n }
-
--- a query reads the names of the parts
-pub names-shown : (parts : List BlockPart) → names_in (shown parts) ≡ part_names parts
-names-shown [] = refl
-names-shown (p ∷ parts) = ap (λ (names : List Name). p.name ∷ names) (names-shown parts)

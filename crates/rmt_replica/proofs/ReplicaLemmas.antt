@@ -8,9 +8,11 @@ use Rattle.rmt_model.proofs.Drops.{entry-older}
 use Rattle.rmt_model.proofs.Standing.{fair-more, fair-fewer}
 use Rattle.rmt_history.specs.Copies.{History}
 use Rattle.rmt_queue.specs.Marks.{done_at, grown}
-use Rattle.rmt_replica.specs.Parts.{BlockPart, IsBlockPart, part_names}
+use Rattle.rmt_part.specs.Lineages.{PartValue, IsOfLog, StandsIn}
+use Rattle.rmt_partset.specs.ActiveParts.{part_names}
+use Rattle.rmt_replica.specs.Parts.{IsMadeIn}
 use Rattle.rmt_replica.specs.StagedBlocks.{Staged}
-use Rattle.rmt_replica.specs.Replicas.{ReplicaView, IsOfCopy, IsStandingReplica, HasMarks, IsReplica, replica_of}
+use Rattle.rmt_replica.specs.Replicas.{ReplicaView, IsStandingReplica, HasMarks, IsReplica, replica_of}
 use Rattle.rmt_replica.proofs.MarkLemmas.{past-false, false-behind, take-grown, done-snoc}
 
 -- the marks of a copy with one more entry
@@ -45,11 +47,20 @@ standing-more r e cell s l = record {
   marks = length-snoc r.done ∙ ap suc s.marks;
   fair = fair-fewer (e ∷ r.log) (done_at (r.done ++ false ∷ [])) (done_at r.done) (part_names r.parts) (λ j k m. done-snoc r.done j m)
       (fair-more e r.log (done_at r.done) (part_names r.parts) (past-false r.done (length r.log) (let m = s.marks in omega (arith, m))) s.fair);
-  made = Each-all (λ p. IsOfCopy (e ∷ r.log) p × IsBlockPart p) r.parts (λ p h.
-      let k = Each-at (λ p. IsOfCopy r.log p × IsBlockPart p) r.parts p s.made h in
-      (entry-older e r.log p.made.place p.made.value k.0, k.1));
+  made = Each-all (IsMadeIn r.schema (e ∷ r.log)) r.parts (λ p h. older p (Each-at (IsMadeIn r.schema r.log) r.parts p s.made h));
 }
   where
+    older : (p : PartValue) → IsMadeIn r.schema r.log p → IsMadeIn r.schema (e ∷ r.log) p
+    older p m = record {
+      is_part = m.is_part;
+      of_schema = m.of_schema;
+      of_log = record {
+        made = entry-older e r.log p.made.place p.made.value m.of_log.made;
+        blocks = Each-all (λ b. StandsIn (e ∷ r.log) b.get) p.blocks (λ b h. entry-older e r.log b.get.place b.get.value (Each-at (λ b. StandsIn r.log b.get) p.blocks b m.of_log.blocks h));
+        mutations = Each-all (StandsIn (e ∷ r.log)) p.mutations (λ t h. entry-older e r.log t.place t.value (Each-at (StandsIn r.log) p.mutations t m.of_log.mutations h));
+      };
+    }
+
     length-snoc : (xs : List Bool) → length (xs ++ false ∷ []) ≡ suc (length xs)
     length-snoc [] = refl
     length-snoc (x ∷ xs) = ap suc (length-snoc xs)
@@ -58,14 +69,14 @@ standing-more r e cell s l = record {
 abbrev pub with_entry : ReplicaView → Entry → ℕ → ReplicaView
 with_entry r e cell = record r { log = e ∷ r.log; cells = r.cells ++ cell ∷ []; done = r.done ++ false ∷ [] }
 
-pub view-more : (number : ℕ) (up : Bool) (old new : History) (e : Entry) (cell : ℕ) (marks more : List Bool) (n : ℕ) (parts : List BlockPart) (staged : Staged) → HasMarks old marks
+pub view-more : (number : ℕ) (up : Bool) (old new : History) (e : Entry) (cell : ℕ) (marks more : List Bool) (n : ℕ) (parts : List PartValue) (staged : Staged) → HasMarks old marks
     → new ≡ record old { log = e ∷ old.log; cells = old.cells ++ cell ∷ [] } → n ≡ length old.log + 1 → more ≡ grown marks n
     → replica_of number up new more parts staged ≡ with_entry (replica_of number up old marks parts staged) e cell
 view-more number up old new e cell marks more n parts staged h l p q =
     ap (λ (c : History). replica_of number up c more parts staged) l
     ∙ ap (λ (ms : List Bool). record { number = number; up = up; schema = old.schema; log = e ∷ old.log; cells = old.cells ++ cell ∷ []; done = ms; parts = parts; staged = staged }) (marks-more old.log e marks more n h.enough h.none_past p q)
 
-pub replica-more : (number : ℕ) (up : Bool) (old new : History) (e : Entry) (cell : ℕ) (marks more : List Bool) (n : ℕ) (parts : List BlockPart) (staged : Staged) → IsReplica old marks (replica_of number up old marks parts staged)
+pub replica-more : (number : ℕ) (up : Bool) (old new : History) (e : Entry) (cell : ℕ) (marks more : List Bool) (n : ℕ) (parts : List PartValue) (staged : Staged) → IsReplica old marks (replica_of number up old marks parts staged)
     → new ≡ record old { log = e ∷ old.log; cells = old.cells ++ cell ∷ [] } → n ≡ length old.log + 1 → more ≡ grown marks n → Lawful old.schema (e ∷ old.log)
     → IsReplica new more (replica_of number up new more parts staged)
 replica-more number up old new e cell marks more n parts staged r l p q w = record {

@@ -22,10 +22,13 @@ use Rattle.rmt_queue.specs.Marks.{done_at}
 use Rattle.rmt_replica.specs.declared.supply.Supply.{Supply}
 use Rattle.rmt_replica.specs.declared.entry_state.EntryState.{EntryState}
 use Rattle.rmt_replica.specs.declared.entry_state.EntryState.TheVariants as states
-use Rattle.rmt_replica.specs.Parts.{BlockPart, IsBlockPart, part_names, Installs, TakesParts}
-use Rattle.rmt_replica.specs.Replicas.{ReplicaView, IsOfCopy, IsStandingReplica, HasMarks, IsReplica, replica_of}
+use Rattle.rmt_part.specs.Lineages.{PartValue}
+use Rattle.rmt_partset.specs.ActiveParts.{Replace, Drop, after, part_names}
+use Rattle.rmt_replica.specs.Parts.{IsMadeIn}
+use Rattle.rmt_replica.specs.Replicas.{ReplicaView, IsStandingReplica, HasMarks, IsReplica, replica_of}
 use Rattle.rmt_replica.specs.Answers.{IsMutationEntry, IsAlready, IsEmptied, CanSettle, CanInstall, IsEntryState, IsEntryStateWithout, settled, released, InstallsSupplied, PartsAfter}
 use Rattle.rmt_replica.specs.StagedBlocks.{Staged}
+use Rattle.rmt_replica.proofs.PartLemmas.{Installs, TakesParts, installs, takes}
 use Rattle.rmt_replica.proofs.MarkLemmas.{done-set, done-take, length-set-is, take-set, set-past}
 
 -- ---- entries
@@ -135,12 +138,12 @@ standing-settled r i s c = record {
 }
 
 -- the replica with a mark more
-pub view-settled : (number : ℕ) (up : Bool) (copy : History) (marks : List Bool) (parts : List BlockPart) (staged : Staged) (i : ℕ) → HasMarks copy marks → i < length copy.log
+pub view-settled : (number : ℕ) (up : Bool) (copy : History) (marks : List Bool) (parts : List PartValue) (staged : Staged) (i : ℕ) → HasMarks copy marks → i < length copy.log
     → replica_of number up copy (slice_set marks i true) parts (released (entry_at copy.log i) staged) ≡ settled (replica_of number up copy marks parts staged) i
 view-settled number up copy marks parts staged i h l =
     ap (λ (ms : List Bool). record { number = number; up = up; schema = copy.schema; log = copy.log; cells = copy.cells; done = ms; parts = parts; staged = released (entry_at copy.log i) staged }) (take-set (length copy.log) i marks l h.enough)
 
-pub replica-settled : (number : ℕ) (up : Bool) (copy : History) (marks : List Bool) (parts : List BlockPart) (staged : Staged) (i : ℕ) → IsReplica copy marks (replica_of number up copy marks parts staged) → i < length copy.log
+pub replica-settled : (number : ℕ) (up : Bool) (copy : History) (marks : List Bool) (parts : List PartValue) (staged : Staged) (i : ℕ) → IsReplica copy marks (replica_of number up copy marks parts staged) → i < length copy.log
     → CanSettle (replica_of number up copy marks parts staged) i
     → IsReplica copy (slice_set marks i true) (replica_of number up copy (slice_set marks i true) parts (released (entry_at copy.log i) staged))
 replica-settled number up copy marks parts staged i r l c = record {
@@ -162,15 +165,15 @@ filter-twice f (x ∷ xs) = go (f x) refl (filter-twice f xs)
     go false e h = h
 
 -- without the parts of a drop of its copy a replica stands
-pub standing-taken : (r : ReplicaView) (i : ℕ) (p : Option ℕ) (n : ℕ) (parts : List BlockPart) → IsStandingReplica r → entry_at r.log i ≡ Some (DropRange p n) → TakesParts r.parts p n parts → IsStandingReplica (record r { parts = parts })
+standing-taken : (r : ReplicaView) (i : ℕ) (p : Option ℕ) (n : ℕ) (parts : List PartValue) → IsStandingReplica r → entry_at r.log i ≡ Some (DropRange p n) → TakesParts r.parts p n parts → IsStandingReplica (record r { parts = parts })
 standing-taken r i p n parts s q t = record {
   lawful = s.lawful;
   marks = s.marks;
   fair = subst (AreFair r.log (done_at r.done)) (sym t.names) (fair-unset r.log r.done i (filter (λ a. not (in_drop p n a)) (part_names r.parts)) (fair-dropped r.schema r.log i (done_at r.done) (part_names r.parts) p n s.lawful q s.fair));
-  made = Each-all (λ x. IsOfCopy r.log x × IsBlockPart x) parts (λ x h. Each-at (λ x. IsOfCopy r.log x × IsBlockPart x) r.parts x s.made (t.others x h));
+  made = Each-all (IsMadeIn r.schema r.log) parts (λ x h. Each-at (IsMadeIn r.schema r.log) r.parts x s.made (t.others x h));
 }
 
-pub emptied : (r : ReplicaView) (i : ℕ) (p : Option ℕ) (n : ℕ) (parts : List BlockPart) → entry_at r.log i ≡ Some (DropRange p n) → TakesParts r.parts p n parts → IsEmptied (record r { parts = parts }) i
+emptied : (r : ReplicaView) (i : ℕ) (p : Option ℕ) (n : ℕ) (parts : List PartValue) → entry_at r.log i ≡ Some (DropRange p n) → TakesParts r.parts p n parts → IsEmptied (record r { parts = parts }) i
 emptied r i p n parts q t = record {
   partition = p;
   number = n;
@@ -178,13 +181,13 @@ emptied r i p n parts q t = record {
   empty = ap (filter (λ a. not (in_drop p n a))) t.names ∙ (filter-twice (λ a. not (in_drop p n a)) (part_names r.parts) ∙ sym t.names);
 }
 
-part-made : (r : ReplicaView) (part : BlockPart) → IsOfCopy r.log part → IsBlockPart part → Has (made r.log) part.name
-part-made r part o k = entry-made r.log part.made.place part.made.value part.name o k.named
+part-made : (r : ReplicaView) (part : PartValue) → IsMadeIn r.schema r.log part → Has (made r.log) part.name
+part-made r part m = entry-made r.log part.made.place part.made.value part.name m.of_log.made m.is_part.keeps.made
 
 -- an active part that shares a number with the new one is covered by it
-pub over-of : (r : ReplicaView) (i : ℕ) (a : Name) (part : BlockPart) → IsStandingReplica r → CanInstall r i a part → Each (λ b. Overlap part.name b → Covers part.name b) (part_names r.parts)
+pub over-of : (r : ReplicaView) (i : ℕ) (a : Name) (part : PartValue) → IsStandingReplica r → CanInstall r i a part → Each (λ b. Overlap part.name b → Covers part.name b) (part_names r.parts)
 over-of r i a part s c = Each-all (λ b. Overlap part.name b → Covers part.name b) (part_names r.parts) (λ b h o.
-    elim (Pairwise-cases Supersedes (made r.log) part.name b (later-covers r.schema r.log s.lawful) (part-made r part c.of_copy c.is_part) (Each-at (λ x. Has (made r.log) x) (part_names r.parts) b s.fair.made_here h)) [
+    elim (Pairwise-cases Supersedes (made r.log) part.name b (later-covers r.schema r.log s.lawful) (part-made r part c.made) (Each-at (λ x. Has (made r.log) x) (part_names r.parts) b s.fair.made_here h)) [
       | inl q ↦ subst (Covers part.name) q (Covers-refl part.name)
       | inr k ↦ elim k [ inl u ↦ u.covers o | inr u ↦ absurd (above b h (u.covers (turned b o))) ]
     ])
@@ -195,15 +198,15 @@ over-of r i a part s c = Each-all (λ b. Overlap part.name b → Covers part.nam
     above : (b : Name) → Has (part_names r.parts) b → Covers b part.name → ⊥
     above b h k = c.waits.open_entry (inr (inr (record { name = a; makes = c.makes; covered = record { name = b; is_in = h; covers = Covers-trans b part.name a k c.covers } })))
 
-pub standing-installed : (r : ReplicaView) (i : ℕ) (a : Name) (part : BlockPart) (parts : List BlockPart) → IsStandingReplica r → CanInstall r i a part → Installs r.parts part parts → IsStandingReplica (record r { parts = parts })
+standing-installed : (r : ReplicaView) (i : ℕ) (a : Name) (part : PartValue) (parts : List PartValue) → IsStandingReplica r → CanInstall r i a part → Installs r.parts part parts → IsStandingReplica (record r { parts = parts })
 standing-installed r i a part parts s c t = record {
   lawful = s.lawful;
   marks = s.marks;
   fair = subst (AreFair r.log (done_at r.done)) (sym t.names) (fair-unset r.log r.done i (placed part.name (part_names r.parts))
-      (fair-installed r.schema r.log i (done_at r.done) (part_names r.parts) c.makes.entry a part.name s.lawful c.makes.stands c.makes.makes s.fair (part-made r part c.of_copy c.is_part) c.covers not-dropped none-above));
-  made = Each-all (λ x. IsOfCopy r.log x × IsBlockPart x) parts (λ x h. elim (t.others x h) [
-    | inl q ↦ subst (λ (x : BlockPart). IsOfCopy r.log x × IsBlockPart x) (sym q) (c.of_copy, c.is_part)
-    | inr k ↦ Each-at (λ x. IsOfCopy r.log x × IsBlockPart x) r.parts x s.made k
+      (fair-installed r.schema r.log i (done_at r.done) (part_names r.parts) c.makes.entry a part.name s.lawful c.makes.stands c.makes.makes s.fair (part-made r part c.made) c.covers not-dropped none-above));
+  made = Each-all (IsMadeIn r.schema r.log) parts (λ x h. elim (t.others x h) [
+    | inl q ↦ subst (IsMadeIn r.schema r.log) (sym q) c.made
+    | inr k ↦ Each-at (IsMadeIn r.schema r.log) r.parts x s.made k
   ]);
 }
   where
@@ -213,25 +216,41 @@ standing-installed r i a part parts s c t = record {
     none-above : (x : Name) → Has (part_names r.parts) x → Covers x part.name → ⊥
     none-above x h k = c.waits.open_entry (inr (inr (record { name = a; makes = c.makes; covered = record { name = x; is_in = h; covers = Covers-trans x part.name a k c.covers } })))
 
-Has-name : (parts : List BlockPart) (x : BlockPart) → Has parts x → Has (part_names parts) x.name
+Has-name : (parts : List PartValue) (x : PartValue) → Has parts x → Has (part_names parts) x.name
 Has-name [] x h = absurd h
-Has-name (p ∷ parts) x (inl q) = inl (ap (λ (y : BlockPart). y.name) q)
+Has-name (p ∷ parts) x (inl q) = inl (ap (λ (y : PartValue). y.name) q)
 Has-name (p ∷ parts) x (inr h) = inr (Has-name parts x h)
 
-pub covered-name : (parts : List BlockPart) (x : BlockPart) (a : Name) → Has parts x → Covers x.name a → CoveredBy (part_names parts) a
+pub covered-name : (parts : List PartValue) (x : PartValue) (a : Name) → Has parts x → Covers x.name a → CoveredBy (part_names parts) a
 covered-name parts x a h c = record { name = x.name; is_in = Has-name parts x h; covers = c }
 
 -- what the entry makes is covered once the part is active
-pub now-covered : (r : ReplicaView) (i : ℕ) (a : Name) (part : BlockPart) (parts : List BlockPart) → CanInstall r i a part → Installs r.parts part parts → CanSettle (record r { parts = parts }) i
+now-covered : (r : ReplicaView) (i : ℕ) (a : Name) (part : PartValue) (parts : List PartValue) → CanInstall r i a part → Installs r.parts part parts → CanSettle (record r { parts = parts }) i
 now-covered r i a part parts c t = inl (inr (inr (record { name = a; makes = c.makes; covered = covered-name parts part a t.there c.covers })))
 
 -- the parts once an entry that makes a part is done
-pub parts-after : (r : ReplicaView) (i : ℕ) (a : Name) (supply : Supply) (parts : List BlockPart) → MakesAt r.log i a → InstallsSupplied r supply parts → PartsAfter (entry_at r.log i) r supply parts
-parts-after r i a supply parts m t = subst (λ (o : Option Entry). PartsAfter o r supply parts) (sym m.stands) (go m.entry m.makes)
+pub parts-after : (r : ReplicaView) (i : ℕ) (a : Name) (supply : Supply) (parts : List PartValue) → MakesAt r.log i a → InstallsSupplied r supply parts → PartsAfter (entry_at r.log i) r i supply parts
+parts-after r i a supply parts m t = subst (λ (o : Option Entry). PartsAfter o r i supply parts) (sym m.stands) (go m.entry m.makes)
   where
-    go : (e : Entry) → result_name e ≡ Some a → PartsAfter (Some e) r supply parts
+    go : (e : Entry) → result_name e ≡ Some a → PartsAfter (Some e) r i supply parts
     go (Get p n digest source need) q = t
     go (Merge new sources count) q = t
     go (Mutate old new upto count mcount) q = t
     go (Mutation id numbers command) q = absurd (cc)
     go (DropRange p n) q = absurd (cc)
+
+-- the same, told from what the calls do
+pub takes-at : (r : ReplicaView) (i : ℕ) (p : Option ℕ) (n : ℕ) → IsStandingReplica r → entry_at r.log i ≡ Some (DropRange p n) → TakesParts r.parts p n (after (Drop p n i) r.parts)
+takes-at r i p n s q = takes r.schema r.log i p n r.parts s.lawful q s.made
+
+pub standing-after-drop : (r : ReplicaView) (i : ℕ) (p : Option ℕ) (n : ℕ) (parts : List PartValue) → IsStandingReplica r → entry_at r.log i ≡ Some (DropRange p n) → parts ≡ after (Drop p n i) r.parts → IsStandingReplica (record r { parts = parts })
+standing-after-drop r i p n parts s q e = standing-taken r i p n parts s q (subst (TakesParts r.parts p n) (sym e) (takes-at r i p n s q))
+
+pub emptied-after-drop : (r : ReplicaView) (i : ℕ) (p : Option ℕ) (n : ℕ) (parts : List PartValue) → IsStandingReplica r → entry_at r.log i ≡ Some (DropRange p n) → parts ≡ after (Drop p n i) r.parts → IsEmptied (record r { parts = parts }) i
+emptied-after-drop r i p n parts s q e = emptied r i p n parts q (subst (TakesParts r.parts p n) (sym e) (takes-at r i p n s q))
+
+pub standing-after-replace : (r : ReplicaView) (i : ℕ) (a : Name) (part : PartValue) (parts : List PartValue) → IsStandingReplica r → CanInstall r i a part → parts ≡ after (Replace part) r.parts → IsStandingReplica (record r { parts = parts })
+standing-after-replace r i a part parts s c e = standing-installed r i a part parts s c (subst (Installs r.parts part) (sym e) (installs part r.parts))
+
+pub covered-after-replace : (r : ReplicaView) (i : ℕ) (a : Name) (part : PartValue) (parts : List PartValue) → CanInstall r i a part → parts ≡ after (Replace part) r.parts → CanSettle (record r { parts = parts }) i
+covered-after-replace r i a part parts c e = now-covered r i a part parts c (subst (Installs r.parts part) (sym e) (installs part r.parts))

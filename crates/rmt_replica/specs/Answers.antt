@@ -24,9 +24,12 @@ use Rattle.rmt_replica.specs.declared.entry_state.EntryState.{EntryState}
 use Rattle.rmt_replica.specs.declared.entry_state.EntryState.TheVariants as states
 use Rattle.rmt_replica.specs.declared.why.Why.{Why}
 use Rattle.rmt_replica.specs.declared.why.Why.TheVariants as whys
-use Rattle.rmt_replica.specs.Parts.{BlockPart, IsBlockPart, IsFirstInactive, part_names, Installs, TakesParts}
+use Rattle.rmt_part.specs.Lineages.{PartValue}
+use Rattle.rmt_part.specs.Lineages as parts
+use Rattle.rmt_partset.specs.ActiveParts.{Replace, Drop, after, part_names}
+use Rattle.rmt_replica.specs.Parts.{IsMadeIn, IsFirstInactive}
 use Rattle.rmt_replica.specs.StagedBlocks.{Staged, staged_at, without}
-use Rattle.rmt_replica.specs.Replicas.{ReplicaView, IsOfCopy}
+use Rattle.rmt_replica.specs.Replicas.{ReplicaView}
 
 -- ---- how an entry stands
 
@@ -59,13 +62,14 @@ pub record Waits (r : ReplicaView) (i : ℕ) : Type 0 where
 
 -- ---- supplies
 
--- the part was made by the entry that the copy has at its place, if it has that place
-abbrev pub IsOfTable : ReplicaView → BlockPart → Type 0
-IsOfTable r part = part.made.place < length r.log → IsOfCopy r.log part
+-- the part is of the replica's table
+pub record IsOfTable (r : ReplicaView) (part : PartValue) : Type 0 where
+  pub of_schema : part.schema ≡ r.schema
+  pub agrees : parts.IsOfTable r.log part
 
 -- the part that is supplied covers the name and was made within the copy
 pub record Serves (r : ReplicaView) (a : Name) (supply : Supply) : Type 0 where
-  pub part : BlockPart
+  pub part : PartValue
   pub given : supplied supply ≡ Some part
   pub covers : Covers part.name a
   pub within : part.made.place < length r.log
@@ -98,24 +102,24 @@ released (Some (DropRange p n)) staged = staged
 abbrev pub settled : ReplicaView → ℕ → ReplicaView
 settled r i = record r { done = slice_set r.done i true; staged = released (entry_at r.log i) r.staged }
 
--- the active parts once the entry is done: without those of its drop, or with the part that was supplied
-abbrev pub InstallsSupplied : ReplicaView → Supply → List BlockPart → Type 0
-InstallsSupplied r supply parts = MatchOption (supplied supply) ⊥ (λ part. Installs r.parts part parts)
+-- the active parts with the one that was supplied
+abbrev pub InstallsSupplied : ReplicaView → Supply → List PartValue → Type 0
+InstallsSupplied r supply new = MatchOption (supplied supply) ⊥ (λ part. new ≡ after (Replace part) r.parts)
 
--- the parts after an entry that was done: a drop takes its parts away, and an entry that makes a part installs the one
--- supplied
-abbrev pub PartsAfter : Option Entry → ReplicaView → Supply → List BlockPart → Type 0
-PartsAfter None r supply parts = ⊥
-PartsAfter (Some (DropRange p n)) r supply parts = TakesParts r.parts p n parts
-PartsAfter (Some (Get p n digest source need)) r supply parts = InstallsSupplied r supply parts
-PartsAfter (Some (Merge new sources count)) r supply parts = InstallsSupplied r supply parts
-PartsAfter (Some (Mutate old new upto count mcount)) r supply parts = InstallsSupplied r supply parts
-PartsAfter (Some (Mutation id numbers command)) r supply parts = ⊥
+-- the parts after the entry at a place was done: a drop takes its parts away that were made before it, and an entry that
+-- makes a part has the one that was supplied
+abbrev pub PartsAfter : Option Entry → ReplicaView → ℕ → Supply → List PartValue → Type 0
+PartsAfter None r i supply new = ⊥
+PartsAfter (Some (DropRange p n)) r i supply new = new ≡ after (Drop p n i) r.parts
+PartsAfter (Some (Get p n digest source need)) r i supply new = InstallsSupplied r supply new
+PartsAfter (Some (Merge name sources count)) r i supply new = InstallsSupplied r supply new
+PartsAfter (Some (Mutate old name upto count mcount)) r i supply new = InstallsSupplied r supply new
+PartsAfter (Some (Mutation id numbers command)) r i supply new = ⊥
 
 -- the entry was done by what was supplied: nothing changes but its mark, what was staged for it, and the parts
 pub record IsDoneBy (old : ReplicaView) (i : ℕ) (supply : Supply) (new : ReplicaView) : Type 0 where
   pub others : new ≡ record (settled old i) { parts = new.parts }
-  pub parts : PartsAfter (entry_at old.log i) old supply new.parts
+  pub parts : PartsAfter (entry_at old.log i) old i supply new.parts
 
 -- what an answer of apply changes
 abbrev pub IsChange : ReplicaView → ℕ → Supply → Result Applied ApplyError → ReplicaView → Type 0
@@ -176,9 +180,8 @@ abbrev pub CanSettle : ReplicaView → ℕ → Type 0
 CanSettle r i = IsAlready r i ⊎ (IsDroppedEntry r i ⊎ IsEmptied r i)
 
 -- a part that was made within the copy and covers what the entry makes, where no active part does and no drop takes it away
-pub record CanInstall (r : ReplicaView) (i : ℕ) (a : Name) (part : BlockPart) : Type 0 where
+pub record CanInstall (r : ReplicaView) (i : ℕ) (a : Name) (part : PartValue) : Type 0 where
   pub waits : Waits r i
   pub makes : MakesAt r.log i a
   pub covers : Covers part.name a
-  pub of_copy : IsOfCopy r.log part
-  pub is_part : IsBlockPart part
+  pub made : IsMadeIn r.schema r.log part

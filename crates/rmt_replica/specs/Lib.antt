@@ -6,6 +6,8 @@ pub use Rattle.rmt_model.specs.Words
 pub use Rattle.rmt_model.specs.Live
 pub use Rattle.rmt_model.specs.Lawful
 pub use Rattle.rmt_model.specs.Fair
+pub use Rattle.rmt_part.specs.Lineages
+pub use Rattle.rmt_partset.specs.ActiveParts
 pub mod Parts
 pub mod StagedBlocks
 pub mod Replicas

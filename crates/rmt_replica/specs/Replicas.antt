@@ -1,15 +1,16 @@
 -- A replica of a table, and what always holds of it.
 -- ClickHouse documentation, Data Replication: each replica copies the log of the table and works through it by itself.
 use Rattle.std.specs.Prelude.{◌≡◌, ℕ, ◌≤◌, Bool, false, List, length, take}
-use Rattle.std.specs.declared.option.Option.TheVariants.{Some}
 use Rattle.rmt_values.specs.Rows.{Shape}
 use Rattle.rmt_entries.specs.declared.entry.Entry.{Entry}
 use Rattle.rmt_model.specs.Words.{Each}
-use Rattle.rmt_model.specs.Lawful.{Lawful, entry_at}
+use Rattle.rmt_model.specs.Lawful.{Lawful}
 use Rattle.rmt_model.specs.Fair.{AreFair, AllMarked}
 use Rattle.rmt_history.specs.Copies.{History}
 use Rattle.rmt_queue.specs.Marks.{done_at}
-use Rattle.rmt_replica.specs.Parts.{BlockPart, IsBlockPart, part_names}
+use Rattle.rmt_part.specs.Lineages.{PartValue}
+use Rattle.rmt_partset.specs.ActiveParts.{part_names}
+use Rattle.rmt_replica.specs.Parts.{IsMadeIn}
 use Rattle.rmt_replica.specs.StagedBlocks.{Staged}
 
 -- a replica: its number, whether it is up, its copy of the log, the newest entry first, with the cells of the entries, a
@@ -21,20 +22,16 @@ pub record ReplicaView : Type 0 where
   pub log : List Entry
   pub cells : List ℕ
   pub done : List Bool
-  pub parts : List BlockPart
+  pub parts : List PartValue
   pub staged : Staged
 
--- the copy has the entry that made the part at its place
-abbrev pub IsOfCopy : List Entry → BlockPart → Type 0
-IsOfCopy log part = entry_at log part.made.place ≡ Some part.made.value
-
--- the copy is lawful; the active parts were made in it, are apart, and are fair for what is done: each result of a done
+-- the copy is lawful; the active parts were made within it, are apart, and are fair for what is done: each result of a done
 -- entry is covered by one of them or dropped, and none is taken away by a done drop
 pub record IsStandingReplica (r : ReplicaView) : Type 0 where
   pub lawful : Lawful r.schema r.log
   pub marks : length r.done ≡ length r.log
   pub fair : AreFair r.log (done_at r.done) (part_names r.parts)
-  pub made : Each (λ p. IsOfCopy r.log p × IsBlockPart p) r.parts
+  pub made : Each (IsMadeIn r.schema r.log) r.parts
 
 -- every entry of the copy is done
 abbrev pub IsDrained : ReplicaView → Type 0
@@ -46,7 +43,7 @@ pub record HasMarks (copy : History) (marks : List Bool) : Type 0 where
   pub none_past : (i : ℕ) → length copy.log ≤ i → done_at marks i ≡ false
 
 -- a replica, put together from what it keeps
-abbrev pub replica_of : ℕ → Bool → History → List Bool → List BlockPart → Staged → ReplicaView
+abbrev pub replica_of : ℕ → Bool → History → List Bool → List PartValue → Staged → ReplicaView
 replica_of number up copy marks parts staged = record {
   number = number;
   up = up;

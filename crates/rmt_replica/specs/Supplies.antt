@@ -5,10 +5,10 @@ use Rattle.std.specs.declared.option.Option.TheVariants.{Some, None}
 use Rattle.std.specs.Arc.{arc_value}
 use Rattle.rmt_replica.specs.declared.supply.Supply.{Supply}
 use Rattle.rmt_replica.specs.declared.supply.Supply.TheVariants.{Nothing, Built, Fetched}
-use Rattle.rmt_replica.specs.Parts.{BlockPart}
+use Rattle.rmt_part.specs.Lineages.{PartValue}
 
 -- the part that is supplied
-abbrev pub supplied : Supply → Option BlockPart
+abbrev pub supplied : Supply → Option PartValue
 supplied Nothing = None
 supplied (Built part) = Some (arc_value part)
 supplied (Fetched part) = Some (arc_value part)

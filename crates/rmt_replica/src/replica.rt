@@ -2,13 +2,15 @@ ghost use Rattle.std.specs.Prelude.{◌≡◌, ◌↔◌, ◌∷◌, ◌++◌, �
 ghost use Rattle.std.specs.Option.{option_map, option_copied};
 ghost use Rattle.std.specs.Arc.{arc_value};
 ghost use Rattle.rmt_names.specs.Names.{Name, Covers};
-ghost use Rattle.rmt_model.specs.Words.{Has};
+ghost use Rattle.rmt_model.specs.Words.{Has, Each};
 ghost use Rattle.rmt_model.specs.Lawful.{Lawful, entry_at, MakesAt};
 ghost use Rattle.rmt_history.specs.Copies.{History};
 ghost use Rattle.rmt_queue.specs.Marks.{done_at};
 ghost use Rattle.rmt_replica.specs.declared.replica_error.ReplicaError.TheVariants as errors;
 ghost use Rattle.std.specs.declared.result.Result.TheVariants.{Err};
-ghost use Rattle.rmt_replica.specs.Parts.{IsCovering, Installs, TakesParts, part_names, shown};
+ghost use Rattle.rmt_model.specs.Fair.{CoveredBy};
+ghost use Rattle.rmt_partset.specs.ActiveParts.{Replace, Drop, after, part_names, shown, IsCovering};
+ghost use Rattle.rmt_replica.specs.Parts.{IsFirstInactive};
 ghost use Rattle.rmt_replica.specs.StagedBlocks.{staged_at, with_staged, without};
 ghost use Rattle.rmt_replica.specs.Replicas.{IsStandingReplica, IsDrained};
 ghost use Rattle.rmt_replica.specs.Answers.{IsEntryState, IsEntryStateWithout, CanSettle, CanInstall, Waits, IsOfTable, IsAnswer, IsChange, IsReady, Lacks, IsWhy, settled, released};
@@ -21,8 +23,6 @@ use crate::applied::Applied;
 use crate::apply_error::ApplyError;
 use crate::block_number::BlockNumber;
 use crate::entry_state::EntryState;
-use crate::part::Part;
-use crate::part_set::PartSet;
 use crate::replica_error::ReplicaError;
 use crate::staged::Staging;
 use crate::supply::Supply;
@@ -31,7 +31,8 @@ use rmt_block::Block;
 use rmt_entries::{Entry, result_of};
 use rmt_history::LogCopy;
 use rmt_names::{PartName, PartitionId, block_name, covers};
-use rmt_partset::Snapshot;
+use rmt_part::Part;
+use rmt_partset::{PartSet, Snapshot};
 use rmt_queue::Queue;
 use rmt_row::Seen;
 use rmt_values::{ReplicaId, Schema};
@@ -60,9 +61,9 @@ impl Model for Replica {
 
     ghost coded = { Prim.hlevel (codes, filter.the_row.coded) };
 
-    ghost view = { λ r. replica_of r.number r.up r.copy r.queue r.parts r.staged };
+    ghost view = { λ r. replica_of r.number r.up r.copy r.queue r.parts.parts r.staged };
 
-    ghost invariant = { λ r. IsReplica r.copy r.queue (replica_of r.number r.up r.copy r.queue r.parts r.staged) };
+    ghost invariant = { λ r. IsReplica r.copy r.queue (replica_of r.number r.up r.copy r.queue r.parts.parts r.staged) };
 }
 
 impl Replica {
@@ -206,6 +207,39 @@ impl Replica {
         Ok(self.parts.snapshot(alloc)?)
     }
 
+    /// Whether an active part covers the name.
+    fn is_covered(&self, name: &PartName) -> bool
+        ensures yes { IsTrue result → CoveredBy (part_names self.now.parts) name.now }
+        ensures no { CoveredBy (part_names self.now.parts) name.now → IsTrue result }
+    {
+        match self.parts.covering(name) {
+            Some(_) => true,
+            None => false,
+        }
+    }
+
+    /// The first of the names that isn't active; none where all are.
+    fn first_inactive(&self, names: &[PartName]) -> Option<PartName>
+        ensures { MatchOption result (Each (Has (part_names self.now.parts)) names.now) (IsFirstInactive (part_names self.now.parts) names.now) }
+    {
+        'names: for name in names {
+            if !self.parts.contains(name) {
+                return Some(*name);
+            }
+        }
+        None
+    }
+
+    /// The name, where it isn't active.
+    fn inactive(&self, name: &PartName) -> Option<PartName>
+        ensures { MatchOption result (Has (part_names self.now.parts) name.now) (λ a. (a ≡ name.now) × (Has (part_names self.now.parts) name.now → ⊥)) }
+    {
+        if self.parts.contains(name) {
+            return None;
+        }
+        Some(*name)
+    }
+
     /// How the entry at a place stands.
     fn state(&self, i: usize) -> EntryState
         requires { i < length self.now.log }
@@ -218,7 +252,7 @@ impl Replica {
         let Some(name) = result_of(entry) else {
             return state_without(entry);
         };
-        if self.parts.is_covered(&name) {
+        if self.is_covered(&name) {
             return EntryState::Already;
         }
         if self.copy.dropped_after(i, &name) {
@@ -241,8 +275,8 @@ impl Replica {
                 Some(_) => None,
                 None => Some(block_name(*partition, *number)),
             },
-            Entry::Merge { sources, .. } => self.parts.first_inactive(sources.as_slice()),
-            Entry::Mutate { old, .. } => self.parts.inactive(old),
+            Entry::Merge { sources, .. } => self.first_inactive(sources.as_slice()),
+            Entry::Mutate { old, .. } => self.inactive(old),
             Entry::Mutation { .. } | Entry::DropRange { .. } => None,
         }
     }
@@ -276,23 +310,24 @@ impl Replica {
     /// Takes the active parts of a drop away.
     fn take_away(&mut self, i: usize, partition: PartitionId, number: u32)
         requires entry { entry_at self.old.log i ≡ Some (DropRange partition number) }
-        ensures parts { TakesParts self.old.parts partition number self.new.parts }
+        ensures parts { self.new.parts ≡ after (Drop partition number i) self.old.parts }
         ensures others { self.new ≡ record self.old { parts = self.new.parts } }
+        ensures emptied { CanSettle self.new i }
     {
-        let _ = i;
-        self.parts.take_away(partition, number);
+        self.parts.drop_range(partition, number, i);
     }
 
     /// Makes a part active that covers what the entry makes.
     fn put(&mut self, i: usize, name: PartName, part: Arc<Part, Global>) -> Result<(), AllocError>
         requires { CanInstall self.old i name (arc_value part) }
-        ensures ok { OnOk result (Installs self.old.parts (arc_value part) self.new.parts) }
+        ensures ok { OnOk result (self.new.parts ≡ after (Replace (arc_value part)) self.old.parts) }
         ensures others { OnOk result (self.new ≡ record self.old { parts = self.new.parts }) }
         ensures covered { OnOk result (CanSettle self.new i) }
         ensures err { OnErr result (self.new ≡ self.old) }
     {
         let _ = (i, name);
-        self.parts.install(part)?;
+        self.parts.reserve()?;
+        self.parts.replace(part);
         Ok(())
     }
 

@@ -3,7 +3,7 @@ ghost use Rattle.std.specs.Option.{option_map};
 ghost use Rattle.std.specs.Arc.{arc_value};
 ghost use Rattle.rmt_replica.specs.Supplies.{supplied};
 
-use crate::part::Part;
+use rmt_part::Part;
 use std::alloc::Global;
 use std::sync::Arc;
 

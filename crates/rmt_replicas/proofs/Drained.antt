@@ -10,16 +10,18 @@ use Rattle.std.specs.declared.option.Option.TheVariants.{Some, None}
 use Rattle.rmt_names.specs.Names.{block_name}
 use Rattle.rmt_entries.specs.declared.entry.Entry.{Entry}
 use Rattle.rmt_model.specs.Words.{Has, Each}
-use Rattle.rmt_model.proofs.Lists.{Each-at}
+use Rattle.rmt_model.proofs.Lists.{Each-at, Each-all}
 use Rattle.rmt_model.specs.Lawful.{MakesAt}
 use Rattle.rmt_queue.specs.Marks.{done_at}
-use Rattle.rmt_replica.specs.Parts.{BlockPart}
-use Rattle.rmt_replica.specs.Replicas.{ReplicaView, IsOfCopy, IsStandingReplica}
+use Rattle.rmt_values.specs.Rows.{Shape}
+use Rattle.rmt_row.specs.Token.{Token}
+use Rattle.rmt_part.specs.Lineages.{PartValue, IsOfLog, StandsIn, AgreesWith}
+use Rattle.rmt_replica.specs.Replicas.{ReplicaView, IsStandingReplica}
 use Rattle.rmt_replica.specs.declared.supply.Supply.TheVariants.{Fetched}
 use Rattle.rmt_replica.proofs.MarkLemmas.{length-set-is}
-use Rattle.rmt_replicas.specs.Following.{AreGets, HasSource, HaveSources, Lags, IsHeld, IsPartAt, IsFetched, Supplies, DoesGet, CatchesUp, Pulls, DrainsTo, Drains}
+use Rattle.rmt_replicas.specs.Following.{AreGets, HasSource, HaveSources, Lags, AllLag, IsHeld, IsPartAt, IsFetched, Supplies, DoesGet, CatchesUp, Pulls, DrainsTo, Drains}
 use Rattle.rmt_replicas.proofs.Places.{get-has, get-here, get-other, set-same, set-twice, Each-get, Each-set, Has-set}
-use Rattle.rmt_replicas.proofs.Gets.{makes-number, part-on, part-within, set-here, set-more, all-set}
+use Rattle.rmt_replicas.proofs.Gets.{makes-number, part-on, part-schema, part-within, set-here, set-more, all-set}
 
 -- an entry keeps its source where a replica has done more
 pub source-set : (log : List Entry) (replicas : List ReplicaView) (r i : ℕ) (old new : ReplicaView) → slice_get replicas r ≡ Some old → (done_at old.done i ≡ true → done_at new.done i ≡ true) → HasSource log replicas i → HasSource log (slice_set replicas r new) i
@@ -49,25 +51,36 @@ source-set log replicas r i old new was more s = go (nat_eq s.place r) refl
     }
 
 -- what one of the replicas has
-pub fetched : (replicas : List ReplicaView) (log : List Entry) (i : ℕ) (x : ReplicaView) (part : BlockPart) → Each (Lags log) replicas → Has replicas x → IsPartAt x i part → IsFetched replicas log i part
+pub fetched : (replicas : List ReplicaView) (log : List Entry) (i : ℕ) (x : ReplicaView) (part : PartValue) → AllLag log replicas → Has replicas x → IsPartAt x i part → IsFetched replicas log i part
 fetched replicas log i x part lag among p = record {
   held = record { holder = x; among = among; is_in = p.is_in };
-  of_copy = part-on x log part p.standing (Each-at (Lags log) replicas x lag among).copied p.is_in;
+  of_table = Each-all (λ r. part.schema ≡ r.schema) replicas (λ r h. part-schema x part p.standing p.is_in ∙ ((at x among).schema_is ∙ sym (at r h).schema_is));
+  of_log = part-on x log part p.standing (at x among).copied p.is_in;
   covers = p.covers;
 }
+  where
+    at : (r : ReplicaView) → Has replicas r → Lags lag.schema log r
+    at r h = Each-at (Lags lag.schema log) replicas r lag.each h
 
 -- it serves a replica that has the log
-pub supplied-by : (r : ReplicaView) (replicas : List ReplicaView) (log : List Entry) (i : ℕ) (part : Arc BlockPart Global) → AreGets log → i < length log → r.log ≡ log → IsFetched replicas log i (arc_value part) → Supplies r i (Fetched part)
-supplied-by r replicas log i part gets l e f =
-    let of_copy = subst (λ (x : List Entry). IsOfCopy x (arc_value part)) (sym e) f.of_copy in
+pub supplied-by : (r : ReplicaView) (replicas : List ReplicaView) (log : List Entry) (i : ℕ) (part : Arc PartValue Global) → AreGets log → i < length log → r.log ≡ log → Has replicas r → IsFetched replicas log i (arc_value part) → Supplies r i (Fetched part)
+supplied-by r replicas log i part gets l e among f =
+    let of_log = subst (λ (x : List Entry). IsOfLog x (arc_value part)) (sym e) f.of_log in
     record {
       name = block_name None i;
       makes = subst (λ (x : List Entry). MakesAt x i (block_name None i)) (sym e) (makes-number log i gets l);
-      serves = record { part = arc_value part; given = refl; covers = f.covers; within = part-within r.log (arc_value part) of_copy };
-      of_table = λ _. of_copy;
+      serves = record { part = arc_value part; given = refl; covers = f.covers; within = part-within r.log (arc_value part) of_log };
+      of_table = record {
+        of_schema = Each-at (λ x. (arc_value part).schema ≡ x.schema) replicas r f.of_table among;
+        agrees = record {
+          made = λ w. of_log.made;
+          blocks = Each-all (λ b. AgreesWith r.log b.get) (arc_value part).blocks (λ b h w. Each-at (λ b. StandsIn r.log b.get) (arc_value part).blocks b of_log.blocks h);
+          mutations = Each-all (AgreesWith r.log) (arc_value part).mutations (λ t h w. Each-at (StandsIn r.log) (arc_value part).mutations t of_log.mutations h);
+        };
+      };
     }
 
-pub caught-up : (olds : List ReplicaView) (r i : ℕ) (log : List Entry) (old new : ReplicaView) (part : Arc BlockPart Global) → slice_get olds r ≡ Some old → old.log ≡ log → i < length old.done → IsFetched olds log i (arc_value part) → DoesGet old i (Fetched part) new → CatchesUp olds r log i (slice_set olds r new)
+pub caught-up : (olds : List ReplicaView) (r i : ℕ) (log : List Entry) (old new : ReplicaView) (part : Arc PartValue Global) → slice_get olds r ≡ Some old → old.log ≡ log → i < length old.done → IsFetched olds log i (arc_value part) → DoesGet old i (Fetched part) new → CatchesUp olds r log i (slice_set olds r new)
 caught-up olds r i log old new part was copy l f d = record {
   change = record {
     old = old;
@@ -116,7 +129,7 @@ drained-start olds r log first old new was p s f = record {
     was = was;
     others = refl;
     copy = p.copy;
-    parts = λ x h. record { holder = old; among = get-has olds r old was; is_in = subst (λ (ps : List BlockPart). Has ps x) p.parts h };
+    parts = λ x h. record { holder = old; among = get-has olds r old was; is_in = subst (λ (ps : List PartValue). Has ps x) p.parts h };
     schema_is = p.schema_is;
     up = p.up;
   };
@@ -157,7 +170,7 @@ drained-on olds mids news r i log d c = record {
     below j true e l = let q : j ≡ i = grind (arith, nat_tests) in ap (λ k. done_at c.change.new.done k) q ∙ c.done
     below j false e l = more j (d.below j (grind (arith, nat_tests)))
 
-    held : (p : BlockPart) → IsHeld mids p → IsHeld olds p
+    held : (p : PartValue) → IsHeld mids p → IsHeld olds p
     held p h = elim (Has-set olds r d.change.new h.holder (subst (λ (rs : List ReplicaView). Has rs h.holder) d.change.others h.among)) [
       | inl e ↦ d.change.parts p (subst (λ (x : ReplicaView). Has x.parts p) (sym e) h.is_in)
       | inr k ↦ record { holder = h.holder; among = k; is_in = h.is_in }
@@ -167,12 +180,15 @@ drained-on olds mids news r i log d c = record {
 pub drained-copy : (olds mids : List ReplicaView) (r i : ℕ) (log : List Entry) → DrainsTo olds r log i mids → (x : ReplicaView) → slice_get mids r ≡ Some x → x.log ≡ log
 drained-copy olds mids r i log d x e = ap (λ (y : ReplicaView). y.log) (now-at olds mids r i log x d e) ∙ d.change.copy
 
-pub drained-lag : (olds mids : List ReplicaView) (r i : ℕ) (log : List Entry) → Each (Lags log) olds → DrainsTo olds r log i mids → Each (Lags log) mids
-drained-lag olds mids r i log lag d =
-    subst (Each (Lags log)) (sym d.change.others) (Each-set (Lags log) olds r d.change.new lag (record {
-      is_up = d.change.up ∙ (Each-get (Lags log) olds r d.change.old lag d.change.was).is_up;
-      copied = record { gained = []; is = sym d.change.copy };
-    }))
+pub drained-lag : (olds mids : List ReplicaView) (r i : ℕ) (log : List Entry) → AllLag log olds → DrainsTo olds r log i mids → AllLag log mids
+drained-lag olds mids r i log lag d = record {
+  schema = lag.schema;
+  each = subst (Each (Lags lag.schema log)) (sym d.change.others) (Each-set (Lags lag.schema log) olds r d.change.new lag.each (record {
+    schema_is = d.change.schema_is ∙ (Each-get (Lags lag.schema log) olds r d.change.old lag.each d.change.was).schema_is;
+    is_up = d.change.up ∙ (Each-get (Lags lag.schema log) olds r d.change.old lag.each d.change.was).is_up;
+    copied = record { gained = []; is = sym d.change.copy };
+  }));
+}
 
 pub drained-sources : (olds mids : List ReplicaView) (r i j : ℕ) (log : List Entry) → HaveSources log olds → DrainsTo olds r log i mids → j < length log → HasSource log mids j
 drained-sources olds mids r i j log s d l =

@@ -16,8 +16,10 @@ use Rattle.rmt_model.specs.Fair.{MadeAtMark, CoveredBy}
 use Rattle.rmt_model.proofs.Lists.{Each-at}
 use Rattle.rmt_model.proofs.Drops.{entry-older, entry-below, entry-cases, fresh}
 use Rattle.rmt_queue.specs.Marks.{done_at}
-use Rattle.rmt_replica.specs.Parts.{BlockPart, IsBlockPart}
-use Rattle.rmt_replica.specs.Replicas.{ReplicaView, IsOfCopy, IsStandingReplica}
+use Rattle.rmt_part.specs.Lineages.{PartValue, IsOfLog}
+use Rattle.rmt_part.proofs.PartLaws.{of-log-longer}
+use Rattle.rmt_replica.specs.Parts.{IsMadeIn}
+use Rattle.rmt_replica.specs.Replicas.{ReplicaView, IsStandingReplica}
 use Rattle.rmt_replicas.specs.Following.{AreGets}
 
 -- a prefix of a log of Gets is one
@@ -96,13 +98,15 @@ has-part r i s g d = go (s.fair.answered (block_name None i) (made-at-mark r.log
     go (inl c) = c
     go (inr t) = absurd (gets-keep r.log (block_name None i) g t)
 
--- a part of a replica that follows the log was made in the log
-pub part-on : (r : ReplicaView) (log : List Entry) (part : BlockPart) → IsStandingReplica r → IsPrefix r.log log → Has r.parts part → IsOfCopy log part
-part-on r log part s g h =
-    subst (λ (l : List Entry). IsOfCopy l part) (sym g.is) (entry-on g.gained r.log part.made.place part.made.value (Each-at (λ p. IsOfCopy r.log p × IsBlockPart p) r.parts part s.made h).0)
+-- a part of a replica that follows the log was made in the log, by the replica's schema
+pub part-on : (r : ReplicaView) (log : List Entry) (part : PartValue) → IsStandingReplica r → IsPrefix r.log log → Has r.parts part → IsOfLog log part
+part-on r log part s g h = of-log-longer part r.log log g (Each-at (IsMadeIn r.schema r.log) r.parts part s.made h).of_log
 
-pub part-within : (log : List Entry) (part : BlockPart) → IsOfCopy log part → part.made.place < length log
-part-within log part o = entry-below log part.made.place part.made.value o
+pub part-schema : (r : ReplicaView) (part : PartValue) → IsStandingReplica r → Has r.parts part → part.schema ≡ r.schema
+part-schema r part s h = (Each-at (IsMadeIn r.schema r.log) r.parts part s.made h).of_schema
+
+pub part-within : (log : List Entry) (part : PartValue) → IsOfLog log part → part.made.place < length log
+part-within log part o = entry-below log part.made.place part.made.value o.made
 
 -- marks that are all set
 pub all-set : (xs : List Bool) (n : ℕ) → length xs ≡ n → ((i : ℕ) → i < n → done_at xs i ≡ true) → xs ≡ replicate n true

@@ -5,3 +5,4 @@ pub mod Drained
 pub mod Newest
 pub mod TableSteps
 pub mod Reading
+pub mod Doing

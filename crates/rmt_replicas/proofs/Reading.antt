@@ -24,10 +24,11 @@ use Rattle.rmt_model.proofs.Drained.{fair-live}
 use Rattle.rmt_laws.proofs.Headline.{reads-plain-rows}
 use Rattle.rmt_model.proofs.Standing.{fair-more}
 use Rattle.rmt_queue.specs.Marks.{done_at}
-use Rattle.rmt_replica.specs.Parts.{BlockPart, part_names, shown}
+use Rattle.rmt_part.specs.Lineages.{PartValue}
+use Rattle.rmt_partset.specs.ActiveParts.{part_names, shown}
 use Rattle.rmt_replica.specs.Replicas.{ReplicaView, IsStandingReplica}
 use Rattle.rmt_replica.proofs.MarkLemmas.{past-false}
-use Rattle.rmt_replica.proofs.PartLemmas.{names-shown}
+use Rattle.rmt_partset.proofs.PartLists.{names-shown}
 use Rattle.rmt_replicas.specs.Following.{AreGets}
 use Rattle.rmt_replicas.specs.Tables.{Accepted, TableState, rows_by_number, IsReading, AreOf, accepted, block_at, Holds, IsReplicaAt}
 use Rattle.rmt_replicas.proofs.Gets.{gets-lawful}
@@ -106,12 +107,12 @@ content-one schema log bs n b g o e =
     within : n < length log
     within = let a = block-below bs n b e in let c = same-length log bs o in omega (arith, a, c)
 
-part-holds : (schema : Shape) (log : List Entry) (bs : List BlockView) (p : BlockPart) → AreGets log → AreOf log bs → Holds schema bs p → p.rows ≡ data_of schema (content schema log (rows_by_number (accepted bs)) p.name)
+part-holds : (schema : Shape) (log : List Entry) (bs : List BlockView) (p : PartValue) → AreGets log → AreOf log bs → Holds schema bs p → p.body ≡ data_of schema (content schema log (rows_by_number (accepted bs)) p.name)
 part-holds schema log bs p g o h =
-    h.is.rows
+    h.is.body
     ∙ ap (data_of schema) (sym (content-one schema log bs h.number h.block g o h.there) ∙ ap (content schema log (rows_by_number (accepted bs))) (sym h.is.named))
 
-parts-hold : (schema : Shape) (log : List Entry) (bs : List BlockView) (parts : List BlockPart) → AreGets log → AreOf log bs → Each (Holds schema bs) parts
+parts-hold : (schema : Shape) (log : List Entry) (bs : List BlockView) (parts : List PartValue) → AreGets log → AreOf log bs → Each (Holds schema bs) parts
     → data_in (shown parts) ≡ map (λ (a : Name). data_of schema (content schema log (rows_by_number (accepted bs)) a)) (names_in (shown parts))
 parts-hold schema log bs [] g o h = refl
 parts-hold schema log bs (p ∷ parts) g o h =

@@ -17,12 +17,14 @@ use Rattle.rmt_model.specs.Lawful.{entry_at, IsPrefix}
 use Rattle.rmt_model.proofs.Lists.{Each-at, Each-all}
 use Rattle.rmt_history.specs.Copies.{entries}
 use Rattle.rmt_model.proofs.Drops.{some-same, entry-older}
-use Rattle.rmt_history.proofs.Copied.{entries-snoc, length-entries, get-snoc}
+use Rattle.rmt_history.proofs.Copied.{entries-snoc, length-entries}
+use Rattle.rmt_history.proofs.ListLemmas.{get-snoc}
 use Rattle.rmt_entries.specs.Entries.{result_name}
 use Rattle.rmt_queue.specs.Marks.{grown, done_at}
-use Rattle.rmt_replica.specs.Parts.{BlockPart, IsGetOf}
+use Rattle.rmt_part.specs.Lineages.{PartValue}
+use Rattle.rmt_compact.specs.NewParts.{GetsBlock}
 use Rattle.rmt_replica.specs.Replicas.{ReplicaView}
-use Rattle.rmt_replicas.specs.Following.{AreGets, source_of, HasSource, HaveSources, Lags, IsNewest, TakesBlock, Drains}
+use Rattle.rmt_replicas.specs.Following.{AreGets, source_of, HasSource, HaveSources, Lags, AllLag, IsNewest, TakesBlock, Drains}
 use Rattle.rmt_replicas.specs.Tables.{AreOf, accepted, block_at, Holds, Follows, IsTable, IsNew, AreNew, table_of, learned, Accepted, ComesNext, with_block, synced, Accepts, known_at, TableState}
 use Rattle.rmt_model.specs.Content.{Row}
 use Rattle.rmt_replicas.proofs.Gets.{set-here, set-more}
@@ -58,7 +60,7 @@ block-newest x bs n e =
     let t : nat_eq n (length bs) ≡ true = grind (arith, nat_tests) in
     ap (λ (c : Bool). cond c (Some x) (block_at bs n)) t
 
-holds-older : (schema : Shape) (x : BlockView) (bs : List BlockView) (p : BlockPart) → Holds schema bs p → Holds schema (x ∷ bs) p
+holds-older : (schema : Shape) (x : BlockView) (bs : List BlockView) (p : PartValue) → Holds schema bs p → Holds schema (x ∷ bs) p
 holds-older schema x bs p h = record { number = h.number; block = h.block; there = block-older x bs h.number h.block h.there; is = h.is }
 
 -- a replica that lags follows the longer log
@@ -164,7 +166,7 @@ gets-on : (log : List Entry) (e : Entry) (n source : ℕ) (digest : List ℕ) �
 gets-on log e n source digest q l g = subst (λ (x : Entry). AreGets (x ∷ log)) (sym q) (refl, l, g)
 
 of-on : (log : List Entry) (e : Entry) (bs : List BlockView) (b : BlockView) (n source : ℕ) → e ≡ Get None n b.digest source 0 → b.partition ≡ None → AreOf log bs → AreOf (e ∷ log) (b ∷ bs)
-of-on log e bs b n source q p o = (subst (λ (x : Entry). IsGetOf x b) (sym q) (sym p, refl), o)
+of-on log e bs b n source q p o = (subst (λ (x : Entry). GetsBlock x b) (sym q) (sym p, refl), o)
 
 -- the newest entry is the block's
 pub is-newest : (schema : Shape) (tokens : List (Token Entry)) (r : ℕ) (t : Token Entry) (b : BlockView) → IsNext schema tokens r t b → IsNewest (entries (tokens ++ t ∷ [])) b
@@ -172,7 +174,7 @@ is-newest schema tokens r t b n = record {
   rest = entries tokens;
   entry = t.value;
   is = entries-snoc tokens t;
-  get = subst (λ (x : Entry). IsGetOf x b) (sym n.get) (sym n.partition, refl);
+  get = subst (λ (x : Entry). GetsBlock x b) (sym n.get) (sym n.partition, refl);
   makes = ap result_name n.get ∙ ap (λ k. Some (block_name None k)) (sym (length-entries tokens));
 }
 
@@ -259,8 +261,11 @@ map-more f (y ∷ xs) x = ap (λ zs. f y ∷ zs) (map-more f xs x)
 -- ---- the same of what a call hands over
 
 -- each replica of a table is up and has a prefix of the log
-pub all-lag : (schema : Shape) (log : List Entry) (bs : List BlockView) (replicas : List ReplicaView) → Each (Follows schema log bs) replicas → Each (Lags log) replicas
-all-lag schema log bs replicas k = Each-map (Follows schema log bs) (Lags log) replicas (λ x f. record { is_up = f.is_up; copied = f.copied }) k
+pub all-lag : (schema : Shape) (log : List Entry) (bs : List BlockView) (replicas : List ReplicaView) → Each (Follows schema log bs) replicas → AllLag log replicas
+all-lag schema log bs replicas k = record {
+  schema = schema;
+  each = Each-map (Follows schema log bs) (Lags schema log) replicas (λ x f. record { schema_is = f.schema_is; is_up = f.is_up; copied = f.copied }) k;
+}
 
 pub known-length : (schema : Shape) (tokens : List (Token Entry)) (bs : List BlockView) (replicas : List ReplicaView) (self : TableState) → table_of schema tokens bs replicas ≡ self → length self.known ≡ length replicas
 known-length schema tokens bs replicas self e = sym (ap (λ (x : TableState). length x.known) e) ∙ length-map replicas (λ r. r.done)

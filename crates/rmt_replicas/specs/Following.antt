@@ -2,19 +2,21 @@
 -- ClickHouse documentation, Data Replication: a replica pulls the entries of the log, and fetches parts from other replicas.
 use Rattle.std.specs.Prelude.{◌≡◌, ◌⊎◌, ℕ, ◌<◌, ◌+◌, ◌-◌, true, List, [], ◌∷◌, length, replicate, slice_get, slice_set}
 use Rattle.std.specs.declared.option.Option.TheVariants.{Some, None}
-use Rattle.rmt_values.specs.Rows.{Shape}
+use Rattle.rmt_values.specs.Rows.{Shape, in_key_order}
 use Rattle.rmt_names.specs.Names.{Name, Covers, block_name}
 use Rattle.rmt_entries.specs.declared.entry.Entry.{Entry}
 use Rattle.rmt_entries.specs.declared.entry.Entry.TheVariants.{Get, Merge, Mutate, Mutation, DropRange}
 use Rattle.rmt_block.specs.Blocks.{BlockView}
-use Rattle.rmt_model.specs.Words.{Has}
+use Rattle.rmt_model.specs.Words.{Has, Each}
 use Rattle.rmt_model.specs.Lawful.{entry_at, MakesAt, IsPrefix}
 use Rattle.rmt_queue.specs.Marks.{done_at, grown}
 use Rattle.rmt_replica.specs.declared.supply.Supply.{Supply}
 use Rattle.rmt_replica.specs.Supplies.{supplied}
 use Rattle.rmt_entries.specs.Entries.{result_name}
-use Rattle.rmt_replica.specs.Parts.{BlockPart, IsGetOf, rows_in}
-use Rattle.rmt_replica.specs.Replicas.{ReplicaView, IsOfCopy, IsStandingReplica}
+use Rattle.rmt_granules.specs.MadePart.{data_of}
+use Rattle.rmt_part.specs.Lineages.{PartValue, IsOfLog}
+use Rattle.rmt_compact.specs.NewParts.{GetsBlock}
+use Rattle.rmt_replica.specs.Replicas.{ReplicaView, IsStandingReplica}
 use Rattle.rmt_replica.specs.Answers.{Serves, IsOfTable}
 
 -- each entry is the Get of the block that its place is the number of, in a table of one partition
@@ -45,7 +47,7 @@ pub record Supplies (r : ReplicaView) (i : ℕ) (supply : Supply) : Type 0 where
 pub record DoesGet (old : ReplicaView) (i : ℕ) (supply : Supply) (new : ReplicaView) : Type 0 where
   pub copy : new.log ≡ old.log
   pub done : new.done ≡ slice_set old.done i true
-  pub parts : (p : BlockPart) → Has new.parts p → (supplied supply ≡ Some p) ⊎ Has old.parts p
+  pub parts : (p : PartValue) → Has new.parts p → (supplied supply ≡ Some p) ⊎ Has old.parts p
   pub schema_is : new.schema ≡ old.schema
   pub up : new.up ≡ old.up
 
@@ -71,27 +73,34 @@ pub record HasSource (log : List Entry) (replicas : List ReplicaView) (i : ℕ) 
 abbrev pub HaveSources : List Entry → List ReplicaView → Type 0
 HaveSources log replicas = (i : ℕ) → i < length log → HasSource log replicas i
 
--- the replica is up and has a prefix of the log
-pub record Lags (log : List Entry) (r : ReplicaView) : Type 0 where
+-- the replica is of a table of this schema, is up and has a prefix of the log
+pub record Lags (schema : Shape) (log : List Entry) (r : ReplicaView) : Type 0 where
+  pub schema_is : r.schema ≡ schema
   pub is_up : r.up ≡ true
   pub copied : IsPrefix r.log log
 
+-- so do all of these, which are of one table
+pub record AllLag (log : List Entry) (replicas : List ReplicaView) : Type 0 where
+  pub schema : Shape
+  pub each : Each (Lags schema log) replicas
+
 -- one of the replicas has the part
-pub record IsHeld (replicas : List ReplicaView) (part : BlockPart) : Type 0 where
+pub record IsHeld (replicas : List ReplicaView) (part : PartValue) : Type 0 where
   pub holder : ReplicaView
   pub among : Has replicas holder
   pub is_in : Has holder.parts part
 
 -- the replica, which stands, has this part, and it covers what the entry makes
-pub record IsPartAt (r : ReplicaView) (i : ℕ) (part : BlockPart) : Type 0 where
+pub record IsPartAt (r : ReplicaView) (i : ℕ) (part : PartValue) : Type 0 where
   pub is_in : Has r.parts part
   pub covers : Covers part.name (block_name None i)
   pub standing : IsStandingReplica r
 
--- one of the replicas has this part, which was made in the log and covers what the entry makes
-pub record IsFetched (replicas : List ReplicaView) (log : List Entry) (i : ℕ) (part : BlockPart) : Type 0 where
+-- one of the replicas has this part, which is of their table and of its log, and covers what the entry makes
+pub record IsFetched (replicas : List ReplicaView) (log : List Entry) (i : ℕ) (part : PartValue) : Type 0 where
   pub held : IsHeld replicas part
-  pub of_copy : IsOfCopy log part
+  pub of_table : Each (λ r. part.schema ≡ r.schema) replicas
+  pub of_log : IsOfLog log part
   pub covers : Covers part.name (block_name None i)
 
 -- no replica changes but the one at a place of the list, which has the log; a part that is new there is one that a replica
@@ -102,7 +111,7 @@ pub record ChangesAt (olds : List ReplicaView) (r : ℕ) (log : List Entry) (new
   pub was : slice_get olds r ≡ Some old
   pub others : news ≡ slice_set olds r new
   pub copy : new.log ≡ log
-  pub parts : (p : BlockPart) → Has new.parts p → IsHeld olds p
+  pub parts : (p : PartValue) → Has new.parts p → IsHeld olds p
   pub schema_is : new.schema ≡ old.schema
   pub up : new.up ≡ old.up
 
@@ -130,19 +139,18 @@ pub record IsNewest (log : List Entry) (b : BlockView) : Type 0 where
   pub rest : List Entry
   pub entry : Entry
   pub is : log ≡ entry ∷ rest
-  pub get : IsGetOf entry b
+  pub get : GetsBlock entry b
   pub makes : result_name entry ≡ Some (block_name None (length rest))
 
 -- the part of a block by its number
-pub record IsPartOfBlock (schema : Shape) (b : BlockView) (number : ℕ) (p : BlockPart) : Type 0 where
+pub record IsPartOfBlock (schema : Shape) (b : BlockView) (number : ℕ) (p : PartValue) : Type 0 where
   pub named : p.name ≡ block_name None number
-  pub block : p.block ≡ b
-  pub rows : p.rows ≡ rows_in schema b.rows
+  pub body : p.body ≡ data_of schema (in_key_order schema b.rows)
 
 -- the replica has the log, and has done its newest entry; a part that is new is that of the block
 pub record TakesBlock (old : ReplicaView) (schema : Shape) (log : List Entry) (b : BlockView) (new : ReplicaView) : Type 0 where
   pub copy : new.log ≡ log
   pub done : new.done ≡ slice_set (grown old.done (length log)) (length log - 1) true
-  pub parts : (p : BlockPart) → Has new.parts p → IsPartOfBlock schema b (length log - 1) p ⊎ Has old.parts p
+  pub parts : (p : PartValue) → Has new.parts p → IsPartOfBlock schema b (length log - 1) p ⊎ Has old.parts p
   pub schema_is : new.schema ≡ old.schema
   pub up : new.up ≡ old.up

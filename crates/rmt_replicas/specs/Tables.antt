@@ -21,7 +21,8 @@ use Rattle.rmt_model.specs.Lawful.{IsPrefix}
 use Rattle.rmt_row.specs.Token.{Token}
 use Rattle.rmt_history.specs.Copies.{entries}
 use Rattle.rmt_queue.specs.Marks.{grown, done_at}
-use Rattle.rmt_replica.specs.Parts.{BlockPart, IsGetOf}
+use Rattle.rmt_part.specs.Lineages.{PartValue}
+use Rattle.rmt_compact.specs.NewParts.{GetsBlock}
 use Rattle.rmt_replica.specs.Replicas.{ReplicaView}
 use Rattle.rmt_replicas.specs.Following.{AreGets, HaveSources, IsPartOfBlock}
 
@@ -101,7 +102,7 @@ abbrev pub AreOf : List Entry → List BlockView → Type 0
 AreOf [] [] = Unit {0}
 AreOf [] (b ∷ bs) = ⊥
 AreOf (e ∷ log) [] = ⊥
-AreOf (e ∷ log) (b ∷ bs) = IsGetOf e b × AreOf log bs
+AreOf (e ∷ log) (b ∷ bs) = GetsBlock e b × AreOf log bs
 
 -- the blocks with their numbers, newest first
 abbrev pub accepted : List BlockView → List Accepted
@@ -114,7 +115,7 @@ block_at [] n = None
 block_at (b ∷ bs) n = cond (nat_eq n (length bs)) (Some b) (block_at bs n)
 
 -- the part is of one of the blocks, and has its name and its rows
-pub record Holds (schema : Shape) (bs : List BlockView) (part : BlockPart) : Type 0 where
+pub record Holds (schema : Shape) (bs : List BlockView) (part : PartValue) : Type 0 where
   pub number : ℕ
   pub block : BlockView
   pub there : block_at bs number ≡ Some block

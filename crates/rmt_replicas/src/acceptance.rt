@@ -13,8 +13,9 @@ ghost use Rattle.rmt_replicas.specs.Following.{IsNewest, TakesBlock};
 use crate::get::do_get;
 use crate::pulls::pull;
 use rmt_block::Block;
+use rmt_compact::from_block;
 use rmt_entries::Entry;
-use rmt_replica::{Part, Replica, ReplicaError, Supply};
+use rmt_replica::{Replica, ReplicaError, Supply};
 use rmt_row::Seen;
 use rmt_values::Schema;
 use std::alloc::{AllocError, Global};
@@ -40,19 +41,20 @@ pub(crate) fn accept(
     log: &[Seen<Entry>],
     number: u32,
     block: Arc<Block, Global>,
-    schema: &Schema,
+    schema: &Arc<Schema, Global>,
 ) -> Result<(), AllocError>
     requires newest { IsNewest (entries log.now) (arc_value block) }
     requires copied { IsPrefix replica.old.log (entries log.now) }
     requires numbered { (i : ℕ) (t : Token OneEntry) → slice_get log.now i ≡ Some t → t.place ≡ i }
     requires lawful { Lawful replica.old.schema (entries log.now) }
-    requires fit { All (λ row. fits schema.now.columns row ≡ true) (arc_value block).rows }
+    requires fit { All (λ row. fits (arc_value schema.now).columns row ≡ true) (arc_value block).rows }
     requires up { replica.old.up ≡ true }
-    ensures { OnOk result (TakesBlock replica.old schema.now (entries log.now) (arc_value block) replica.new) }
+    requires schema { replica.old.schema ≡ arc_value schema.now }
+    ensures { OnOk result (TakesBlock replica.old (arc_value schema.now) (entries log.now) (arc_value block) replica.new) }
 {
     let place = log.len() - 1;
     let made = log[place].copy()?;
-    let part = Part::of_block(alloc, Arc::try_clone(&block)?, made, schema)?;
+    let part = from_block(alloc, Arc::try_clone(&block)?, made, schema)?;
     let part = Arc::new(alloc, part)?;
     stage(replica, number, block)?;
     pull(replica, log)?;

@@ -4,16 +4,16 @@ ghost use Rattle.std.specs.Arc.{arc_value};
 ghost use Rattle.std.specs.declared.option.Option.TheVariants.{Some};
 ghost use Rattle.rmt_row.specs.Token.{Token};
 ghost use Rattle.rmt_entries.specs.declared.entry.Entry.{Entry as OneEntry};
-ghost use Rattle.rmt_model.specs.Words.{Each};
 ghost use Rattle.rmt_history.specs.Copies.{entries};
 ghost use Rattle.rmt_queue.specs.Marks.{done_at};
 ghost use Rattle.rmt_replica.specs.Replicas.{ReplicaView};
-ghost use Rattle.rmt_replicas.specs.Following.{AreGets, CatchesUp, Drains, DrainsTo, HasSource, HaveSources, IsFetched, IsPartAt, Lags, source_of};
+ghost use Rattle.rmt_replicas.specs.Following.{AreGets, CatchesUp, Drains, DrainsTo, HasSource, HaveSources, IsFetched, IsPartAt, Lags, AllLag, source_of};
 
 use crate::get::do_get;
 use crate::pulls::pull;
 use rmt_entries::{Entry, result_of};
-use rmt_replica::{Part, Replica, Supply};
+use rmt_part::Part;
+use rmt_replica::{Replica, Supply};
 use rmt_row::Seen;
 use std::alloc::{AllocError, Global};
 use std::sync::Arc;
@@ -37,7 +37,7 @@ fn part_at(
 ) -> Result<Arc<Part, Global>, AllocError>
     requires place { i < length log.now }
     requires gets { AreGets (entries log.now) }
-    requires lags { Lags (entries log.now) replica.now }
+    requires lags { Lags replica.now.schema (entries log.now) replica.now }
     requires done { done_at replica.now.done i ≡ true }
     ensures { IfOk result (λ part. IsPartAt replica.now i (arc_value part)) }
 {
@@ -55,7 +55,7 @@ fn fetch(
 ) -> Result<Arc<Part, Global>, AllocError>
     requires place { i < length log.now }
     requires gets { AreGets (entries log.now) }
-    requires lag { Each (Lags (entries log.now)) replicas.now }
+    requires lag { AllLag (entries log.now) replicas.now }
     requires source { HasSource (entries log.now) replicas.now i }
     ensures { IfOk result (λ part. IsFetched replicas.now (entries log.now) i (arc_value part)) }
 {
@@ -76,7 +76,7 @@ fn catch_up(
     requires place { i < length log.now }
     requires copy { (x : ReplicaView) → slice_get replicas.old replica ≡ Some x → x.log ≡ entries log.now }
     requires gets { AreGets (entries log.now) }
-    requires lag { Each (Lags (entries log.now)) replicas.old }
+    requires lag { AllLag (entries log.now) replicas.old }
     requires source { HasSource (entries log.now) replicas.old i }
     ensures { OnOk result (CatchesUp replicas.old replica (entries log.now) i replicas.new) }
 {
@@ -93,7 +93,7 @@ fn start(replicas: &mut [Replica], replica: usize, log: &[Seen<Entry>]) -> Resul
     requires there { replica < length replicas.old }
     requires numbered { (i : ℕ) (t : Token OneEntry) → slice_get log.now i ≡ Some t → t.place ≡ i }
     requires gets { AreGets (entries log.now) }
-    requires lag { Each (Lags (entries log.now)) replicas.old }
+    requires lag { AllLag (entries log.now) replicas.old }
     ensures { IfOk result (λ first. DrainsTo replicas.old replica (entries log.now) first replicas.new) }
 {
     pull(&mut replicas[replica], log)?;
@@ -111,7 +111,7 @@ pub(crate) fn drain(
     requires there { replica < length replicas.old }
     requires numbered { (i : ℕ) (t : Token OneEntry) → slice_get log.now i ≡ Some t → t.place ≡ i }
     requires gets { AreGets (entries log.now) }
-    requires lag { Each (Lags (entries log.now)) replicas.old }
+    requires lag { AllLag (entries log.now) replicas.old }
     requires sources { HaveSources (entries log.now) replicas.old }
     ensures { OnOk result (Drains replicas.old replica (entries log.now) replicas.new) }
 {

@@ -3,23 +3,43 @@ use Rattle.std.proofs.lemmas.Grind.{common_steps}
 use Rattle.std.proofs.lemmas.Option.{gets}
 use Rattle.std.specs.Arc.{arc_value}
 use Rattle.std.specs.declared.option.Option.TheVariants.{Some}
-use Rattle.rmt_replica.specs.Parts.{BlockPart, IsBlockPart, rows_in}
 use Rattle.rmt_block.specs.Blocks.{BlockView}
-use Rattle.rmt_replicas.proofs.Newest.{supplies-newest, takes-block}
+use Rattle.rmt_entries.specs.declared.entry.Entry.{Entry}
+use Rattle.rmt_row.specs.Token.{Token}
+use Rattle.rmt_part.specs.Lineages.{PartValue}
+use Rattle.rmt_compact.specs.NewParts.{GetsBlock, IsOfBlock}
+use Rattle.rmt_replica.specs.Replicas.{ReplicaView}
+use Rattle.rmt_replicas.proofs.Newest.{last-value, supplies-newest, takes-block}
 use Rattle.rmt_replicas.proofs.acceptance.accept.Goals as goal
+
+pub from_block-requires-clause-get : goal.from_block-requires-clause-get
+from_block-requires-clause-get c =
+    let there : slice_get c.args.log.now (length c.args.log.now - 1) ≡ Some c.index-log-place.result = grind (arith, common_steps, gets) in
+    let value = last-value c.args.log.now (arc_value c.args.block) c.requires.newest (length c.args.log.now - 1) c.index-log-place.result refl there in
+    subst (λ (b : BlockView). GetsBlock c.in_ok-made.made.value b) (sym c.in_ok-try_clone.ensures)
+    (subst (λ (t : Token Entry). GetsBlock t.value (arc_value c.args.block)) (sym c.in_ok-made.ensures)
+    (subst (λ (e : Entry). GetsBlock e (arc_value c.args.block)) (sym value) c.requires.newest.get))
+
+module _ (c : goal.After-do_get-arg-1) where
+  there : slice_get c.args.log.now (length c.args.log.now - 1) ≡ Some c.index-log-place.result
+  there = grind (arith, common_steps, gets)
+
+  is : IsOfBlock (arc_value c.args.schema.now) c.index-log-place.result (arc_value c.args.block) (arc_value c.in_ok-part-2.part)
+  is =
+      subst (λ (p : PartValue). IsOfBlock (arc_value c.args.schema.now) c.index-log-place.result (arc_value c.args.block) p) (sym c.in_ok-part-2.ensures.ok)
+      (subst (λ (b : BlockView). IsOfBlock (arc_value c.args.schema.now) c.index-log-place.result b c.in_ok-part.part) c.in_ok-try_clone.ensures
+      (subst (λ (t : Token Entry). IsOfBlock (arc_value c.args.schema.now) t (arc_value c.in_ok-try_clone.field-0) c.in_ok-part.part) c.in_ok-made.ensures c.in_ok-part.ensures))
 
 pub do_get-requires-clause-supplies : goal.do_get-requires-clause-supplies
 do_get-requires-clause-supplies c =
-    let there : slice_get c.args.log.now (length c.args.log.now - 1) ≡ Some c.index-log-place.result = grind (arith, common_steps, gets) in
-    let part = c.in_ok-part-2.ensures.ok in
-    let made = ap (λ (p : BlockPart). p.made) part ∙ (c.in_ok-part.ensures.made ∙ c.in_ok-made.ensures) in
-    supplies-newest c.pull.new.replica c.args.log.now (arc_value c.args.block) c.index-log-place.result (length c.args.log.now - 1) c.in_ok-part-2.part c.requires.newest c.in_ok-pull.ensures.copy refl there (c.requires.numbered (length c.args.log.now - 1) c.index-log-place.result there) made (subst IsBlockPart (sym part) c.in_ok-part.ensures.part)
+    let schema = c.in_ok-pull.ensures.schema_is ∙ (ap (λ (r : ReplicaView). r.schema) c.in_ok-stage.ensures ∙ c.requires.schema) in
+    supplies-newest (arc_value c.args.schema.now) c.pull.new.replica c.args.log.now (arc_value c.args.block) c.index-log-place.result (length c.args.log.now - 1) c.in_ok-part-2.part c.requires.newest schema c.in_ok-pull.ensures.copy refl (there c) (c.requires.numbered (length c.args.log.now - 1) c.index-log-place.result (there c)) (is c)
 
 pub returns : goal.returns
 returns c =
     let there : slice_get c.args.log.now (length c.args.log.now - 1) ≡ Some c.index-log-place.result = grind (arith, common_steps, gets) in
-    let part = c.in_ok-part-2.ensures.ok in
-    let made = ap (λ (p : BlockPart). p.made) part ∙ (c.in_ok-part.ensures.made ∙ c.in_ok-made.ensures) in
-    let block = ap (λ (p : BlockPart). p.block) part ∙ (c.in_ok-part.ensures.block ∙ c.in_ok-try_clone.ensures) in
-    let rows = ap (λ (p : BlockPart). p.rows) part ∙ (c.in_ok-part.ensures.rows ∙ ap (λ (b : BlockView). rows_in c.args.schema.now b.rows) c.in_ok-try_clone.ensures) in
-    takes-block c.args.replica.now c.stage.new.replica c.pull.new.replica c.do_get.new.replica c.args.schema.now c.args.log.now (arc_value c.args.block) c.index-log-place.result (length c.args.log.now - 1) c.in_ok-part-2.part c.requires.newest refl there made (subst IsBlockPart (sym part) c.in_ok-part.ensures.part) block rows c.in_ok-stage.ensures c.in_ok-pull.ensures c.in_ok-do_get.ensures
+    let is =
+    subst (λ (p : PartValue). IsOfBlock (arc_value c.args.schema.now) c.index-log-place.result (arc_value c.args.block) p) (sym c.in_ok-part-2.ensures.ok)
+    (subst (λ (b : BlockView). IsOfBlock (arc_value c.args.schema.now) c.index-log-place.result b c.in_ok-part.part) c.in_ok-try_clone.ensures
+    (subst (λ (t : Token Entry). IsOfBlock (arc_value c.args.schema.now) t (arc_value c.in_ok-try_clone.field-0) c.in_ok-part.part) c.in_ok-made.ensures c.in_ok-part.ensures)) in
+    takes-block c.args.replica.now c.stage.new.replica c.pull.new.replica c.do_get.new.replica (arc_value c.args.schema.now) c.args.log.now (arc_value c.args.block) c.index-log-place.result (length c.args.log.now - 1) c.in_ok-part-2.part c.requires.newest refl there is c.in_ok-stage.ensures c.in_ok-pull.ensures c.in_ok-do_get.ensures

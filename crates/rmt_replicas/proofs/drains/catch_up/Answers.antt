@@ -5,7 +5,7 @@ use Rattle.rmt_entries.specs.declared.entry.Entry.{Entry}
 use Rattle.rmt_history.specs.Copies.{entries}
 use Rattle.rmt_history.proofs.Copied.{length-entries}
 use Rattle.rmt_replica.specs.Replicas.{IsStandingReplica}
-use Rattle.rmt_replicas.proofs.Places.{read-or}
+use Rattle.rmt_replicas.proofs.Places.{read-or, get-has}
 use Rattle.rmt_replicas.proofs.Drained.{supplied-by, caught-up, caught-none}
 use Rattle.rmt_replicas.proofs.drains.catch_up.Goals as goal
 
@@ -26,7 +26,7 @@ pub do_get-requires-clause-supplies : goal.do_get-requires-clause-supplies
 do_get-requires-clause-supplies c =
     let r = slice_index_or c.args.replicas.now c.args.replica c.index-replicas-replica-2.result in
     let there = read-or c.args.replicas.now c.args.replica c.index-replicas-replica-2.result c.requires.there in
-    supplied-by r c.args.replicas.now (entries c.args.log.now) c.args.i c.in_ok-part.part c.requires.gets (subst (λ k. c.args.i < k) (sym (length-entries c.args.log.now)) c.requires.place) (c.requires.copy r there) c.in_ok-part.ensures
+    supplied-by r c.args.replicas.now (entries c.args.log.now) c.args.i c.in_ok-part.part c.requires.gets (subst (λ k. c.args.i < k) (sym (length-entries c.args.log.now)) c.requires.place) (c.requires.copy r there) (get-has c.args.replicas.now c.args.replica r there) c.in_ok-part.ensures
 
 pub returns : goal.returns
 returns c =

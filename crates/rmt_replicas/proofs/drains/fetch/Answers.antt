@@ -1,4 +1,4 @@
-use Rattle.std.proofs.Common.{◌≡◌, ◌+◌, ℕ, ◌∙◌, true, arith, slice_get, slice_index_or, sym, subst, ap}
+use Rattle.std.proofs.Common.{refl, ◌≡◌, ◌+◌, ℕ, ◌∙◌, true, arith, slice_get, slice_index_or, sym, subst, ap}
 use Rattle.std.proofs.lemmas.Grind.{common_steps}
 use Rattle.std.proofs.lemmas.Option.{gets, same_Some, slice_get_within}
 use Rattle.std.specs.Prelude.{List}
@@ -48,7 +48,8 @@ part_at-requires-clause-lags c =
     let s = c.requires.source in
     let place = source-at c.args.log.now c.args.replicas.now c.args.i c.index-log-i.result c.value.result.now c.source_place-source.result s there c.value.ensures c.source_place-source.ensures in
     let same = replica-read c.args.replicas.now c.source_place-source.result s.replica c.index-replicas-source.result place c.index-replicas-source.is in
-    subst (Lags (entries c.args.log.now)) same (Each-get (Lags (entries c.args.log.now)) c.args.replicas.now s.place s.replica c.requires.lag s.there)
+    let at = Each-get (Lags c.requires.lag.schema (entries c.args.log.now)) c.args.replicas.now s.place s.replica c.requires.lag.each s.there in
+    subst (λ (x : ReplicaView). Lags x.schema (entries c.args.log.now) x) same (record { schema_is = refl; is_up = at.is_up; copied = at.copied })
 
 pub part_at-requires-clause-done : goal.part_at-requires-clause-done
 part_at-requires-clause-done c =

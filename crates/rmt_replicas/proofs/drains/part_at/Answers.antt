@@ -13,7 +13,7 @@ use Rattle.rmt_model.specs.Words.{Has}
 use Rattle.rmt_model.proofs.Drops.{some-same}
 use Rattle.rmt_history.specs.Copies.{entries}
 use Rattle.rmt_history.proofs.Copied.{token_at, length-entries}
-use Rattle.rmt_replica.specs.Parts.{IsCovering, part_names}
+use Rattle.rmt_partset.specs.ActiveParts.{IsCovering, part_names}
 use Rattle.rmt_replicas.specs.Following.{AreGets}
 use Rattle.rmt_replicas.proofs.Gets.{gets-prefix, makes-number, has-part, is-some, is-some-of}
 use Rattle.rmt_replicas.proofs.drains.part_at.Goals as goal

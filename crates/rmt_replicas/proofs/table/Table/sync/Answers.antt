@@ -5,14 +5,21 @@ use Rattle.rmt_row.specs.Token.{Token}
 use Rattle.rmt_entries.specs.declared.entry.Entry.{Entry}
 use Rattle.rmt_replica.specs.Replicas.{ReplicaView}
 use Rattle.rmt_history.specs.Copies.{entries}
-use Rattle.rmt_replicas.specs.Following.{Drains}
+use Rattle.rmt_replicas.specs.Following.{AllLag, Drains}
 use Rattle.rmt_replicas.specs.Tables.{IsTable, table_of}
-use Rattle.rmt_replicas.proofs.TableSteps.{drained-table, synced-view, written-back}
+use Rattle.rmt_replicas.proofs.TableSteps.{all-lag, drained-table, synced-view, written-back}
 use Rattle.rmt_replicas.proofs.table.Table.sync.Goals as goal
 
 -- what drain says, of the table's own list and log
 drained : (replicas olds news : List ReplicaView) (r : ℕ) (tokens all : List (Token Entry)) → olds ≡ replicas → all ≡ tokens → Drains olds r (entries all) news → Drains replicas r (entries tokens) news
 drained replicas olds news r tokens all e q d = subst (λ (rs : List ReplicaView). Drains rs r (entries tokens) news) e (subst (λ (ts : List (Token Entry)). Drains olds r (entries ts) news) q d)
+
+pub drain-requires-clause-lag : goal.drain-requires-clause-lag
+drain-requires-clause-lag c =
+    let i = c.table.inside in
+    subst (λ (rs : List ReplicaView). AllLag (entries c.deref.result.now) rs) (sym c.deref_mut.ensures.value)
+    (subst (λ (ts : List (Token Entry)). AllLag (entries ts) i.replicas.items) (sym c.deref.ensures.value)
+    (all-lag (arc_value i.schema) (entries i.log.items) (reverse (map arc_value i.blocks.items)) i.replicas.items c.table.invariant.follow))
 
 pub invariant_of-table : goal.invariant_of-table
 invariant_of-table c =

@@ -1,4 +1,4 @@
-use Rattle.std.proofs.Common.{◌<◌, map, reverse, subst, ◌∙◌}
+use Rattle.std.proofs.Common.{refl, ◌<◌, map, reverse, subst, ◌∙◌}
 use Rattle.std.specs.Prelude.{List}
 use Rattle.std.specs.Arc.{arc_value}
 use Rattle.rmt_row.specs.Token.{Token}
@@ -43,9 +43,9 @@ invariant_of-table c =
     let within = subst (λ n. c.args.replica < n) (known-length (arc_value i.schema) i.log.items bs i.replicas.items c.args.self c.table.view_is) c.requires.there in
     let there = read-at i.replicas.items c.args.replica r within c.index_mut.ensures.value in
     let blocks = blocks-more arc_value i.blocks.items c.push-2.new.self.items c.in_ok-try_clone.field-0 (arc_value c.args.block) c.in_ok-push-2.ensures.items c.in_ok-try_clone.ensures in
-    step-table (arc_value i.schema) c.deref-2.result.now i.log.items c.push.new.self.items bs (reverse (map arc_value c.push-2.new.self.items)) i.replicas.items r c.accept.new.replica c.args.self c.args.replica c.args.token (arc_value c.args.block)
-    (record { table = c.table.invariant; view = c.table.view_is; next = c.requires.next; all_is = c.in_ok-push.ensures.items }) there blocks c.deref-2.ensures
-    (subst (λ (ts : List (Token Entry)). TakesBlock r c.deref-2.result.now (entries ts) (arc_value c.args.block) c.accept.new.replica) c.deref.ensures.value c.in_ok-accept.ensures)
+    step-table (arc_value i.schema) (arc_value i.schema) i.log.items c.push.new.self.items bs (reverse (map arc_value c.push-2.new.self.items)) i.replicas.items r c.accept.new.replica c.args.self c.args.replica c.args.token (arc_value c.args.block)
+    (record { table = c.table.invariant; view = c.table.view_is; next = c.requires.next; all_is = c.in_ok-push.ensures.items }) there blocks refl
+    (subst (λ (ts : List (Token Entry)). TakesBlock r (arc_value i.schema) (entries ts) (arc_value c.args.block) c.accept.new.replica) c.deref.ensures.value c.in_ok-accept.ensures)
 
 pub returns : goal.returns
 returns c =
@@ -55,6 +55,6 @@ returns c =
     let within = subst (λ n. c.args.replica < n) (known-length (arc_value i.schema) i.log.items bs i.replicas.items c.args.self c.table.view_is) c.requires.there in
     let there = read-at i.replicas.items c.args.replica r within c.index_mut.ensures.value in
     let blocks = blocks-more arc_value i.blocks.items c.push-2.new.self.items c.in_ok-try_clone.field-0 (arc_value c.args.block) c.in_ok-push-2.ensures.items c.in_ok-try_clone.ensures in
-    step-view (arc_value i.schema) c.deref-2.result.now i.log.items c.push.new.self.items bs (reverse (map arc_value c.push-2.new.self.items)) i.replicas.items r c.accept.new.replica c.args.self c.args.replica c.args.token (arc_value c.args.block)
-    (record { table = c.table.invariant; view = c.table.view_is; next = c.requires.next; all_is = c.in_ok-push.ensures.items }) there blocks c.deref-2.ensures
-    (subst (λ (ts : List (Token Entry)). TakesBlock r c.deref-2.result.now (entries ts) (arc_value c.args.block) c.accept.new.replica) c.deref.ensures.value c.in_ok-accept.ensures)
+    step-view (arc_value i.schema) (arc_value i.schema) i.log.items c.push.new.self.items bs (reverse (map arc_value c.push-2.new.self.items)) i.replicas.items r c.accept.new.replica c.args.self c.args.replica c.args.token (arc_value c.args.block)
+    (record { table = c.table.invariant; view = c.table.view_is; next = c.requires.next; all_is = c.in_ok-push.ensures.items }) there blocks refl
+    (subst (λ (ts : List (Token Entry)). TakesBlock r (arc_value i.schema) (entries ts) (arc_value c.args.block) c.accept.new.replica) c.deref.ensures.value c.in_ok-accept.ensures)

@@ -1,7 +1,0 @@
-use Rattle.std.proofs.Common.{◌≡◌, map, take}
-use Rattle.std.specs.Arc.{arc_value}
-use Rattle.rmt_replica.specs.Parts.{shown}
-use Rattle.rmt_replica.proofs.views.named_parts.Given as goal
-
-abbrev pub invariant-parts : goal.invariant-parts
-invariant-parts l = l.all.items ≡ shown (map arc_value (take l.part-index l.parts))
