@@ -1,0 +1,2 @@
+pub mod PlayedLog
+pub mod PlayedParts

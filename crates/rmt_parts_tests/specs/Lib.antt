@@ -1,0 +1,2 @@
+pub use Rattle.rmt_compact.specs.NewParts
+pub mod PlayedParts
