@@ -240,8 +240,8 @@ mutated-part token old name tokens rows shape body blocks copy a is ts s d bs =
     below (t ∷ xs) f = ((let i = f.0.below in let j = AreMutated.reaches a in omega (arith, i, j)), below xs f.1)
 
 -- what the part is, by what went into it
-pub is-mutated : (token : Token Entry) (old : PartValue) (copy : History) (part : PartValue) (shape : Shape) (name : Name) (body : Data) (blocks : List AcceptedView) (tokens : List (Token Entry)) → part ≡ record { schema = shape; name = name; body = body; made = token; blocks = blocks; mutations = tokens } → shape ≡ old.schema → result_name token.value ≡ Some name → blocks ≡ old.blocks → entries_of tokens ≡ mutations_below copy.log (upto_of token.value + 1) → IsMutated token old copy part
-is-mutated token old copy part shape name body blocks tokens e s h bs ts = subst (IsMutated token old copy) (sym e) (record { schema = s; named = h; made = refl; blocks = bs; mutations = ts })
+pub is-mutated : (token : Token Entry) (old : PartValue) (copy : History) (part : PartValue) (shape : Shape) (name : Name) (body : Data) (blocks : List AcceptedView) (tokens : List (Token Entry)) → part ≡ record { schema = shape; name = name; body = body; made = token; blocks = blocks; mutations = tokens } → shape ≡ old.schema → result_name token.value ≡ Some name → blocks ≡ old.blocks → entries_of tokens ≡ mutations_below copy.log (upto_of token.value + 1) → Each (IsTokenBelow copy (upto_of token.value + 1)) tokens → IsMutated token old copy part
+is-mutated token old copy part shape name body blocks tokens e s h bs ts us = subst (IsMutated token old copy) (sym e) (record { schema = s; named = h; made = refl; blocks = bs; mutations = ts; tokens = us })
 
 -- ---- steps of loops
 

@@ -17,7 +17,7 @@ use Rattle.rmt_model.specs.Words.{Each}
 use Rattle.rmt_model.specs.Lawful.{Lawful}
 use Rattle.rmt_model.specs.Content.{chosen}
 use Rattle.rmt_history.specs.Copies.{History}
-use Rattle.rmt_history.specs.Mutations.{mutations_below}
+use Rattle.rmt_history.specs.Mutations.{mutations_below, IsTokenBelow}
 use Rattle.rmt_part.specs.Lineages.{AcceptedView, PartValue, entries_of, StandsIn, IsOfLog}
 
 -- ---- a block
@@ -102,13 +102,14 @@ upto_of (Merge new sources count) = 0
 upto_of (Mutation id numbers command) = 0
 upto_of (DropRange p n) = 0
 
--- the part is the old one after all mutations up to the new name's
+-- the part is the old one after all mutations up to the new name's. Their tokens are those of the copy
 pub record IsMutated (token : Token Entry) (old : PartValue) (copy : History) (part : PartValue) : Type 0 where
   pub schema : part.schema ≡ old.schema
   pub named : result_name token.value ≡ Some part.name
   pub made : part.made ≡ token
   pub blocks : part.blocks ≡ old.blocks
   pub mutations : entries_of part.mutations ≡ mutations_below copy.log (upto_of token.value + 1)
+  pub tokens : Each (IsTokenBelow copy (upto_of token.value + 1)) part.mutations
 
 -- ---- what only private functions cite
 

@@ -1,5 +1,5 @@
 //! The rows of a part after its pending mutations.
-ghost use Rattle.std.specs.Prelude.{◌≡◌, ◌<◌, ◌≤◌, drop, length, slice_get, IfOk};
+ghost use Rattle.std.specs.Prelude.{◌≡◌, ◌<◌, ◌≤◌, true, drop, length, slice_get, IfOk, IfSome};
 ghost use Rattle.std.specs.declared.option.Option.TheVariants.{Some};
 ghost use Rattle.std.specs.List.{filter_map};
 ghost use Rattle.rmt_model.specs.Content.{Row as Values, chosen, changed};
@@ -17,7 +17,7 @@ use rmt_values::Row;
 use std::alloc::{AllocError, Global};
 
 /// How many tokens come before the first whose mutation has a number in the partition, above `low` and at most `high`.
-/// They change no row of the partition.
+/// They change no row of the partition, and what comes next, if anything, is such a mutation.
 pub(crate) fn first_pending(
     tokens: &[Seen<Entry>],
     partition: PartitionId,
@@ -27,6 +27,7 @@ pub(crate) fn first_pending(
     ensures within { result ≤ length tokens.now }
     ensures unchanged { (row : Values) → changed (entries_of (drop result tokens.now)) partition (between low high) row
         ≡ changed (entries_of tokens.now) partition (between low high) row }
+    ensures first { IfSome (slice_get tokens.now result) (λ token. has_number_told token.value partition (between low high) ≡ true) }
 {
     'tokens: for (i, token) in tokens.iter().enumerate() {
         if has_number(token.value(), partition, low, high) {

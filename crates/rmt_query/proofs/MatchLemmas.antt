@@ -169,3 +169,10 @@ begins-before part p first last a b le ea eb =
   where
     suc-le : first ≤ last → first ≤ last + 1
     suc-le h = omega (arith, h)
+
+-- rows from where a granule begins to where a later one ends are in the granules from the first to the last
+pub rows-inside : (part : PartView) (first last i : ℕ) (a b : ℕ × ℕ) → Some a ≡ granule_of part first → Some b ≡ granule_of part last → a.0 ≤ i → i < b.1 → (first * part.granularity ≤ i) × (i < (last + 1) * part.granularity)
+rows-inside part first last i a b ea eb le lt =
+    let u = granule-parts part first a ea in
+    let v = granule-parts part last b eb in
+    (omega (arith, u.1, le), omega (arith, v.2, lt))

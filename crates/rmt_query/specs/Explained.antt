@@ -1,6 +1,6 @@
 -- How many granules a query reads.
 -- ClickHouse documentation: EXPLAIN indexes (parts and granules chosen).
-use Rattle.std.specs.Prelude.{◌≡◌, ℕ, ◌-◌, ◌<◌, ◌≤◌, ◌↔◌, List, [], ◌∷◌, length}
+use Rattle.std.specs.Prelude.{◌≡◌, ℕ, ◌-◌, ◌*◌, ◌<◌, ◌≤◌, ◌↔◌, List, [], ◌∷◌, length}
 use Rattle.std.specs.declared.option.Option.{Option}
 use Rattle.std.specs.declared.option.Option.TheVariants.{Some, None}
 use Rattle.rmt_values.specs.declared.checked.Checked.{Checked}
@@ -31,3 +31,19 @@ abbrev pub AreExplained : Option Checked → List Name → List PartView → Lis
 AreExplained condition [] [] [] = Unit {0}
 AreExplained condition (a ∷ names) (p ∷ ps) (n ∷ ns) = (n.0 ≡ a) × IsCounted condition p (n.1, n.2) × AreExplained condition names ps ns
 AreExplained condition names ps ns = ⊥
+
+-- ---- what only private functions cite
+
+-- the rows of a part, from the first on up to the one past the last, are in granules that a filter chooses
+pub record AreRowsChosen (part : PartView) (filter : Checked) (rows : ℕ × ℕ) : Type 0 where
+  pub range : KeyRange
+  pub is_range : IsRangeOf part.key filter range
+  pub first : ℕ
+  pub past : ℕ
+  pub chosen : (g : ℕ) → g < length part.marks → ((first ≤ g) × (g < past)) ↔ IsChosen range.low range.high part.marks g
+  pub within : (i : ℕ) → rows.0 ≤ i → i < rows.1 → (first * part.granularity ≤ i) × (i < past * part.granularity)
+
+-- the same; without a filter they may be all
+abbrev pub AreInChosen : Option Checked → PartView → ℕ × ℕ → Type 0
+AreInChosen None part rows = Unit {0}
+AreInChosen (Some f) part rows = AreRowsChosen part f rows

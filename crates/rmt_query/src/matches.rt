@@ -8,6 +8,7 @@ ghost use Rattle.rmt_values.specs.Rows.{key_of};
 ghost use Rattle.rmt_changes.specs.Changes.{entries_of};
 ghost use Rattle.rmt_changes.specs.Laws.{EntryFits};
 ghost use Rattle.rmt_query.specs.Answers.{matches as matches_filter, matching};
+ghost use Rattle.rmt_query.specs.Explained.{AreInChosen};
 ghost use Rattle.rmt_query.specs.ReadRows.{row_read, rows_of_part, rows_read};
 
 use rmt_changes::{keys_stay, pending_row};
@@ -125,8 +126,8 @@ fn matches(filter: &Option<Checked>, row: &Row) -> bool
     }
 }
 
-/// The rows of the granules that a filter chooses, from the first to past the last: no row is outside them whose key is
-/// that of a row that matches.
+/// The rows of the granules that a filter chooses, and no others, from the first to past the last: no row is outside them
+/// whose key is that of a row that matches.
 fn rows_to_read(
     part: &PartData,
     filter: &Option<Checked>,
@@ -138,6 +139,7 @@ fn rows_to_read(
     ensures others { IfOk result (λ r. (i : ℕ) (row : List OneValue) → i < length part.now.rows
         → key_of schema.now.key row ≡ key_of schema.now.key (slice_index_or part.now.rows i [])
         → matches_filter filter.now row ≡ true → (r.0 ≤ i) × (i < r.1)) }
+    ensures chosen { IfOk result (AreInChosen filter.now part.now) }
 {
     match filter {
         None => Ok((0, part.rows())),
@@ -158,6 +160,8 @@ fn rows_of_granules(part: &PartData, first: usize, past: usize) -> (usize, usize
     ensures bound { result.1 ≤ length part.now.rows }
     ensures within { (i : ℕ) → i < length part.now.rows → first * part.now.granularity ≤ i
         → i < past * part.now.granularity → (result.0 ≤ i) × (i < result.1) }
+    ensures only { (i : ℕ) → result.0 ≤ i → i < result.1
+        → (first * part.now.granularity ≤ i) × (i < past * part.now.granularity) }
 {
     let _marks = part.marks();
     if first == past {

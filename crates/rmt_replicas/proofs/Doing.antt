@@ -1,5 +1,5 @@
 -- What a replica has after it has done an entry that makes a part.
-use Rattle.std.proofs.Common.{◌≡◌, ℕ, ◌⊎◌, inl, inr, List, refl, sym, ap, subst, ◌∙◌}
+use Rattle.std.proofs.Common.{◌≡◌, ℕ, ◌⊎◌, inl, inr, List, sym, ap, subst}
 use Rattle.std.specs.Prelude.{MatchOption}
 use Rattle.std.specs.declared.option.Option.{Option}
 use Rattle.std.specs.declared.option.Option.TheVariants.{Some, None}
@@ -8,7 +8,7 @@ use Rattle.rmt_entries.specs.Entries.{result_name}
 use Rattle.rmt_entries.specs.declared.entry.Entry.{Entry}
 use Rattle.rmt_entries.specs.declared.entry.Entry.TheVariants.{Get, Merge, Mutate, Mutation, DropRange}
 use Rattle.rmt_model.specs.Words.{Has}
-use Rattle.rmt_model.specs.Lawful.{entry_at, MakesAt}
+use Rattle.rmt_model.specs.Lawful.{MakesAt}
 use Rattle.rmt_part.specs.Lineages.{PartValue}
 use Rattle.rmt_partset.specs.ActiveParts.{Replace, after}
 use Rattle.rmt_replica.specs.declared.supply.Supply.{Supply}
@@ -46,6 +46,7 @@ only-settled old new i supply e = record {
   parts = λ p h. inr (subst (λ (ps : List PartValue). Has ps p) (ap (λ (r : ReplicaView). r.parts) e) h);
   schema_is = ap (λ (r : ReplicaView). r.schema) e;
   up = ap (λ (r : ReplicaView). r.up) e;
+  staged = ap (λ (r : ReplicaView). r.staged) e;
 }
 
 -- whatever the answer, the entry is done
@@ -58,4 +59,5 @@ does-get old new i supply applied.Installed s d = record {
   parts = done-others old new i s.name supply s.makes d;
   schema_is = ap (λ (r : ReplicaView). r.schema) d.others;
   up = ap (λ (r : ReplicaView). r.up) d.others;
+  staged = ap (λ (r : ReplicaView). r.staged) d.others;
 }

@@ -13,8 +13,6 @@ use Rattle.rmt_model.specs.Words.{Has, Each}
 use Rattle.rmt_model.proofs.Lists.{Each-at, Each-all}
 use Rattle.rmt_model.specs.Lawful.{MakesAt}
 use Rattle.rmt_queue.specs.Marks.{done_at}
-use Rattle.rmt_values.specs.Rows.{Shape}
-use Rattle.rmt_row.specs.Token.{Token}
 use Rattle.rmt_part.specs.Lineages.{PartValue, IsOfLog, StandsIn, AgreesWith}
 use Rattle.rmt_replica.specs.Replicas.{ReplicaView, IsStandingReplica}
 use Rattle.rmt_replica.specs.declared.supply.Supply.TheVariants.{Fetched}

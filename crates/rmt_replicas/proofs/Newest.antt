@@ -5,6 +5,7 @@ use Rattle.std.specs.Prelude.{slice_get, slice_set}
 use Rattle.std.specs.Arc.{arc_value}
 use Rattle.std.specs.declared.sync.Arc.{Arc}
 use Rattle.std.specs.declared.alloc.Global.{Global}
+use Rattle.std.specs.declared.option.Option.{Option}
 use Rattle.std.specs.declared.option.Option.TheVariants.{Some, None}
 use Rattle.rmt_values.specs.Rows.{Shape}
 use Rattle.rmt_names.specs.Names.{Name, Covers, block_name}
@@ -19,8 +20,10 @@ use Rattle.rmt_model.proofs.Drops.{some-same}
 use Rattle.rmt_history.specs.Copies.{entries}
 use Rattle.rmt_history.proofs.Copied.{token_at, length-entries}
 use Rattle.rmt_replica.specs.declared.supply.Supply.TheVariants.{Built}
-use Rattle.rmt_part.specs.Lineages.{AcceptedView, PartValue, StandsIn, AgreesWith}
+use Rattle.rmt_part.specs.Lineages.{PartValue, number_got, StandsIn, AgreesWith}
 use Rattle.rmt_compact.specs.NewParts.{IsOfBlock}
+use Rattle.rmt_replica.specs.StagedBlocks.{Staged, with_staged}
+use Rattle.rmt_replica.specs.Answers.{released}
 use Rattle.rmt_replica.specs.Replicas.{ReplicaView}
 use Rattle.rmt_replicas.specs.Following.{IsNewest, IsPartOfBlock, Supplies, Pulls, DoesGet, TakesBlock}
 use Rattle.rmt_queue.specs.Marks.{grown}
@@ -72,7 +75,7 @@ supplies-newest schema r tokens b t place part n w l e q tp k =
 
 pub takes-block : (old staged pulled new : ReplicaView) (schema : Shape) (tokens : List (Token Entry)) (b : BlockView) (t : Token Entry) (place : ℕ) (part : Arc PartValue Global) → IsNewest (entries tokens) b → place ≡ length tokens - 1
     → slice_get tokens place ≡ Some t → IsOfBlock schema t b (arc_value part)
-    → staged ≡ record old { staged = staged.staged } → Pulls staged (entries tokens) pulled → DoesGet pulled place (Built part) new → TakesBlock old schema (entries tokens) b new
+    → staged ≡ record old { staged = with_staged old.staged (record { partition = b.partition; number = number_got t.value }) b } → Pulls staged (entries tokens) pulled → DoesGet pulled place (Built part) new → TakesBlock old schema (entries tokens) b new
 takes-block old staged pulled new schema tokens b t place part n e q k s p d = record {
   copy = d.copy ∙ p.copy;
   done = d.done ∙ (ap (λ (ds : List Bool). slice_set ds place true) (p.done ∙ ap (λ (r : ReplicaView). grown r.done (length (entries tokens))) s) ∙ ap (λ i. slice_set (grown old.done (length (entries tokens))) i true) last);
@@ -82,6 +85,12 @@ takes-block old staged pulled new schema tokens b t place part n e q k s p d = r
   ];
   schema_is = d.schema_is ∙ (p.schema_is ∙ ap (λ (r : ReplicaView). r.schema) s);
   up = d.up ∙ (p.up ∙ ap (λ (r : ReplicaView). r.up) s);
+  newest = t.value;
+  stands = ap (λ i. entry_at (entries tokens) i) (sym last) ∙ token_at tokens place t q;
+  staged = d.staged
+      ∙ (ap (λ (l : List Entry). released (entry_at l place) pulled.staged) p.copy
+      ∙ (ap (λ (o : Option Entry). released o pulled.staged) (token_at tokens place t q)
+      ∙ ap (λ (x : Staged). released (Some t.value) x) (p.staged ∙ ap (λ (r : ReplicaView). r.staged) s)));
 }
   where
     last : place ≡ length (entries tokens) - 1

@@ -20,6 +20,7 @@ pub record PulledTo (old : ReplicaView) (tokens : List (Token Entry)) (i : ℕ) 
   pub parts : r.parts ≡ old.parts
   pub schema_is : r.schema ≡ old.schema
   pub up : r.up ≡ old.up
+  pub staged : r.staged ≡ old.staged
 
 map-append-is : {A B : Type 0} (f : A → B) (xs ys : List A) → map f (xs ++ ys) ≡ map f xs ++ map f ys
 map-append-is f [] ys = refl
@@ -71,6 +72,7 @@ pulled-start old tokens start s g e = record {
   parts = refl;
   schema_is = refl;
   up = refl;
+  staged = refl;
 }
   where
     within : start ≤ length tokens
@@ -131,6 +133,7 @@ pulled-on old tokens i r new t cell p l e q = record {
   parts = ap (λ (x : ReplicaView). x.parts) q ∙ p.parts;
   schema_is = ap (λ (x : ReplicaView). x.schema) q ∙ p.schema_is;
   up = ap (λ (x : ReplicaView). x.up) q ∙ p.up;
+  staged = ap (λ (x : ReplicaView). x.staged) q ∙ p.staged;
 }
 
 pub pulled-all : (old : ReplicaView) (tokens : List (Token Entry)) (i : ℕ) (r : ReplicaView) → PulledTo old tokens i r → i ≡ length tokens → Pulls old (entries tokens) r
@@ -140,4 +143,5 @@ pulled-all old tokens i r p e = record {
   parts = p.parts;
   schema_is = p.schema_is;
   up = p.up;
+  staged = p.staged;
 }

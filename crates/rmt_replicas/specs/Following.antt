@@ -14,10 +14,11 @@ use Rattle.rmt_replica.specs.declared.supply.Supply.{Supply}
 use Rattle.rmt_replica.specs.Supplies.{supplied}
 use Rattle.rmt_entries.specs.Entries.{result_name}
 use Rattle.rmt_granules.specs.MadePart.{data_of}
-use Rattle.rmt_part.specs.Lineages.{PartValue, IsOfLog}
+use Rattle.rmt_part.specs.Lineages.{PartValue, number_got, IsOfLog}
 use Rattle.rmt_compact.specs.NewParts.{GetsBlock}
 use Rattle.rmt_replica.specs.Replicas.{ReplicaView, IsStandingReplica}
-use Rattle.rmt_replica.specs.Answers.{Serves, IsOfTable}
+use Rattle.rmt_replica.specs.StagedBlocks.{with_staged}
+use Rattle.rmt_replica.specs.Answers.{Serves, IsOfTable, released}
 
 -- each entry is the Get of the block that its place is the number of, in a table of one partition
 abbrev pub AreGets : List Entry → Type 0
@@ -35,6 +36,7 @@ pub record Pulls (old : ReplicaView) (log : List Entry) (new : ReplicaView) : Ty
   pub parts : new.parts ≡ old.parts
   pub schema_is : new.schema ≡ old.schema
   pub up : new.up ≡ old.up
+  pub staged : new.staged ≡ old.staged
 
 -- what is supplied serves the entry
 pub record Supplies (r : ReplicaView) (i : ℕ) (supply : Supply) : Type 0 where
@@ -50,6 +52,7 @@ pub record DoesGet (old : ReplicaView) (i : ℕ) (supply : Supply) (new : Replic
   pub parts : (p : PartValue) → Has new.parts p → (supplied supply ≡ Some p) ⊎ Has old.parts p
   pub schema_is : new.schema ≡ old.schema
   pub up : new.up ≡ old.up
+  pub staged : new.staged ≡ released (entry_at old.log i) old.staged
 
 -- the replica that accepted the block of an entry, counted from 1; 0 where it is no Get
 abbrev pub source_of : Entry → ℕ
@@ -147,10 +150,14 @@ pub record IsPartOfBlock (schema : Shape) (b : BlockView) (number : ℕ) (p : Pa
   pub named : p.name ≡ block_name None number
   pub body : p.body ≡ data_of schema (in_key_order schema b.rows)
 
--- the replica has the log, and has done its newest entry; a part that is new is that of the block
+-- the replica has the log, and has done its newest entry; a part that is new is that of the block, which was staged under
+-- the number of that entry, and was let go
 pub record TakesBlock (old : ReplicaView) (schema : Shape) (log : List Entry) (b : BlockView) (new : ReplicaView) : Type 0 where
   pub copy : new.log ≡ log
   pub done : new.done ≡ slice_set (grown old.done (length log)) (length log - 1) true
   pub parts : (p : PartValue) → Has new.parts p → IsPartOfBlock schema b (length log - 1) p ⊎ Has old.parts p
   pub schema_is : new.schema ≡ old.schema
   pub up : new.up ≡ old.up
+  pub newest : Entry
+  pub stands : entry_at log (length log - 1) ≡ Some newest
+  pub staged : new.staged ≡ released (Some newest) (with_staged old.staged (record { partition = b.partition; number = number_got newest }) b)

@@ -8,6 +8,8 @@ ghost use Rattle.rmt_row.specs.Token.{Token};
 ghost use Rattle.rmt_entries.specs.declared.entry.Entry.{Entry as OneEntry};
 ghost use Rattle.rmt_model.specs.Lawful.{Lawful, IsPrefix};
 ghost use Rattle.rmt_history.specs.Copies.{entries};
+ghost use Rattle.rmt_part.specs.Lineages.{number_got};
+ghost use Rattle.rmt_replica.specs.StagedBlocks.{with_staged};
 ghost use Rattle.rmt_replicas.specs.Following.{IsNewest, TakesBlock};
 
 use crate::get::do_get;
@@ -24,7 +26,7 @@ use std::sync::Arc;
 /// Stages a block at a replica that is up. At an error no memory was left.
 fn stage(replica: &mut Replica, number: u32, block: Arc<Block, Global>) -> Result<(), AllocError>
     requires { replica.old.up ≡ true }
-    ensures { OnOk result (replica.new ≡ record replica.old { staged = replica.new.staged }) }
+    ensures { OnOk result (replica.new ≡ record replica.old { staged = with_staged replica.old.staged (record { partition = (arc_value block).partition; number = number }) (arc_value block) }) }
 {
     match replica.stage(number, block) {
         Ok(()) => Ok(()),
@@ -33,13 +35,22 @@ fn stage(replica: &mut Replica, number: u32, block: Arc<Block, Global>) -> Resul
     }
 }
 
-/// Stages a block, pulls the log, whose newest entry is the block's Get, and does that entry. At an error no memory was
-/// left.
+/// The number of a Get's block; 0 for what is no Get.
+fn number_of(entry: &Entry) -> u32
+    ensures { result ≡ number_got entry.now }
+{
+    match entry {
+        Entry::Get { number, .. } => *number,
+        _ => 0,
+    }
+}
+
+/// Stages a block under the number of its Get, which is the newest entry of the log, pulls the log, and does that entry,
+/// which lets the staged block go. At an error no memory was left.
 pub(crate) fn accept(
     alloc: Global,
     replica: &mut Replica,
     log: &[Seen<Entry>],
-    number: u32,
     block: Arc<Block, Global>,
     schema: &Arc<Schema, Global>,
 ) -> Result<(), AllocError>
@@ -54,6 +65,7 @@ pub(crate) fn accept(
 {
     let place = log.len() - 1;
     let made = log[place].copy()?;
+    let number = number_of(made.value());
     let part = from_block(alloc, Arc::try_clone(&block)?, made, schema)?;
     let part = Arc::new(alloc, part)?;
     stage(replica, number, block)?;

@@ -85,7 +85,6 @@ impl Table {
         self,
         alloc: Global,
         replica: usize,
-        number: u32,
         token: Seen<Entry>,
         block: Arc<Block, Global>,
     ) -> Result<Table, AllocError>
@@ -100,7 +99,6 @@ impl Table {
             alloc,
             &mut table.replicas[replica],
             &table.log,
-            number,
             block,
             &table.schema,
         )?;
@@ -125,7 +123,7 @@ impl Table {
         let source = self.number(replica);
         let block = Arc::new(alloc, Block::new(alloc, rows, &self.schema)?)?;
         let token = Seen::of(place, Arc::new(alloc, get_of(&block, number, source))?);
-        let table = self.take(alloc, replica, number, token, block)?;
+        let table = self.take(alloc, replica, token, block)?;
         Ok((table, block_name(None, number)))
     }
 

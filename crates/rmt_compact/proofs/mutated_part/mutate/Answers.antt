@@ -69,3 +69,4 @@ returns c =
     (sym (ap result_name c.value.ensures) ∙ c.made_name-name.ensures)
     (one-end _ c.push_blocks.new.all.items (PartValue.blocks old) (c.in_ok-push_blocks.ensures ∙ ap (λ (l : List AcceptedView). c.new-blocks.result.items ++ l) (c.blocks-2.ensures ∙ ap (λ (p : PartValue). p.blocks) c.deref-7.ensures)) c.new-blocks.ensures.items)
     (c.in_ok-mutations.ensures.entries ∙ ap (λ n. mutations_below c.args.copy.now.log (n + 1)) (c.upto_of.ensures ∙ ap upto_of c.value-2.ensures))
+    (subst (λ n. Each (IsTokenBelow c.args.copy.now (n + 1)) (arc_value c.in_ok-mutations.mutations)) (c.upto_of.ensures ∙ ap upto_of c.value-2.ensures) c.in_ok-mutations.ensures.places)
