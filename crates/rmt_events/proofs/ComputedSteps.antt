@@ -12,7 +12,9 @@ use Rattle.rmt_model.specs.Lawful.{mutation_count}
 use Rattle.rmt_quorums.specs.Quorum.{quorum_after_block, quorum_after_drop}
 use Rattle.rmt_queue.specs.Marks.{grown}
 use Rattle.rmt_events.specs.Views.{Block, Replica}
-use Rattle.rmt_events.specs.TableCalls.{next_number, with_next, next_numbers_after, with_lock, with_session, locks_without, locks_without_below, window_with, window_without, kept_part, IsLocked, allocate_limit, commit_limit, mutation_limit, drop_limit}
+use Rattle.rmt_limits.specs.BlockNumbers.{next_number, with_next, next_numbers_after}
+use Rattle.rmt_limits.specs.EntryLimits.{allocate_limit, commit_limit, mutation_limit, drop_limit}
+use Rattle.rmt_events.specs.TableCalls.{with_lock, with_session, locks_without, locks_without_below, window_with, window_without, kept_part, IsLocked}
 use Rattle.rmt_events.specs.ReplicaCalls.{IsStaged, staged_with, staged_without}
 use Rattle.rmt_events.specs.Clusters.{Attempt, Cluster, without_kinds, with_replica, values_of}
 use Rattle.rmt_events.specs.ClusterChanges.{IsNumbered, IsAttempt, attempts_without}
@@ -82,7 +84,7 @@ committed s id a = record s {
   attempts = attempts_without s.attempts id;
 }
 
-pub commits : (s : Cluster) (id : ℕ) (a : Attempt) (x : Replica) → IsAttempt s id a → IsNumbered s a.replica x → IsStaged x a.block.partition a.number a.block → HasQuorum s.table a.need → IsLocked s.table.locks a.block.partition a.number → kept_part s.table.window a.block.partition a.block.digest ≡ None → commit_limit s.table (values_of s.table.schema a.block.rows) ≡ None
+pub commits : (s : Cluster) (id : ℕ) (a : Attempt) (x : Replica) → IsAttempt s id a → IsNumbered s a.replica x → IsStaged x a.block.partition a.number a.block → HasQuorum s.table a.need → IsLocked s.table.locks a.block.partition a.number → kept_part s.table.window a.block.partition a.block.digest ≡ None → commit_limit s.table.log s.table.values (values_of s.table.schema a.block.rows) ≡ None
     → Step s (ev.Commit id) (rp.Entry (length s.table.log)) (with_event (committed s id a) (ev.Commit id) (rp.Entry (length s.table.log)))
 commits s id a x i n z q l u w =
     record {

@@ -1,5 +1,5 @@
 -- Turns of a generator keep a whole cluster whole.
-use Rattle.std.proofs.Common.{◌≡◌, ℕ, zero, suc, subst, sym}
+use Rattle.std.proofs.Common.{ℕ, zero, suc, subst, sym}
 use Rattle.rmt_events.specs.Clusters.{Cluster}
 use Rattle.rmt_events.specs.Whole.{IsWhole}
 use Rattle.rmt_events.specs.Draws.{Runs, turn}

@@ -15,7 +15,9 @@ use Rattle.rmt_model.proofs.Drops.{fresh}
 use Rattle.rmt_quorums.specs.Quorum.{quorum_after_block, quorum_after_drop, quorum_after_note}
 use Rattle.rmt_quorums.proofs.QuorumLemmas.{quorum-stays, quorum-block, quorum-drop, quorum-note}
 use Rattle.rmt_events.specs.Views.{Lock, Table}
-use Rattle.rmt_events.specs.TableCalls.{next_number, with_next, next_numbers_after, precedes, with_lock, with_session, IsLocked, holds_number, locks_without, locks_without_below, window_with, window_without, with_entry, Allocates, Commits, Unlocks, AssignsMerge, AssignsMutate, CreatesMutation, DropsPartition, Closes, Opens, Notes, client_count, commit_limit}
+use Rattle.rmt_limits.specs.BlockNumbers.{next_number, with_next, next_numbers_after}
+use Rattle.rmt_limits.specs.EntryLimits.{client_count, commit_limit}
+use Rattle.rmt_events.specs.TableCalls.{precedes, with_lock, with_session, IsLocked, holds_number, locks_without, locks_without_below, window_with, window_without, with_entry, Allocates, Commits, Unlocks, AssignsMerge, AssignsMutate, CreatesMutation, DropsPartition, Closes, Opens, Notes}
 use Rattle.rmt_events.specs.Sound.{IsFree, IsSoundTable}
 use Rattle.rmt_events.proofs.Numbers.{next-with, next-other, taken-with, ordered-with, next-advanced, next-past, ordered-advanced, taken-advanced, has-next, next-has}
 use Rattle.rmt_events.proofs.Fresh.{fresh-get, fresh-merge, fresh-mutate, fresh-mutation, fresh-drop}
@@ -179,7 +181,7 @@ lock-below : (t : Table) (p : Option ℕ) (n : ℕ) → IsSoundTable t → IsLoc
 lock-below t p n s l =
     subst (λ (o : Option ℕ). n < next_number t.next o) l.partition (subst (λ m. m < next_number t.next (Lock.partition l.lock)) l.number (IsFree.below (Each-at (IsFree t) t.locks l.lock s.locks l.is_in)))
 
-few-values : (t : Table) (values : ℕ) → commit_limit t values ≡ None → t.values + values ≤ 8388608
+few-values : (t : Table) (values : ℕ) → commit_limit t.log t.values values ≡ None → t.values + values ≤ 8388608
 few-values t values h = go (nat_le 32768 (client_count t.log)) (nat_lt 8388608 (t.values + values)) refl h
   where
     go : (a b : Bool) → nat_lt 8388608 (t.values + values) ≡ b → cond {A = Option (Limit × ℕ)} a (Some (limits.ClientEntries, client_count t.log)) (cond {A = Option (Limit × ℕ)} b (Some (limits.Values, t.values)) None) ≡ None → t.values + values ≤ 8388608

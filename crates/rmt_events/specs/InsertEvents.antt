@@ -8,7 +8,8 @@ use Rattle.rmt_names.specs.Names.{Name}
 use Rattle.rmt_model.specs.Words.{Has}
 use Rattle.rmt_quorums.specs.Quorum.{Pending}
 use Rattle.rmt_events.specs.Views.{Block, Replica, Table}
-use Rattle.rmt_events.specs.TableCalls.{allocate_limit, commit_limit, IsLocked, kept_part, Allocates, Commits, Unlocks}
+use Rattle.rmt_limits.specs.EntryLimits.{allocate_limit, commit_limit}
+use Rattle.rmt_events.specs.TableCalls.{IsLocked, kept_part, Allocates, Commits, Unlocks}
 use Rattle.rmt_events.specs.ReplicaCalls.{IsStaged, Stages, Unstages}
 use Rattle.rmt_events.specs.Clusters.{values_of, Attempt, Cluster, with_replica}
 use Rattle.rmt_events.specs.ClusterChanges.{IsNumbered, IsAttempt, LacksAttempt, attempts_without, AtReplica, IsDown}
@@ -136,7 +137,7 @@ LostFor s a (rf.TooFewLive live needed) = AreTooFew s.table a.need live needed
 LostFor s a (rf.QuorumPending name) = MeetsPending s.table a.need name
 LostFor s a (rf.Duplicate name) = HasQuorum s.table a.need × (kept_part s.table.window a.block.partition a.block.digest ≡ Some name)
 LostFor s a (rf.LimitReached limit value) =
-    HasQuorum s.table a.need × IsUnkept s.table a.block × (commit_limit s.table (values_of s.table.schema a.block.rows) ≡ Some (limit, value))
+    HasQuorum s.table a.need × IsUnkept s.table a.block × (commit_limit s.table.log s.table.values (values_of s.table.schema a.block.rows) ≡ Some (limit, value))
 LostFor s a why = ⊥
 
 -- a commit that the table refuses, although its lock is there, ends the attempt

@@ -8,7 +8,7 @@ use Rattle.rmt_model.specs.Lawful.{Used, IsFresh, Lawful}
 use Rattle.rmt_model.specs.Window.{kept}
 use Rattle.rmt_quorums.specs.Quorum.{IsQuorum}
 use Rattle.rmt_events.specs.Views.{Lock, Table}
-use Rattle.rmt_events.specs.TableCalls.{next_number}
+use Rattle.rmt_limits.specs.BlockNumbers.{next_number}
 
 -- a lock's number was taken, and a block may still be committed under it
 pub record IsFree (t : Table) (k : Lock) : Type 0 where

@@ -1,13 +1,11 @@
--- What the calls on a table change, and the limits that they keep.
+-- What the calls on a table change.
 -- ClickHouse documentation, Data Replication: an insert takes a block number under a lock, and writes the entry and the
 -- block's checksum in one step. ALTER: mutations and DROP PARTITION. That they all take numbers of one sequence, and the
 -- limits, are this program's own.
-use Rattle.std.specs.Prelude.{◌≡◌, ℕ, ◌+◌, ◌<◌, ◌≤◌, ◌&&◌, ◌||◌, Bool, true, false, not, cond, nat_eq, nat_lt, nat_le, List, [], ◌∷◌, filter, take, length, count_by}
+use Rattle.std.specs.Prelude.{◌≡◌, ℕ, ◌+◌, ◌<◌, ◌≤◌, ◌&&◌, ◌||◌, Bool, not, cond, nat_eq, nat_lt, List, [], ◌∷◌, filter, take}
 use Rattle.std.specs.Str.{bytes_eq}
 use Rattle.std.specs.declared.option.Option.{Option}
 use Rattle.std.specs.declared.option.Option.TheVariants.{Some, None}
-use Rattle.rmt_values.specs.declared.limit.Limit.{Limit}
-use Rattle.rmt_values.specs.declared.limit.Limit.TheVariants as limits
 use Rattle.rmt_values.specs.declared.checked_mutation.CheckedMutation.{CheckedMutation}
 use Rattle.rmt_values.specs.Commands.{CommandFits}
 use Rattle.rmt_names.specs.Names.{Name, rank, Spans, block_name}
@@ -16,24 +14,10 @@ use Rattle.rmt_entries.specs.declared.entry.Entry.TheVariants.{Get, Merge, Mutat
 use Rattle.rmt_model.specs.Words.{Has, Each}
 use Rattle.rmt_model.specs.Lawful.{Meets, mutation_count}
 use Rattle.rmt_model.specs.Window.{Kept}
+use Rattle.rmt_limits.specs.BlockNumbers.{next_number, with_next, next_numbers_after}
+use Rattle.rmt_limits.specs.EntryLimits.{worker_limit, allocate_limit, commit_limit, mutation_limit, drop_limit}
 use Rattle.rmt_quorums.specs.Quorum.{quorum_after_block, quorum_after_drop, quorum_after_note}
 use Rattle.rmt_events.specs.Views.{Lock, Table}
-
--- the next number of a partition, 0 before it exists
-abbrev pub next_number : List (Option ℕ × ℕ) → Option ℕ → ℕ
-next_number [] p = 0
-next_number (x ∷ xs) p = cond (nat_eq (rank x.0) (rank p)) x.1 (next_number xs p)
-
--- the next numbers with another one for one partition, which exists then
-abbrev pub with_next : List (Option ℕ × ℕ) → Option ℕ → ℕ → List (Option ℕ × ℕ)
-with_next [] p n = (p, n) ∷ []
-with_next (x ∷ xs) p n =
-    cond (nat_lt (rank x.0) (rank p)) (x ∷ with_next xs p n) (cond (nat_eq (rank x.0) (rank p)) ((p, n) ∷ xs) ((p, n) ∷ x ∷ xs))
-
--- the next numbers once one number was taken in each partition
-abbrev pub next_numbers_after : List (Option ℕ × ℕ) → List (Option ℕ × ℕ)
-next_numbers_after [] = []
-next_numbers_after (x ∷ xs) = (x.0, x.1 + 1) ∷ next_numbers_after xs
 
 -- the number n of p is held
 pub record IsLocked (locks : List Lock) (p : Option ℕ) (n : ℕ) : Type 0 where
@@ -81,57 +65,6 @@ window_with w window p n digest = take w (record { digest = digest; part = block
 abbrev pub window_without : List Kept → Option ℕ → ℕ → List Kept
 window_without window p n = filter (λ k. not (nat_eq (rank k.part.partition) (rank p) && nat_lt k.part.min n)) window
 
--- ---- limits
-
--- the entry is of a client
-abbrev pub is_client : Entry → Bool
-is_client (Get p n digest source need) = true
-is_client (Mutation id numbers command) = true
-is_client (DropRange p n) = true
-is_client (Merge name sources count) = false
-is_client (Mutate old name upto count mcount) = false
-
--- how many entries of clients the log has
-abbrev pub client_count : List Entry → ℕ
-client_count log = count_by is_client log
-
--- how many entries of background work the log has
-abbrev pub worker_count : List Entry → ℕ
-worker_count log = count_by (λ e. not (is_client e)) log
-
--- the limit that one more entry of a client would pass, and its count as it stands
-abbrev pub client_limit : List Entry → Option (Limit × ℕ)
-client_limit log = cond (nat_le 32768 (client_count log)) (Some (limits.ClientEntries, client_count log)) None
-
--- the limit that one more entry of background work would pass
-abbrev pub worker_limit : List Entry → Option (Limit × ℕ)
-worker_limit log = cond (nat_le 32768 (worker_count log)) (Some (limits.WorkerEntries, worker_count log)) None
-
--- the first limit that one more number of p for a block would pass
-abbrev pub allocate_limit : List (Option ℕ × ℕ) → List Entry → Option ℕ → Option (Limit × ℕ)
-allocate_limit next log p =
-    cond (nat_eq (next_number next p) 0 && nat_le 1024 (length next)) (Some (limits.Partitions, length next))
-    (cond (nat_le 65536 (next_number next p)) (Some (limits.Numbers, next_number next p)) (client_limit log))
-
--- the first limit that one more block of so many values would pass
-abbrev pub commit_limit : Table → ℕ → Option (Limit × ℕ)
-commit_limit t values =
-    cond (nat_le 32768 (client_count t.log)) (Some (limits.ClientEntries, client_count t.log))
-    (cond (nat_lt 8388608 (t.values + values)) (Some (limits.Values, t.values)) None)
-
--- the first limit that one more number in each partition would pass
-abbrev pub numbers_limit : List (Option ℕ × ℕ) → List Entry → Option (Limit × ℕ)
-numbers_limit [] log = client_limit log
-numbers_limit (x ∷ next) log = cond (nat_le 65536 x.1) (Some (limits.Numbers, x.1)) (numbers_limit next log)
-
--- the first limit that one more mutation would pass
-abbrev pub mutation_limit : List (Option ℕ × ℕ) → List Entry → Option (Limit × ℕ)
-mutation_limit next log = cond (nat_le 1024 (mutation_count log)) (Some (limits.Mutations, mutation_count log)) (numbers_limit next log)
-
--- the first limit that one more drop of p would pass
-abbrev pub drop_limit : List (Option ℕ × ℕ) → List Entry → Option ℕ → Option (Limit × ℕ)
-drop_limit next log p = cond (nat_le 65536 (next_number next p)) (Some (limits.Numbers, next_number next p)) (client_limit log)
-
 -- ---- the calls
 
 -- the table after one more entry
@@ -151,7 +84,7 @@ pub record Commits (old : Table) (p : Option ℕ) (n : ℕ) (digest : List ℕ) 
   pub locked : IsLocked old.locks p n
   pub unkept : kept_part old.window p digest ≡ None
   pub none_pending : 2 ≤ need → old.quorum.pending ≡ None
-  pub within : commit_limit old values ≡ None
+  pub within : commit_limit old.log old.values values ≡ None
   pub change : new ≡ record old {
     log = Get p n digest r need ∷ old.log;
     locks = locks_without old.locks p n;
