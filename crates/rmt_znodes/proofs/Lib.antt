@@ -1,0 +1,3 @@
+pub mod ZnodeLemmas
+pub mod ZnodeStateLemmas
+pub mod PathLemmas
