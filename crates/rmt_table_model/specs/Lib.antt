@@ -1,0 +1,14 @@
+pub use Rattle.rmt_names.specs.Names
+pub use Rattle.rmt_entries.specs.Entries
+pub use Rattle.rmt_model.specs.Words
+pub use Rattle.rmt_model.specs.Live
+pub use Rattle.rmt_model.specs.Lawful
+pub mod Counts
+pub mod Numbers
+pub mod Kept
+pub mod Tables
+pub mod Changes
+pub mod Nodes
+pub mod Steps
+pub mod Inserts
+pub mod Held
