@@ -1,0 +1,10 @@
+mod ListLemmas
+pub mod NameLemmas
+pub mod ChildLemmas
+mod ReadLemmas
+pub mod BelowLemmas
+mod KeptLemmas
+mod DropLemmas
+mod LimitLemmas
+mod ForgetLemmas
+mod TakeLemmas

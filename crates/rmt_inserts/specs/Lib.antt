@@ -1,0 +1,3 @@
+pub use Rattle.rmt_table_model.specs.Inserts
+pub mod Numbers
+pub mod ZnodeNames

@@ -1,0 +1,154 @@
+//! What a drop takes away of the locks and of the kept ids.
+ghost use Rattle.std.specs.Prelude.{◌≡◌, ◌++◌, ◌∷◌, ◌<◌, ◌+◌, ◌-◌, ◌^◌, [], ℕ, List, length, filter, Some, IfOk};
+ghost use Rattle.rmt_model.specs.Words.{Has};
+ghost use Rattle.rmt_znodes.specs.Znodes.{lock_name};
+ghost use Rattle.rmt_table_model.specs.Numbers.{Nexts, Holders};
+ghost use Rattle.rmt_table_model.specs.Kept.{Placed, outlives};
+ghost use Rattle.rmt_table_model.specs.Inserts.{HasNumbers, HasKeptIds, AreDropOps};
+ghost use Rattle.rmt_table_model.specs.Nodes.{forget_ops};
+ghost use Rattle.rmt_inserts.specs.ZnodeNames.{order_name, unlock_below, AreUnlockOps};
+
+use crate::drop_result::DropOps;
+use crate::names::{child_path, number_of, part_of_text};
+use crate::ops::{delete, with_op};
+use crate::window::without_kept;
+use rmt_names::{PartName, PartitionId};
+use rmt_tree::{Op, Tree};
+use rmt_znodes::Znode;
+use std::alloc::{AllocError, Global};
+
+/// The operations that remove the locks of a partition below a number, and the kept ids of its blocks below it.
+///
+/// At an error no memory was left.
+pub fn drop_ops(
+    tree: &Tree,
+    alloc: Global,
+    partition: PartitionId,
+    below: u32,
+) -> Result<DropOps, AllocError>
+    requires kept { (ks : List Placed) × (count : ℕ) × HasKeptIds tree.now ks count }
+    ensures ops { (next : Nexts) (holders : Holders) (ks : List Placed) (count : ℕ) → HasNumbers tree.now next holders → HasKeptIds tree.now ks count
+        → IfOk result (λ d. AreDropOps holders ks partition below d.ops.items) }
+    ensures forgotten { (ks : List Placed) (count : ℕ) → HasKeptIds tree.now ks count
+        → IfOk result (λ d. d.forgotten + length (filter (outlives partition below) ks) ≡ length ks) }
+{
+    let ops = unlock_ops(tree, alloc, partition, below)?;
+    without_dropped(tree, alloc, ops, partition, below)
+}
+
+/// The operations that remove the locks of a partition below a number. At an error no memory was left.
+fn unlock_ops(
+    tree: &Tree,
+    alloc: Global,
+    partition: PartitionId,
+    below: u32,
+) -> Result<Vec<Op>, AllocError>
+    ensures { (next : Nexts) (holders : Holders) → HasNumbers tree.now next holders → IfOk result (λ ops. AreUnlockOps holders partition below ops.items) }
+{
+    let path = Znode::Partition(partition).path(alloc)?;
+    let mut ops = Vec::new(alloc);
+    let Some(names) = tree.children(&path)? else {
+        return Ok(ops);
+    };
+    'names: for name in &names {
+        ops = without_lock(alloc, ops, partition, below, name.as_bytes())?;
+    }
+    Ok(ops)
+}
+
+/// The operations, and then the one that removes the lock of this name where its number is below the other.
+fn without_lock(
+    alloc: Global,
+    ops: Vec<Op>,
+    partition: PartitionId,
+    below: u32,
+    name: &[u8],
+) -> Result<Vec<Op>, AllocError>
+    ensures { (n : ℕ) → n < 2 ^ 32 → name.now ≡ lock_name n → IfOk result (λ all. all.items ≡ ops.items ++ unlock_below partition below n) }
+{
+    let Some(number) = number_of(name) else {
+        return Ok(ops);
+    };
+    if number >= below {
+        return Ok(ops);
+    }
+    let lock = Znode::Lock { partition, number }.path(alloc)?;
+    with_op(ops, delete(lock))
+}
+
+/// The operations, and then those that let the kept ids of a partition's blocks below a number go, which are counted.
+fn without_dropped(
+    tree: &Tree,
+    alloc: Global,
+    ops: Vec<Op>,
+    partition: PartitionId,
+    below: u32,
+) -> Result<DropOps, AllocError>
+    requires kept { (ks : List Placed) × (count : ℕ) × HasKeptIds tree.now ks count }
+    ensures ops { (ks : List Placed) (count : ℕ) → HasKeptIds tree.now ks count
+        → IfOk result (λ d. d.ops.items ≡ ops.items ++ forget_ops partition below ks) }
+    ensures forgotten { (ks : List Placed) (count : ℕ) → HasKeptIds tree.now ks count
+        → IfOk result (λ d. d.forgotten + length (filter (outlives partition below) ks) ≡ length ks) }
+{
+    let order = Znode::Order.path(alloc)?;
+    let mut dropped = DropOps { ops, forgotten: 0 };
+    let Some(names) = tree.children(&order)? else {
+        return Ok(dropped);
+    };
+    'names: for index in 0..names.len() {
+        let name = &names[names.len() - 1 - index];
+        dropped = without_one(tree, alloc, dropped, partition, below, name.as_bytes())?;
+    }
+    Ok(dropped)
+}
+
+/// The operations, and then those that let the kept id go whose node in the order has this name, where its block is dropped;
+/// it is counted then.
+fn without_one(
+    tree: &Tree,
+    alloc: Global,
+    dropped: DropOps,
+    partition: PartitionId,
+    below: u32,
+    name: &[u8],
+) -> Result<DropOps, AllocError>
+    requires room { dropped.forgotten < 2 ^ 32 - 1 }
+    ensures ops { (ks : List Placed) (count : ℕ) (k : Placed) → HasKeptIds tree.now ks count → Has ks k → name.now ≡ order_name k.number
+        → IfOk result (λ d. d.ops.items ≡ dropped.ops.items ++ forget_ops partition below (k ∷ [])) }
+    ensures forgotten { (ks : List Placed) (count : ℕ) (k : Placed) → HasKeptIds tree.now ks count → Has ks k → name.now ≡ order_name k.number
+        → IfOk result (λ d. d.forgotten + length (filter (outlives partition below) (k ∷ [])) ≡ dropped.forgotten + 1) }
+{
+    let Some(part) = part_at(tree, alloc, name)? else {
+        return Ok(dropped);
+    };
+    if part.partition() != partition {
+        return Ok(dropped);
+    }
+    if part.min() >= below {
+        return Ok(dropped);
+    }
+    let ops = without_kept(tree, alloc, dropped.ops, name)?;
+    Ok(DropOps {
+        ops,
+        forgotten: dropped.forgotten + 1,
+    })
+}
+
+/// The part of the kept id whose node in the order has this name. At an error no memory was left.
+fn part_at(tree: &Tree, alloc: Global, name: &[u8]) -> Result<Option<PartName>, AllocError>
+    ensures { (ks : List Placed) (count : ℕ) (k : Placed) → HasKeptIds tree.now ks count → Has ks k → name.now ≡ order_name k.number → IfOk result (λ part. part ≡ Some k.kept.part) }
+{
+    let Some(order) = child_path(alloc, Znode::Order, name)? else {
+        return Ok(None);
+    };
+    let Some((id, _)) = tree.get(&order) else {
+        return Ok(None);
+    };
+    let Some(block) = child_path(alloc, Znode::Blocks, id.as_bytes())? else {
+        return Ok(None);
+    };
+    match tree.get(&block) {
+        Some((text, _)) => Ok(part_of_text(text.as_bytes())),
+        None => Ok(None),
+    }
+}

@@ -1,0 +1,2 @@
+pub use Rattle.rmt_limits.specs.BlockNumbers
+pub mod NumbersInOrder
