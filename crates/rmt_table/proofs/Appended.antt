@@ -1,0 +1,70 @@
+-- A log with one more token.
+use Rattle.std.proofs.Common.{◌≡◌, ℕ, zero, suc, ◌+◌, ◌<◌, ◌≤◌, cond, not, List, [], ◌∷◌, ◌++◌, length, slice_get, take, refl, sym, ap, arith, ◌∙◌}
+use Rattle.std.proofs.lemmas.List.Sums.{sum_by-cons, length-filter, count_by-le-length}
+use Rattle.std.specs.declared.option.Option.{Option}
+use Rattle.std.specs.declared.option.Option.TheVariants.{Some, None}
+use Rattle.rmt_row.specs.Token.{Token}
+use Rattle.rmt_entries.specs.declared.entry.Entry.{Entry}
+use Rattle.rmt_entries.specs.declared.entry.Entry.TheVariants.{Get, Merge, Mutate, Mutation, DropRange}
+use Rattle.rmt_model.specs.Lawful.{is_mutation, mutation_count}
+use Rattle.rmt_limits.specs.EntryLimits.{is_client, client_count, worker_count}
+use Rattle.rmt_names.specs.Names.{block_name}
+use Rattle.rmt_table_model.specs.Kept.{Placed, outlives, in_order, get_count}
+use Rattle.rmt_table_model.proofs.KeptLemmas.{placed}
+use Rattle.rmt_table.specs.TableTrees.{ArePlaced}
+
+-- each token is at its place, one more too
+pub placed-more : (tokens : List (Token Entry)) (t : Token Entry) → ArePlaced tokens → t.place ≡ length tokens → ArePlaced (tokens ++ t ∷ [])
+placed-more tokens t are at i u e = let w = from tokens 0 (λ j v f. let a = are j v f in omega (arith, a)) (omega (arith, at)) i u e in omega (arith, w)
+  where
+    from : (xs : List (Token Entry)) (k : ℕ) → ((i : ℕ) (u : Token Entry) → slice_get xs i ≡ Some u → u.place ≡ k + i) → t.place ≡ k + length xs → (i : ℕ) (u : Token Entry) → slice_get (xs ++ t ∷ []) i ≡ Some u → u.place ≡ k + i
+    from [] k f a zero u e = let q : t ≡ u = cc in ap (λ (v : Token Entry). v.place) (sym q) ∙ a
+    from [] k f a (suc i) u e = absurd (cc)
+    from (x ∷ xs) k f a zero u e = f zero u e
+    from (x ∷ xs) k f a (suc i) u e =
+        let g = from xs (suc k) (λ m v h. let w = f (suc m) v h in omega (arith, w)) (omega (arith, a)) i u e in omega (arith, g)
+
+-- the counts of a log with one more entry
+pub clients-next : (e : Entry) (log : List Entry) → client_count (e ∷ log) ≡ cond (is_client e) 1 0 + client_count log
+clients-next e log = sum_by-cons (λ x. cond (is_client x) 1 0) e log
+
+pub workers-next : (e : Entry) (log : List Entry) → worker_count (e ∷ log) ≡ cond (not (is_client e)) 1 0 + worker_count log
+workers-next e log = sum_by-cons (λ x. cond (not (is_client x)) 1 0) e log
+
+pub mutations-next : (e : Entry) (log : List Entry) → mutation_count (e ∷ log) ≡ cond (is_mutation e) 1 0 + mutation_count log
+mutations-next e log = sum_by-cons (λ x. cond (is_mutation x) 1 0) e log
+
+take-most : {A : Type 0} (w : ℕ) (xs : List A) → length (take w xs) ≤ w
+take-most zero xs = omega arith
+take-most (suc w) [] = omega arith
+take-most (suc w) (x ∷ xs) = let l = take-most w xs in omega (arith, l)
+
+take-all : {A : Type 0} (w : ℕ) (xs : List A) → length xs ≤ w → length (take w xs) ≡ length xs
+take-all zero [] l = refl
+take-all zero (x ∷ xs) l = absurd (omega (arith, l))
+take-all (suc w) [] l = refl
+take-all (suc w) (x ∷ xs) l = let q = take-all w xs (omega (arith, l)) in omega (arith, q)
+
+take-full : {A : Type 0} (w : ℕ) (xs : List A) → w ≤ length xs → length (take w xs) ≡ w
+take-full zero xs l = refl
+take-full (suc w) [] l = absurd (omega (arith, l))
+take-full (suc w) (x ∷ xs) l = let q = take-full w xs (omega (arith, l)) in omega (arith, q)
+
+-- no more ids are kept than the window has
+pub window-most : (w : ℕ) (log : List Entry) → length (in_order w log) ≤ w
+window-most w [] = omega arith
+window-most w (Get p n digest source need ∷ log) = take-most w (record { number = get_count log; kept = record { digest = digest; part = block_name p n } } ∷ in_order w log)
+window-most w (Merge new sources count ∷ log) = window-most w log
+window-most w (Mutate old new upto count mcount ∷ log) = window-most w log
+window-most w (Mutation id numbers command ∷ log) = window-most w log
+window-most w (DropRange p n ∷ log) = let l = window-most w log in let f = length-filter (outlives p n) (in_order w log) in let c = count_by-le-length (outlives p n) (in_order w log) in omega (arith, l, f, c)
+
+-- how many ids are kept after one more block
+pub window-next : (w : ℕ) (log : List Entry) (p : Option ℕ) (n : ℕ) (digest : List ℕ) (source need : ℕ) → length (in_order w log) < w → length (in_order w (Get p n digest source need ∷ log)) ≡ suc (length (in_order w log))
+window-next w log p n digest source need l = take-all w (record { number = get_count log; kept = record { digest = digest; part = block_name p n } } ∷ in_order w log) (omega (arith, l))
+
+pub window-full : (w : ℕ) (log : List Entry) (p : Option ℕ) (n : ℕ) (digest : List ℕ) (source need : ℕ) → w ≤ length (in_order w log) → length (in_order w (Get p n digest source need ∷ log)) ≡ length (in_order w log)
+window-full w log p n digest source need l =
+    let a = take-full w (record { number = get_count log; kept = record { digest = digest; part = block_name p n } } ∷ in_order w log) (omega (arith, l)) in
+    let b = window-most w log in
+    omega (arith, a, b, l)

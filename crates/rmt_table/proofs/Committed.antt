@@ -1,0 +1,198 @@
+-- What an accepted block makes of a table.
+use Rattle.std.proofs.Common.{◌≡◌, ℕ, suc, ◌+◌, ◌<◌, ◌≤◌, Bool, true, false, cond, nat_le, nat_lt, List, [], ◌∷◌, ◌++◌, length, refl, sym, ap, subst, arith, ◌∙◌}
+use Rattle.std.proofs.lemmas.Bool.Decides.{nat_tests}
+use Rattle.std.proofs.lemmas.List.{append-nil}
+use Rattle.std.specs.declared.option.Option.{Option}
+use Rattle.std.specs.declared.option.Option.TheVariants.{Some, None}
+use Rattle.rmt_values.specs.declared.limit.Limit.{Limit}
+use Rattle.rmt_values.specs.declared.limit.Limit.TheVariants as limits
+use Rattle.rmt_names.specs.Names.{Name, block_name}
+use Rattle.rmt_block.specs.Blocks.{IsId}
+use Rattle.rmt_row.specs.Token.{Token}
+use Rattle.rmt_entries.specs.declared.entry.Entry.{Entry}
+use Rattle.rmt_entries.specs.declared.entry.Entry.TheVariants.{Get}
+use Rattle.rmt_entries.specs.EntryBytes.{entry_bytes, EntryInRange}
+use Rattle.rmt_model.specs.Lawful.{mutation_count}
+use Rattle.rmt_limits.specs.EntryLimits.{client_count, worker_count, commit_limit}
+use Rattle.rmt_history.specs.Copies.{entries}
+use Rattle.rmt_history.proofs.Copied.{entries-snoc, length-entries}
+use Rattle.rmt_quorums.specs.Quorum.{Quorum, quorum_after_block}
+use Rattle.rmt_tree.specs.Trees.{TreeView}
+use Rattle.rmt_tree.specs.Ops.{after_all, first_refusal}
+use Rattle.rmt_tree.specs.declared.op.Op.{Op}
+use Rattle.rmt_tree.specs.declared.op.Op.TheVariants as op
+use Rattle.rmt_znodes.specs.declared.znode.Znode.TheVariants as nodes
+use Rattle.rmt_znodes.specs.Znodes.{znode_path, entry_path}
+use Rattle.rmt_znodes.specs.ZnodeStates.{Makes}
+use Rattle.rmt_table_model.specs.Numbers.{IsLocked}
+use Rattle.rmt_paths.specs.Paths.{Names}
+use Rattle.rmt_table_model.specs.Kept.{Placed, in_order, with_id}
+use Rattle.rmt_table_model.specs.Inserts.{HasKeptIds, part_of}
+use Rattle.rmt_table_model.specs.Tables.{TableView}
+use Rattle.rmt_table_model.specs.Changes.{MayCommit, after_commit}
+use Rattle.rmt_table_model.specs.Nodes.{IsTable, order_count, keep_ops, status_text, status_ops, commit_ops}
+use Rattle.rmt_table_model.specs.Steps.{Steps}
+use Rattle.rmt_table_model.specs.Held.{Held, table_of, holders_in}
+use Rattle.rmt_table_model.proofs.TableLemmas.{commit-steps}
+use Rattle.rmt_table_model.proofs.HeldLemmas.{held-table, held-held}
+use Rattle.rmt_events.specs.TableCalls.{Commits, kept_part}
+use Rattle.rmt_table_view.specs.Shown.{shown}
+use Rattle.rmt_table_view.proofs.NumberLemmas as view
+use Rattle.rmt_table_view.proofs.CallBridge.{commit-bridge}
+use Rattle.rmt_table.specs.declared.lock.Lock.{Lock}
+use Rattle.rmt_table.specs.declared.commit_error.CommitError.{CommitError}
+use Rattle.rmt_table.specs.declared.commit_error.CommitError.TheVariants as commit
+use Rattle.rmt_table.specs.Refusals.{IsAcceptable, TakesLock}
+use Rattle.rmt_table.specs.TableTrees.{table_at, IsReplica, Counts, ArePlaced, IsTableTree, IsUnlocked, AfterNoCommit, next_token, kept_after}
+use Rattle.rmt_table.proofs.Appended.{placed-more, clients-next, workers-next, mutations-next, window-most, window-next, window-full}
+use Rattle.rmt_table.proofs.HeldNodes.{held-kept}
+use Rattle.rmt_table.proofs.SoundRanges.{commit-range}
+use Rattle.rmt_table.proofs.Allocated.{unkept}
+
+no-case : {A : Type 0} (b : Bool) (xs : List A) → b ≡ false → cond b xs [] ≡ []
+no-case true xs e = absurd (cc)
+no-case false xs e = refl
+
+record FitsLimits (log : List Entry) (held values : ℕ) : Type 0 where
+  few_clients : client_count log < 32768
+  few_values : held + values ≤ 8388608
+
+within-limits : (log : List Entry) (held added : ℕ) → commit_limit log held added ≡ None → FitsLimits log held added
+within-limits log held added e = go (nat_le 32768 (client_count log)) refl (nat_lt 8388608 (held + added)) refl e
+  where
+    go : (a : Bool) → nat_le 32768 (client_count log) ≡ a → (b : Bool) → nat_lt 8388608 (held + added) ≡ b
+        → cond {A = Option (Limit × ℕ)} a (Some (limits.ClientEntries, client_count log)) (cond {A = Option (Limit × ℕ)} b (Some (limits.Values, held)) None) ≡ None → FitsLimits log held added
+    go true f b g e = absurd (cc)
+    go false f true g e = absurd (cc)
+    go false f false g e = record { few_clients = grind (arith, nat_tests); few_values = grind (arith, nat_tests) }
+
+module _ (h : Held) (tokens : List (Token Entry)) (counts : Counts) (k : IsTableTree h tokens counts) (now : Held) (e : h ≡ now) (lock : Lock) (need values : ℕ) (id : IsId lock.id) (none : need ≡ 0) (locked : IsLocked (holders_in h.tree) lock.id.partition lock.number) (fine-now : IsAcceptable (table_at now) lock values) where
+  abbrev pub entry : Entry
+  entry = Get lock.id.partition lock.number lock.id.digest lock.replica need
+
+  fine : IsAcceptable (table_at h) lock values
+  fine = subst (λ (w : Held). IsAcceptable (table_at w) lock values) (sym e) fine-now
+
+  limits-fit : FitsLimits h.log h.values values
+  limits-fit = within-limits h.log h.values values fine.within
+
+  pub id-unkept : with_id lock.id.partition lock.id.digest (in_order h.schema.window h.log) ≡ None
+  id-unkept = unkept (part_of lock.id.partition lock.id.digest (in_order h.schema.window h.log)) (sym (view.kept-same h.schema.window h.log lock.id.partition lock.id.digest) ∙ fine.unkept) lock.id.partition lock.id.digest h refl
+
+  pub unkept-now : with_id lock.id.partition lock.id.digest (in_order now.schema.window now.log) ≡ None
+  unkept-now = subst (λ (w : Held). with_id lock.id.partition lock.id.digest (in_order w.schema.window w.log) ≡ None) e id-unkept
+
+  pub in-range : IsReplica now lock.replica → EntryInRange entry
+  in-range here =
+      let a = here.last in
+      let b = subst (λ (w : Held). length w.sessions ≤ 8) e k.held.few in
+      commit-range (table_of h) k.held.sound lock.id.partition lock.number lock.id.digest lock.replica need id locked here.first (omega (arith, a, b)) (omega (arith, none)) (λ q. omega (arith, none, q))
+
+  pub few-clients : counts.clients < 32768
+  few-clients = let a = FitsLimits.few_clients limits-fit in let b = k.counted.clients in omega (arith, a, b)
+
+  pub few-values : h.values + values ≤ 8388608
+  few-values = FitsLimits.few_values limits-fit
+
+  may : MayCommit lock.id.partition lock.number lock.id.digest need values (table_of h)
+  may = record {
+    id = id;
+    not_kept = id-unkept;
+    is_locked = locked;
+    none_pending = λ l. absurd (omega (arith, none, l));
+    client_entries = FitsLimits.few_clients limits-fit;
+    values = FitsLimits.few_values limits-fit;
+  }
+
+  pub steps : Steps entry_bytes h.tree (commit_ops entry_bytes lock.id.partition lock.number lock.id.digest lock.replica need (table_of h)) (after_commit lock.id.partition lock.number lock.id.digest lock.replica need values (table_of h))
+  steps = commit-steps entry_bytes h.tree (table_of h) k.held lock.id.partition lock.number lock.id.digest lock.replica need values may
+
+  unasked-test : nat_le 2 need ≡ false
+  unasked-test = grind (arith, nat_tests)
+
+  no-status : status_ops (block_name lock.id.partition lock.number) need ≡ []
+  no-status = no-case (nat_le 2 need) (op.Create (znode_path nodes.Status) (status_text (record { part = block_name lock.id.partition lock.number; need = need; noted = [] })) false None ∷ []) unasked-test
+
+  quorum-same : quorum_after_block (block_name lock.id.partition lock.number) need h.quorum ≡ h.quorum
+  quorum-same = ap (λ (b : Bool). record { pending = cond b (Some (record { part = block_name lock.id.partition lock.number; need = need; noted = [] })) h.quorum.pending; last = h.quorum.last }) unasked-test
+
+  module _ (ops : List Op) (ops-now : ops ≡ op.Delete (znode_path (nodes.Lock lock.id.partition lock.number)) None ∷ op.Create entry_path (entry_bytes entry) true None ∷ keep_ops now.schema.window (in_order now.schema.window now.log) lock.id.partition lock.id.digest (block_name lock.id.partition lock.number)) where
+    pub ops-same : ops ≡ commit_ops entry_bytes lock.id.partition lock.number lock.id.digest lock.replica need (table_of h)
+    ops-same = ops-now ∙ ap (λ (w : Held). op.Delete (znode_path (nodes.Lock lock.id.partition lock.number)) None ∷ op.Create entry_path (entry_bytes entry) true None ∷ keep_ops w.schema.window (in_order w.schema.window w.log) lock.id.partition lock.id.digest (block_name lock.id.partition lock.number)) (sym e)
+        ∙ ap (λ (xs : List Op). op.Delete (znode_path (nodes.Lock lock.id.partition lock.number)) None ∷ op.Create entry_path (entry_bytes entry) true None ∷ xs)
+        (sym (append-nil (keep_ops h.schema.window (in_order h.schema.window h.log) lock.id.partition lock.id.digest (block_name lock.id.partition lock.number))) ∙ ap (λ (xs : List Op). keep_ops h.schema.window (in_order h.schema.window h.log) lock.id.partition lock.id.digest (block_name lock.id.partition lock.number) ++ xs) (sym no-status))
+
+    pub ops-seen : ops ≡ commit_ops entry_bytes lock.id.partition lock.number lock.id.digest lock.replica need (table_of now)
+    ops-seen = ops-same ∙ ap (λ (w : Held). commit_ops entry_bytes lock.id.partition lock.number lock.id.digest lock.replica need (table_of w)) e
+
+    pub ops-fine : first_refusal h.tree ops 0 ≡ None
+    ops-fine = subst (λ (xs : List Op). first_refusal h.tree xs 0 ≡ None) (sym ops-same) (Makes.none_refused (Steps.makes steps) 0)
+
+    module _ (t : TreeView) (done : t ≡ after_all h.tree ops) (token : Token Entry) (token-is : token ≡ next_token h entry) (more : List (Token Entry)) (more-is : more ≡ tokens ++ token ∷ []) (of : h.log ≡ entries tokens) where
+      log-is : entries more ≡ entry ∷ h.log
+      log-is = ap entries more-is ∙ entries-snoc tokens token ∙ ap (λ (v : Token Entry). v.value ∷ entries tokens) token-is ∙ ap (λ (xs : List Entry). entry ∷ xs) (sym of)
+
+      abbrev pub after : Held
+      after = record h { log = entries more; values = h.values + values; tree = t }
+
+      table : IsTable entry_bytes t (after_commit lock.id.partition lock.number lock.id.digest lock.replica need values (table_of h))
+      table = subst (λ (u : TreeView). IsTable entry_bytes u (after_commit lock.id.partition lock.number lock.id.digest lock.replica need values (table_of h))) (sym (done ∙ ap (after_all h.tree) ops-same)) (Steps.table steps)
+
+      same : ◌≡◌ {A = TableView} (record (after_commit lock.id.partition lock.number lock.id.digest lock.replica need values (table_of h)) { holders = holders_in t }) (table_of after)
+      same = ap (λ (q : Quorum). record (table_of after) { log = entry ∷ h.log; quorum = q }) quorum-same ∙ ap (λ (log : List Entry). record (table_of after) { log = log }) (sym log-is)
+
+      pub committed-seen : Commits (table_at now) lock.id.partition lock.number lock.id.digest lock.replica need values (table_at after)
+      committed-seen = subst (λ (w : Held). Commits (table_at w) lock.id.partition lock.number lock.id.digest lock.replica need values (table_at after)) e
+          (subst (λ (u : TableView). Commits (table_at h) lock.id.partition lock.number lock.id.digest lock.replica need values (shown u)) (sym (held-table entry_bytes after (after_commit lock.id.partition lock.number lock.id.digest lock.replica need values (table_of h)) table same))
+          (commit-bridge (table_of h) k.held.sound lock.id.partition lock.number lock.id.digest lock.replica need values may))
+
+      module _ (clients kept : ℕ) (clients-is : clients ≡ counts.clients + 1) (kept-is : kept ≡ kept_after counts.kept h.schema.window) where
+        kept-count : kept ≡ length (in_order h.schema.window (entry ∷ h.log))
+        kept-count = go (nat_lt counts.kept h.schema.window) refl kept-is
+          where
+            go : (b : Bool) → nat_lt counts.kept h.schema.window ≡ b → kept ≡ cond b (counts.kept + 1) counts.kept → kept ≡ length (in_order h.schema.window (entry ∷ h.log))
+            go true f q =
+                let c = k.counted.kept in
+                let l : counts.kept < h.schema.window = grind (arith, nat_tests) in
+                let w = window-next h.schema.window h.log lock.id.partition lock.number lock.id.digest lock.replica need (omega (arith, c, l)) in
+                omega (arith, q, c, w)
+            go false f q =
+                let c = k.counted.kept in
+                let l : h.schema.window ≤ counts.kept = grind (arith, nat_tests) in
+                let w = window-full h.schema.window h.log lock.id.partition lock.number lock.id.digest lock.replica need (omega (arith, c, l)) in
+                omega (arith, q, c, w)
+
+        pub committed-tree : IsTableTree after more (record counts { clients = clients; kept = kept })
+        committed-tree = record {
+          held = held-held entry_bytes after (after_commit lock.id.partition lock.number lock.id.digest lock.replica need values (table_of h)) table same;
+          counted = record {
+            clients = let c = k.counted.clients in let n = clients-next entry h.log in (omega (arith, clients-is, c, n) ∙ ap client_count (sym log-is));
+            workers = let c = k.counted.workers in let n = workers-next entry h.log in (omega (arith, c, n) ∙ ap worker_count (sym log-is));
+            mutations = let c = k.counted.mutations in let n = mutations-next entry h.log in (omega (arith, c, n) ∙ ap mutation_count (sym log-is));
+            kept = kept-count ∙ ap (λ (log : List Entry). length (in_order h.schema.window log)) (sym log-is);
+          };
+          places = subst ArePlaced (sym more-is) (placed-more tokens token k.places (ap (λ (v : Token Entry). v.place) token-is ∙ ap length of ∙ length-entries tokens));
+        }
+
+-- the ops of a commit, as they are put together
+pub ops-of : (h : Held) {tokens : List (Token Entry)} {counts : Counts} (now : Held) → h ≡ now → IsTableTree h tokens counts → (lock : Lock) (e : Entry) → with_id lock.id.partition lock.id.digest (in_order now.schema.window now.log) ≡ None
+    → (path : Names) → path ≡ znode_path (nodes.Lock lock.id.partition lock.number) → (write : Op) → write ≡ op.Create entry_path (entry_bytes e) true None → (part : Name) → part ≡ block_name lock.id.partition lock.number
+    → (window : ℕ) → window ≡ h.schema.window → (keep : List Op) → ((ks : List Placed) (count : ℕ) → HasKeptIds h.tree ks count → with_id lock.id.partition lock.id.digest ks ≡ None → counts.kept ≡ length ks → counts.kept ≤ window → keep ≡ keep_ops window ks lock.id.partition lock.id.digest part)
+    → (some : List Op) → some ≡ op.Delete path None ∷ write ∷ [] → (ops : List Op) → ops ≡ some ++ keep
+    → ops ≡ op.Delete (znode_path (nodes.Lock lock.id.partition lock.number)) None ∷ op.Create entry_path (entry_bytes e) true None ∷ keep_ops now.schema.window (in_order now.schema.window now.log) lock.id.partition lock.id.digest (block_name lock.id.partition lock.number)
+ops-of h {tokens} {counts} now q is lock e new path path-is write write-is part part-is window window-is keep keep-is some some-is ops ops-are =
+    subst (λ (w : Held). ops ≡ op.Delete (znode_path (nodes.Lock lock.id.partition lock.number)) None ∷ op.Create entry_path (entry_bytes e) true None ∷ keep_ops w.schema.window (in_order w.schema.window w.log) lock.id.partition lock.id.digest (block_name lock.id.partition lock.number)) q
+    (ops-are ∙ ap (λ (xs : List Op). xs ++ keep) some-is ∙ ap (λ (p : Names). op.Delete p None ∷ write ∷ keep) path-is ∙ ap (λ (o : Op). op.Delete (znode_path (nodes.Lock lock.id.partition lock.number)) None ∷ o ∷ keep) write-is
+    ∙ ap (λ (xs : List Op). op.Delete (znode_path (nodes.Lock lock.id.partition lock.number)) None ∷ op.Create entry_path (entry_bytes e) true None ∷ xs)
+    (keep-is (in_order h.schema.window h.log) (order_count h.schema.window h.log) (held-kept h is.held) (subst (λ (w : Held). with_id lock.id.partition lock.id.digest (in_order w.schema.window w.log) ≡ None) (sym q) new) is.counted.kept
+    (let a = is.counted.kept in let b = window-most h.schema.window h.log in omega (arith, a, b, window-is))
+    ∙ ap (λ (w : ℕ). keep_ops w (in_order h.schema.window h.log) lock.id.partition lock.id.digest part) window-is ∙ ap (keep_ops h.schema.window (in_order h.schema.window h.log) lock.id.partition lock.id.digest) part-is))
+
+-- the table after a refusal that takes the lock
+pub after-refusal : (old new : Held) (lock : Lock) (x : CommitError) → TakesLock x → IsUnlocked old lock.id.partition lock.number new → AfterNoCommit old lock x new
+after-refusal old new lock (commit.LockGone n) t u = absurd t
+after-refusal old new lock (commit.TooFewLive live needed) t u = u
+after-refusal old new lock (commit.QuorumPending a) t u = u
+after-refusal old new lock (commit.Duplicate a) t u = u
+after-refusal old new lock (commit.LimitReached limit value) t u = u
+after-refusal old new lock commit.Memory t u = absurd t

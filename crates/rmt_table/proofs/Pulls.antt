@@ -1,0 +1,110 @@
+-- What a pull makes of a table and of a copy of its log.
+use Rattle.std.proofs.Common.{◌≡◌, ◌≢◌, ℕ, suc, ◌+◌, ◌-◌, ◌<◌, ◌≤◌, List, [], ◌∷◌, ◌++◌, length, refl, sym, ap, subst, arith, ◌∙◌, get_or, set}
+use Rattle.std.proofs.lemmas.List.{get_or_default}
+use Rattle.std.proofs.lemmas.Option.{slice_get-get_or}
+use Rattle.std.specs.Prelude.{slice_get}
+use Rattle.std.specs.Fmt.{decimal}
+use Rattle.std.specs.declared.option.Option.TheVariants.{Some, None}
+use Rattle.rmt_values.specs.Rows.{Shape}
+use Rattle.rmt_row.specs.Token.{Token}
+use Rattle.rmt_entries.specs.declared.entry.Entry.{Entry}
+use Rattle.rmt_entries.specs.EntryBytes.{entry_bytes}
+use Rattle.rmt_model.specs.Lawful.{IsPrefix, Lawful, entry_at}
+use Rattle.rmt_events.proofs.Moves.{goes-on-more}
+use Rattle.rmt_history.specs.Copies.{History, entries}
+use Rattle.rmt_history.proofs.Copied.{length-entries, token_at}
+use Rattle.rmt_tree.specs.Trees.{TreeView}
+use Rattle.rmt_tree.specs.Ops.{after_all, first_refusal}
+use Rattle.rmt_tree.specs.declared.op.Op.TheVariants as op
+use Rattle.rmt_znodes.specs.declared.znode.Znode.TheVariants.{LogPointer}
+use Rattle.rmt_znodes.specs.Znodes.{znode_path}
+use Rattle.rmt_table_model.specs.Changes.{after_pull}
+use Rattle.rmt_table_model.specs.Held.{Held, table_of}
+use Rattle.rmt_table_model.specs.Nodes.{IsTable}
+use Rattle.rmt_znodes.specs.ZnodeStates.{Makes}
+use Rattle.rmt_table_model.specs.Steps.{Steps}
+use Rattle.rmt_table_model.proofs.TableLemmas.{pull-steps}
+use Rattle.rmt_table_model.proofs.HeldLemmas.{held-table, held-held}
+use Rattle.rmt_table_view.specs.Shown.{shown}
+use Rattle.rmt_table_view.proofs.CallBridge.{pull-bridge}
+use Rattle.rmt_table.specs.TableTrees.{table_at, IsReplica, Counts, IsTableTree, ArePlaced}
+use Rattle.rmt_table.proofs.PrefixLemmas.{prefix-whole, prefix-length, prefix-next, next-lawful}
+
+-- a copy that has gone on, and is a prefix of the log
+pub record IsBetween (before : History) (copy : History) (log : List Entry) : Type 0 where
+  pub schema : copy.schema ≡ before.schema
+  pub longer : IsPrefix before.log copy.log
+  pub prefix : IsPrefix copy.log log
+
+-- it is as long as the log
+pub pulled-whole : (before copy : History) (tokens : List (Token Entry)) (n : ℕ) → IsBetween before copy (entries tokens) → n ≡ length copy.log → length tokens ≤ n → copy.log ≡ entries tokens
+pulled-whole before copy tokens n is e l =
+    prefix-whole copy.log (entries tokens) is.prefix (let w = prefix-length copy.log (entries tokens) is.prefix in let t = length-entries tokens in omega (arith, w, t, e, l))
+
+-- the next token
+module _ (before copy : History) (tokens : List (Token Entry)) (lawful : Lawful before.schema (entries tokens)) (places : ArePlaced tokens) (is : IsBetween before copy (entries tokens)) (i : ℕ) (at : i ≡ length copy.log) (n : ℕ) (n-is : n ≡ length copy.log) (below : n < length tokens)
+    (x next : Token Entry) (x-is : x ≡ get_or tokens i x) (next-is : next ≡ x) where
+  token-there : slice_get tokens i ≡ Some next
+  token-there = slice_get-get_or tokens i x (omega (arith, at, n-is, below)) ∙ ap (λ (t : Token Entry). Some t) (sym x-is ∙ sym next-is)
+
+  entry-next : entry_at (entries tokens) (length copy.log) ≡ Some next.value
+  entry-next = ap (entry_at (entries tokens)) (sym at) ∙ token_at tokens i next token-there
+
+  pub next-place : next.place ≡ length copy.log
+  next-place = places i next token-there ∙ at
+
+  pub next-follows : Lawful copy.schema (next.value ∷ copy.log)
+  next-follows = next-lawful copy.schema copy.log (entries tokens) next.value is.prefix entry-next (subst (λ (s : Shape). Lawful s (entries tokens)) (sym is.schema) lawful)
+
+  pub next-between : (more : History) → more ≡ record copy { log = next.value ∷ copy.log; cells = copy.cells ++ next.cell ∷ [] } → IsBetween before more (entries tokens)
+  next-between more e = subst (λ (h : History). IsBetween before h (entries tokens)) (sym e) (record {
+    schema = is.schema;
+    longer = goes-on-more next.value before.log copy.log is.longer;
+    prefix = prefix-next copy.log (entries tokens) next.value is.prefix entry-next;
+  })
+
+-- how much a replica has pulled
+module _ (h : Held) (tokens : List (Token Entry)) (counts : Counts) (is : IsTableTree h tokens counts) (now : Held) (same : h ≡ now) (r : ℕ) (here : IsReplica now r) (at : ℕ) (at-is : at ≡ r) (found len : ℕ) (found-is : found ≡ get_or h.pulled (at - 1) found) (len-now : len ≡ length now.log) (other : found ≢ len) where
+  within : r - 1 < length h.sessions
+  within = let f = here.first in let l : r ≤ length h.sessions = subst (λ (k : Held). r ≤ length k.sessions) (sym same) here.last in omega (arith, f, l)
+
+  place-of : suc (r - 1) ≡ r
+  place-of = let f = here.first in omega (arith, f)
+
+  len-is : len ≡ length h.log
+  len-is = len-now ∙ ap (λ (k : Held). length k.log) (sym same)
+
+  found-zero : get_or h.pulled (r - 1) 0 ≡ found
+  found-zero = let m = is.held.same_many in let w = within in
+      get_or_default h.pulled (r - 1) 0 found (omega (arith, m, w)) ∙ ap (λ (i : ℕ). get_or h.pulled (i - 1) found) (sym at-is) ∙ sym found-is
+
+  stepped : Steps entry_bytes h.tree (op.Set (znode_path (LogPointer (suc (r - 1)))) (decimal (length h.log)) None ∷ []) (after_pull (r - 1) (table_of h))
+  stepped = pull-steps entry_bytes h.tree (table_of h) is.held (r - 1) within (λ e. other (sym found-zero ∙ e ∙ sym len-is))
+
+  pub pull-fine : first_refusal h.tree (op.Set (znode_path (LogPointer r)) (decimal len) None ∷ []) 0 ≡ None
+  pull-fine = subst (λ (n : ℕ). first_refusal h.tree (op.Set (znode_path (LogPointer r)) (decimal n) None ∷ []) 0 ≡ None) (sym len-is)
+      (subst (λ (i : ℕ). first_refusal h.tree (op.Set (znode_path (LogPointer i)) (decimal (length h.log)) None ∷ []) 0 ≡ None) place-of (Makes.none_refused (Steps.makes stepped) 0))
+
+  module _ (t : TreeView) (t-is : t ≡ after_all h.tree (op.Set (znode_path (LogPointer r)) (decimal len) None ∷ [])) where
+    pull-stepped : IsTable entry_bytes t (after_pull (r - 1) (table_of h))
+    pull-stepped = subst (λ (w : TreeView). IsTable entry_bytes w (after_pull (r - 1) (table_of h)))
+        (ap (λ (n : ℕ). after_all h.tree (op.Set (znode_path (LogPointer (suc (r - 1)))) (decimal n) None ∷ [])) (sym len-is)
+        ∙ ap (λ (i : ℕ). after_all h.tree (op.Set (znode_path (LogPointer i)) (decimal len) None ∷ [])) place-of ∙ sym t-is)
+        (Steps.table (pull-steps entry_bytes h.tree (table_of h) is.held (r - 1) within (λ e. other (sym found-zero ∙ e ∙ sym len-is))))
+
+    pull-moved : ◌≡◌ {A = Held} (record h { pulled = set h.pulled (r - 1) (length h.log); tree = t }) (record h { pulled = set h.pulled (at - 1) len; tree = t })
+    pull-moved = ap (λ (i : ℕ). record h { pulled = set h.pulled (i - 1) (length h.log); tree = t }) (sym at-is) ∙ ap (λ (n : ℕ). record h { pulled = set h.pulled (at - 1) n; tree = t }) (sym len-is)
+
+    pub pull-kept : IsTableTree (record h { pulled = set h.pulled (at - 1) len; tree = t }) tokens counts
+    pull-kept = subst (λ (k : Held). IsTableTree k tokens counts) pull-moved (record {
+      held = held-held entry_bytes (record h { pulled = set h.pulled (r - 1) (length h.log); tree = t }) (after_pull (r - 1) (table_of h)) pull-stepped refl;
+      counted = record { clients = is.counted.clients; workers = is.counted.workers; mutations = is.counted.mutations; kept = is.counted.kept };
+      places = is.places;
+    })
+
+    pub pull-seen : table_at (record h { pulled = set h.pulled (at - 1) len; tree = t }) ≡ table_at now
+    pull-seen =
+        ap table_at (sym pull-moved)
+        ∙ ap shown (held-table entry_bytes (record h { pulled = set h.pulled (r - 1) (length h.log); tree = t }) (after_pull (r - 1) (table_of h)) pull-stepped refl)
+        ∙ pull-bridge (table_of h) (r - 1)
+        ∙ ap table_at same

@@ -1,0 +1,72 @@
+use Rattle.std.proofs.Common.{◌≡◌, ◌+◌, List, None, refl, sym, ap, subst, ◌∙◌}
+use Rattle.rmt_tree.specs.declared.op.Op.{Op}
+use Rattle.rmt_table_model.specs.Kept.{in_order}
+use Rattle.rmt_table_model.specs.Nodes.{order_count}
+use Rattle.rmt_table.proofs.HeldNodes.{held-kept}
+use Rattle.rmt_row.specs.Token.{Token}
+use Rattle.rmt_entries.specs.declared.entry.Entry.{Entry}
+use Rattle.rmt_entries.specs.declared.entry.Entry.TheVariants.{DropRange}
+use Rattle.rmt_history.specs.Copies.{entries}
+use Rattle.rmt_limits.specs.BlockNumbers.{next_number, with_next}
+use Rattle.rmt_tree.specs.Ops.{after_all, first_refusal}
+use Rattle.rmt_table_model.specs.Numbers.{Nexts}
+use Rattle.rmt_table_model.specs.Held.{Held}
+use Rattle.rmt_table.specs.contracts.table_tree.TableTree.{the_view}
+use Rattle.rmt_table.proofs.AppendLemmas.{placed-snoc, entries-more, token-next}
+use Rattle.rmt_table.proofs.Drops.{drop-fine, number-nowhere, drop-refused, drop-small, drop-fewer, drop-forgets, drop-kept, drop-done}
+use Rattle.rmt_table.proofs.table_tree.TableTree.drop_partition.Goals as goal
+
+pub returns-in_default-clause-done : goal.returns-in_default-clause-done
+returns-in_default-clause-done c = (
+  ap (λ (k : Held). next_number k.next c.args.partition) (sym c.self.view_is) ∙ number-nowhere c.self.inside.partitions.numbers c.args.partition (sym c.number.ensures ∙ c.in_default.is),
+  refl,
+)
+
+pub returns-in-Some-drop_refusal-clause-refused : goal.returns-in-Some-drop_refusal-clause-refused
+returns-in-Some-drop_refusal-clause-refused c =
+    drop-refused (the_view c.self.inside) c.self.inside.log.items _ c.self.invariant refl c.args.self.now c.self.view_is c.args.partition c.number.result c.number.ensures c.in-Some.number c.in-Some.is c.drop_refusal.result c.drop_refusal.ensures
+    c.in-Some-drop_refusal.error c.in-Some-drop_refusal.is
+
+pub take-requires-clause-small : goal.take-requires-clause-small
+take-requires-clause-small c =
+    drop-small (the_view c.self.inside) c.self.inside.log.items _ c.self.invariant refl c.args.self.now c.self.view_is c.args.partition c.number.result c.number.ensures c.in-Some.number c.in-Some.is c.drop_refusal.result c.drop_refusal.ensures c.in_default-drop_refusal.is
+    c.reserve.new.self.numbers c.in_ok-reserve.ensures.numbers
+
+pub overflow_sub-self : goal.overflow_sub-self
+overflow_sub-self c =
+    drop-fewer (the_view c.self.inside) c.self.inside.log.items _ c.self.invariant refl c.args.self.now c.self.view_is c.args.partition c.number.result c.number.ensures c.in-Some.number c.in-Some.is c.drop_refusal.result c.drop_refusal.ensures c.in_default-drop_refusal.is
+    c.in_ok-drop.drop.forgotten c.in_ok-drop.ensures.forgotten
+
+pub invariant_of-self-2 : goal.invariant_of-self-2
+invariant_of-self-2 c =
+    drop-kept (the_view c.self.inside) c.self.inside.log.items _ c.self.invariant refl c.args.self.now c.self.view_is c.args.partition c.number.result c.number.ensures c.in-Some.number c.in-Some.is c.drop_refusal.result c.drop_refusal.ensures c.in_default-drop_refusal.is
+    c.in_ok-drop.drop.ops.items c.in_ok-drop.ensures.ops c.append.new.tree (c.in_ok-token.ensures.tree ∙ ap (after_all c.self.inside.tree) c.deref.ensures.value)
+    (entries c.append.new.log.items)
+    (entries-more c.self.inside.log.items c.append.new.log.items c.in_ok-token.token (DropRange c.args.partition c.in-Some.number) c.in_ok-token.ensures.log (ap (λ (t : Token Entry). t.value) c.in_ok-token.ensures.token))
+    c.take.new.self.numbers
+    (c.take.ensures ∙ ap (λ (ns : Nexts). with_next ns c.args.partition (next_number ns c.args.partition + 1)) c.in_ok-reserve.ensures.numbers)
+    c.append.new.log.items
+    (placed-snoc c.self.inside.log.items c.append.new.log.items c.in_ok-token.token c.in_ok-token.ensures.log (ap (λ (t : Token Entry). t.place) c.in_ok-token.ensures.token) c.self.invariant.places)
+    c.in_ok-drop.drop.forgotten
+    (drop-forgets (the_view c.self.inside) c.self.inside.log.items _ c.self.invariant refl c.args.self.now c.self.view_is c.args.partition c.number.result c.number.ensures c.in-Some.number c.in-Some.is c.drop_refusal.result c.drop_refusal.ensures c.in_default-drop_refusal.is
+    c.in_ok-drop.drop.forgotten c.in_ok-drop.ensures.forgotten)
+
+pub returns-clause-done : goal.returns-clause-done
+returns-clause-done c =
+    drop-done (the_view c.self.inside) c.self.inside.log.items _ c.self.invariant refl c.args.self.now c.self.view_is c.args.partition c.number.result c.number.ensures c.in-Some.number c.in-Some.is c.drop_refusal.result c.drop_refusal.ensures c.in_default-drop_refusal.is
+    c.in_ok-drop.drop.ops.items c.in_ok-drop.ensures.ops c.append.new.tree (c.in_ok-token.ensures.tree ∙ ap (after_all c.self.inside.tree) c.deref.ensures.value)
+    (entries c.append.new.log.items)
+    (entries-more c.self.inside.log.items c.append.new.log.items c.in_ok-token.token (DropRange c.args.partition c.in-Some.number) c.in_ok-token.ensures.log (ap (λ (t : Token Entry). t.value) c.in_ok-token.ensures.token))
+    c.take.new.self.numbers
+    (c.take.ensures ∙ ap (λ (ns : Nexts). with_next ns c.args.partition (next_number ns c.args.partition + 1)) c.in_ok-reserve.ensures.numbers)
+    c.in_ok-token.token
+    (token-next (the_view c.self.inside) c.args.self.now c.self.view_is c.self.inside.log.items refl (DropRange c.args.partition c.in-Some.number) c.in_ok-token.token c.in_ok-token.ensures.token)
+
+pub append-requires : goal.append-requires
+append-requires c = record {
+  fine = subst (λ (xs : List Op). first_refusal c.self.inside.tree xs 0 ≡ None) (sym c.deref.ensures.value) (drop-fine (the_view c.self.inside) c.self.inside.log.items _ c.self.invariant refl c.args.self.now c.self.view_is c.args.partition c.number.result c.number.ensures c.in-Some.number c.in-Some.is c.drop_refusal.result c.drop_refusal.ensures c.in_default-drop_refusal.is
+      c.in_ok-drop.drop.ops.items c.in_ok-drop.ensures.ops);
+}
+
+pub ops_of_drop-requires-clause-kept : goal.ops_of_drop-requires-clause-kept
+ops_of_drop-requires-clause-kept c = (in_order (the_view c.self.inside).schema.window (the_view c.self.inside).log, order_count (the_view c.self.inside).schema.window (the_view c.self.inside).log, held-kept (the_view c.self.inside) c.self.invariant.held)

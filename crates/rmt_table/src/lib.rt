@@ -1,0 +1,21 @@
+//! A table: its coordination tree and its log. Each call that changes it is one multi on the tree.
+#![tactic(auto)]
+
+mod allocate_error;
+mod change_error;
+mod commit_error;
+mod counted;
+mod layout;
+mod lock;
+mod merge_error;
+mod mutate_error;
+mod ops;
+mod table_tree;
+
+pub use allocate_error::AllocateError;
+pub use change_error::ChangeError;
+pub use commit_error::CommitError;
+pub use lock::Lock;
+pub use merge_error::MergeError;
+pub use mutate_error::MutateError;
+pub use table_tree::TableTree;

@@ -1,0 +1,29 @@
+ghost use Rattle.std.specs.Prelude.{◌≡◌};
+ghost use Rattle.rmt_table.specs.declared.merge_error.MergeError.TheVariants.{Memory};
+
+use rmt_names::PartName;
+use rmt_values::Limit;
+use std::alloc::AllocError;
+
+/// Why a merge isn't in the log.
+#[derive(Clone, Copy, Debug, PartialEq, Eq)]
+pub enum MergeError {
+    /// The log has more entries than the copy that the merge was chosen from.
+    LogMoved { seen: u32, found: u32 },
+    /// The first neighbours that are of different versions.
+    Differ { left: PartName, right: PartName },
+    /// The least number in the merged range that an insert holds.
+    InFlight(u32),
+    /// The entry would pass a limit, whose count is this.
+    LimitReached { limit: Limit, value: u64 },
+    /// Out of memory.
+    Memory,
+}
+
+impl From<AllocError> for MergeError {
+    ghost from_gives = { λ _ e. e ≡ Memory };
+
+    fn from(_: AllocError) -> MergeError {
+        MergeError::Memory
+    }
+}

@@ -1,0 +1,24 @@
+ghost use Rattle.std.specs.Prelude.{◌≡◌};
+ghost use Rattle.rmt_table.specs.declared.mutate_error.MutateError.TheVariants.{Memory};
+
+use rmt_values::Limit;
+use std::alloc::AllocError;
+
+/// Why the mutation of a part isn't in the log.
+#[derive(Clone, Copy, Debug, PartialEq, Eq)]
+pub enum MutateError {
+    /// The log has more entries than the copy that the part was chosen from.
+    LogMoved { seen: u32, found: u32 },
+    /// The entry would pass a limit, whose count is this.
+    LimitReached { limit: Limit, value: u64 },
+    /// Out of memory.
+    Memory,
+}
+
+impl From<AllocError> for MutateError {
+    ghost from_gives = { λ _ e. e ≡ Memory };
+
+    fn from(_: AllocError) -> MutateError {
+        MutateError::Memory
+    }
+}

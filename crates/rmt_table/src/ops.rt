@@ -1,0 +1,101 @@
+//! The operations of calls, and the multi that does them.
+ghost use Rattle.std.specs.Prelude.{◌≡◌, ◌∷◌, ◌++◌, [], length, true, None, IfOk, OnOk, OnErr};
+ghost use Rattle.std.specs.Fmt.{decimal};
+ghost use Rattle.rmt_tree.specs.Ops.{first_refusal, after_all};
+ghost use Rattle.rmt_tree.specs.declared.op.Op.TheVariants as op;
+ghost use Rattle.rmt_entries.specs.EntryBytes.{entry_bytes, EntryInRange};
+ghost use Rattle.rmt_znodes.specs.Znodes.{entry_path as path_of_entries};
+ghost use Rattle.rmt_table.specs.TableTrees.{entry_ops as entry_ops_of};
+
+use rmt_entries::{Entry, bytes};
+use rmt_row::Seen;
+use rmt_tree::{MultiError, Op, Path, Tree};
+use rmt_values::Blob;
+use rmt_znodes::entry_path;
+use std::alloc::{AllocError, Global};
+use std::sync::Arc;
+
+/// Does these operations, where none of them is refused. At an error no memory was left, and the tree is as it was.
+pub(crate) fn multi(tree: &mut Tree, ops: &[Op]) -> Result<(), AllocError>
+    requires fine { first_refusal tree.old ops.now 0 ≡ None }
+    ensures ok { OnOk result (tree.new ≡ after_all tree.old ops.now) }
+    ensures err { OnErr result (tree.new ≡ tree.old) }
+{
+    match tree.multi(ops) {
+        Ok(_) => Ok(()),
+        Err(MultiError::Memory) => Err(AllocError),
+        Err(MultiError::Refused { .. }) => unreachable!(),
+    }
+}
+
+/// Deletes a znode, which is there. At an error no memory was left, and the tree is as it was.
+pub(crate) fn delete(tree: &mut Tree, alloc: Global, path: Path) -> Result<(), AllocError>
+    requires fine { first_refusal tree.old (op.Delete path None ∷ []) 0 ≡ None }
+    ensures ok { OnOk result (tree.new ≡ after_all tree.old (op.Delete path None ∷ [])) }
+    ensures err { OnErr result (tree.new ≡ tree.old) }
+{
+    let op = Op::Delete {
+        path,
+        version: None,
+    };
+    let ops = vec![in alloc; op]?;
+    multi(tree, &ops)
+}
+
+/// The operation that writes the next entry of the log. At an error no memory was left.
+pub(crate) fn entry_op(alloc: Global, entry: &Entry) -> Result<Op, AllocError>
+    requires in_range { EntryInRange entry.now }
+    ensures { IfOk result (λ made. made ≡ op.Create path_of_entries (entry_bytes entry.now) true None) }
+{
+    let path = entry_path(alloc)?;
+    let value = bytes(alloc, entry)?;
+    Ok(Op::Create {
+        path,
+        value: Blob::new(value),
+        sequential: true,
+        owner: None,
+    })
+}
+
+/// The operation that writes the next entry of the log, alone. At an error no memory was left.
+pub(crate) fn entry_ops(alloc: Global, entry: &Entry) -> Result<Vec<Op>, AllocError>
+    requires in_range { EntryInRange entry.now }
+    ensures { IfOk result (λ ops. ops.items ≡ entry_ops_of entry.now) }
+{
+    let op = entry_op(alloc, entry)?;
+    let ops = vec![in alloc; op]?;
+    Ok(ops)
+}
+
+/// A number as decimal digits. At an error no memory was left.
+pub(crate) fn number_text(alloc: Global, number: u32) -> Result<Blob, AllocError>
+    ensures { IfOk result (λ text. text ≡ decimal number) }
+{
+    let digits = number.to_string(alloc)?;
+    Ok(Blob::new(Vec::from_slice(alloc, digits.as_bytes())?))
+}
+
+/// Does the operations of an entry, and puts the entry into the log. Its token comes back.
+///
+/// At an error no memory was left, and tree and log are as they were.
+pub(crate) fn append(
+    tree: &mut Tree,
+    log: &mut Vec<Seen<Entry>>,
+    alloc: Global,
+    ops: &[Op],
+    entry: Entry,
+) -> Result<Seen<Entry>, AllocError>
+    requires fine { first_refusal tree.old ops.now 0 ≡ None }
+    ensures tree { OnOk result (tree.new ≡ after_all tree.old ops.now) }
+    ensures log { IfOk result (λ token. log.new.items ≡ log.old.items ++ token ∷ []) }
+    ensures token { IfOk result (λ token. token ≡ record { place = length log.old.items; value = entry; cell = length log.old.items }) }
+    ensures err_tree { OnErr result (tree.new ≡ tree.old) }
+    ensures err_log { OnErr result (log.new.items ≡ log.old.items) }
+{
+    let token = Seen::of(log.len(), Arc::new(alloc, entry)?);
+    let answer = token.copy()?;
+    log.reserve(1)?;
+    multi(tree, ops)?;
+    log.push(token).unwrap();
+    Ok(answer)
+}

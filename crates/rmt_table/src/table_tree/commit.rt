@@ -1,0 +1,148 @@
+ghost use Rattle.std.specs.Prelude.{◌≡◌, ◌∷◌, true, None, length, IfOk, IfErr, IfSome, OnOk};
+ghost use Rattle.rmt_tree.specs.Ops.{after_all};
+ghost use Rattle.rmt_tree.specs.declared.op.Op.TheVariants as op;
+ghost use Rattle.rmt_znodes.specs.declared.znode.Znode.TheVariants as ZnodeOf;
+ghost use Rattle.rmt_znodes.specs.Znodes.{znode_path, entry_path};
+ghost use Rattle.rmt_names.specs.Names.{block_name as block_name_of};
+ghost use Rattle.rmt_table_model.specs.Kept.{in_order, with_id};
+ghost use Rattle.rmt_entries.specs.EntryBytes.{entry_bytes, EntryInRange};
+ghost use Rattle.rmt_entries.specs.declared.entry.Entry.TheVariants.{Get};
+ghost use Rattle.rmt_events.specs.TableCalls.{Commits, IsLocked};
+ghost use Rattle.rmt_table_model.specs.Held.{table_of};
+ghost use Rattle.rmt_table_model.specs.Nodes.{commit_ops as commit_ops_of, keep_ops as keep_ops_of};
+ghost use Rattle.rmt_table.specs.TableTrees.{table_at, IsReplica, AfterNoCommit, kept_after as kept_after_of};
+ghost use Rattle.rmt_table.specs.Refusals.{NoCommit, IsAcceptable, TakesLock};
+
+use crate::commit_error::CommitError;
+use crate::lock::Lock;
+use crate::ops::{append, delete, entry_op};
+use crate::table_tree::TableTree;
+use rmt_entries::Entry;
+use rmt_inserts::{keep_ops, kept};
+use rmt_names::block_name;
+use rmt_row::Seen;
+use rmt_tree::{Op, Path};
+use rmt_values::Limit;
+use rmt_znodes::{Znode, is_id};
+use std::alloc::{AllocError, Global};
+
+/// How many ids are kept after one more block, where a window of this size had so many.
+fn kept_after(kept: u32, window: u32) -> u32
+    ensures { result ≡ kept_after_of kept window }
+{
+    if kept < window { kept + 1 } else { kept }
+}
+
+impl TableTree {
+    /// Why the block of a lock, which is there, isn't accepted. At an error no memory was left.
+    fn commit_refusal(
+        &self,
+        alloc: Global,
+        lock: &Lock,
+        values: u64,
+    ) -> Result<Option<CommitError>, AllocError>
+        requires locked { IsLocked (table_at self.now).locks lock.now.id.partition lock.now.number }
+        ensures none { IfOk result (λ refused. refused ≡ None → IsAcceptable (table_at self.now) lock.now values) }
+        ensures some { IfOk result (λ refused. IfSome refused (NoCommit (table_at self.now) lock.now 0 values)) }
+        ensures takes { IfOk result (λ refused. IfSome refused TakesLock) }
+    {
+        if let Some(part) = kept(&self.tree, alloc, &lock.id)? {
+            return Ok(Some(CommitError::Duplicate(part)));
+        }
+        if self.clients >= 32_768 {
+            return Ok(Some(CommitError::LimitReached {
+                limit: Limit::ClientEntries,
+                value: u64::from(self.clients),
+            }));
+        }
+        if values > 8_388_608 - self.values {
+            return Ok(Some(CommitError::LimitReached {
+                limit: Limit::Values,
+                value: self.values,
+            }));
+        }
+        Ok(None)
+    }
+
+    /// The operations that accept the block of a lock. At an error no memory was left.
+    fn commit_ops(
+        &self,
+        alloc: Global,
+        lock: &Lock,
+        path: Path,
+        entry: &Entry,
+    ) -> Result<Vec<Op>, AllocError>
+        requires path { path ≡ znode_path (ZnodeOf.Lock lock.now.id.partition lock.now.number) }
+        requires in_range { EntryInRange entry.now }
+        requires unkept { with_id lock.now.id.partition lock.now.id.digest (in_order self.now.schema.window self.now.log) ≡ None }
+        ensures { IfOk result (λ ops. ops.items ≡ op.Delete (znode_path (ZnodeOf.Lock lock.now.id.partition lock.now.number)) None ∷ op.Create entry_path (entry_bytes entry.now) true None ∷ keep_ops_of self.now.schema.window (in_order self.now.schema.window self.now.log) lock.now.id.partition lock.now.id.digest (block_name_of lock.now.id.partition lock.now.number)) }
+    {
+        let part = block_name(lock.id.partition, lock.number);
+        let unlock = Op::Delete {
+            path,
+            version: None,
+        };
+        let write = entry_op(alloc, entry)?;
+        let mut keep = keep_ops(
+            &self.tree,
+            alloc,
+            &lock.id,
+            &part,
+            self.schema.window(),
+            self.kept,
+        )?;
+        let mut ops = vec![in alloc; unlock, write]?;
+        ops.append(&mut keep)?;
+        Ok(ops)
+    }
+
+    /// Accepts the block of a lock: its entry and its id are written, and the lock goes. The entry's token comes back.
+    /// `values` is the number of the block's rows times the number of its columns.
+    ///
+    /// At `LockGone` and `Memory` the table is as it was, and at each other error the lock is gone.
+    pub fn commit_insert(
+        &mut self,
+        alloc: Global,
+        lock: &Lock,
+        need: u32,
+        values: u64,
+    ) -> Result<Seen<Entry>, CommitError>
+        requires here { IsReplica self.old lock.now.replica }
+        requires unasked { need ≡ 0 }
+        ensures token { IfOk result (λ token. token ≡ record { place = length self.old.log; value = Get lock.now.id.partition lock.now.number lock.now.id.digest lock.now.replica need; cell = length self.old.log }) }
+        ensures commits { OnOk result (Commits (table_at self.old) lock.now.id.partition lock.now.number lock.now.id.digest lock.now.replica need values (table_at self.new)) }
+        ensures ops { OnOk result (self.new.tree ≡ after_all self.old.tree (commit_ops_of entry_bytes lock.now.id.partition lock.now.number lock.now.id.digest lock.now.replica need (table_of self.old))) }
+        ensures refused { IfErr result (NoCommit (table_at self.old) lock.now need values) }
+        ensures err { IfErr result (λ e. AfterNoCommit self.old lock.now e self.new) }
+        ensures replicas { length self.new.sessions ≡ length self.old.sessions }
+    {
+        let path = Znode::Lock {
+            partition: lock.id.partition,
+            number: lock.number,
+        }
+        .path(alloc)?;
+        if self.tree.get(&path).is_none() {
+            return Err(CommitError::LockGone {
+                number: lock.number,
+            });
+        }
+        if let Some(refused) = self.commit_refusal(alloc, lock, values)? {
+            delete(&mut self.tree, alloc, path)?;
+            return Err(refused);
+        }
+        let entry = Entry::Get {
+            partition: lock.id.partition,
+            number: lock.number,
+            digest: lock.id.digest,
+            source: lock.replica,
+            need,
+        };
+        is_id(&lock.id);
+        let ops = self.commit_ops(alloc, lock, path, &entry)?;
+        let token = append(&mut self.tree, &mut self.log, alloc, &ops, entry)?;
+        self.clients += 1;
+        self.values += values;
+        self.kept = kept_after(self.kept, self.schema.window());
+        Ok(token)
+    }
+}

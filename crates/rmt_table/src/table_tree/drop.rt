@@ -1,0 +1,106 @@
+ghost use Rattle.std.specs.Prelude.{◌≡◌, ◌+◌, ◌∷◌, ◌++◌, [], ℕ, List, length, filter, true, None, Some, IfOk, IfErr, OnErr};
+ghost use Rattle.std.specs.Option.{option_map};
+ghost use Rattle.std.specs.declared.option.Option.{Option};
+ghost use Rattle.rmt_tree.specs.declared.op.Op.{Op};
+ghost use Rattle.rmt_tree.specs.declared.op.Op.TheVariants as op;
+ghost use Rattle.rmt_entries.specs.EntryBytes.{entry_bytes, EntryInRange};
+ghost use Rattle.rmt_znodes.specs.Znodes.{entry_path};
+ghost use Rattle.rmt_table_model.specs.Numbers.{Nexts, Holders, next_of};
+ghost use Rattle.rmt_table_model.specs.Kept.{Placed, outlives};
+ghost use Rattle.rmt_table_model.specs.Inserts.{HasNumbers, HasKeptIds, AreDropOps};
+ghost use Rattle.rmt_table_model.specs.Nodes.{number_ops as ops_of_number};
+ghost use Rattle.rmt_limits.specs.BlockNumbers.{next_number};
+ghost use Rattle.rmt_limits.specs.EntryLimits.{drop_limit};
+ghost use Rattle.rmt_table.specs.TableTrees.{table_at, IsDrop};
+ghost use Rattle.rmt_table.specs.Refusals.{NoDrop};
+ghost use Rattle.rmt_table.specs.declared.change_error.ChangeError.TheVariants as change;
+
+use crate::change_error::ChangeError;
+use crate::ops::{append, entry_op};
+use crate::table_tree::TableTree;
+use rmt_entries::Entry;
+use rmt_inserts::{DropOps, drop_ops, number_ops};
+use rmt_names::PartitionId;
+use rmt_row::Seen;
+use rmt_tree::Tree;
+use rmt_values::Limit;
+use std::alloc::{AllocError, Global};
+
+/// The operations that drop the numbers of a partition below its next one, which is this, and write the entry of the drop;
+/// and how many kept ids go. At an error no memory was left.
+fn ops_of_drop(
+    tree: &Tree,
+    alloc: Global,
+    partition: PartitionId,
+    number: u32,
+    entry: &Entry,
+) -> Result<DropOps, AllocError>
+    requires in_range { EntryInRange entry.now }
+    requires kept { (ks : List Placed) × (count : ℕ) × HasKeptIds tree.now ks count }
+    ensures ops { (next : Nexts) (holders : Holders) (ks : List Placed) (count : ℕ) → HasNumbers tree.now next holders → HasKeptIds tree.now ks count → next_of next partition ≡ Some number
+        → IfOk result (λ d. (removals : List Op) × AreDropOps holders ks partition number removals
+        × (d.ops.items ≡ ops_of_number partition number ++ (removals ++ op.Create entry_path (entry_bytes entry.now) true None ∷ []))) }
+    ensures forgotten { (ks : List Placed) (count : ℕ) → HasKeptIds tree.now ks count
+        → IfOk result (λ d. d.forgotten + length (filter (outlives partition number) ks) ≡ length ks) }
+{
+    let mut ops = number_ops(tree, alloc, partition)?;
+    let mut dropped = drop_ops(tree, alloc, partition, number)?;
+    ops.append(&mut dropped.ops)?;
+    ops.push(entry_op(alloc, entry)?)?;
+    Ok(DropOps {
+        ops,
+        forgotten: dropped.forgotten,
+    })
+}
+
+impl TableTree {
+    /// Drops all parts of a partition: a drop of the numbers below its next one is appended, and takes that number. The
+    /// locks of inserts in flight and the kept ids of the partition's blocks go. The entry's token comes back; `None` where
+    /// the partition doesn't exist.
+    ///
+    /// At an error the table is as it was.
+    pub fn drop_partition(
+        &mut self,
+        alloc: Global,
+        partition: PartitionId,
+    ) -> Result<Option<Seen<Entry>>, ChangeError>
+        ensures done { IfOk result (λ token. IsDrop self.old partition token self.new) }
+        ensures refused { IfErr result (NoDrop (table_at self.old) partition) }
+        ensures err { OnErr result (self.new ≡ self.old) }
+        ensures replicas { length self.new.sessions ≡ length self.old.sessions }
+    {
+        let Some(number) = self.partitions.number(partition) else {
+            return Ok(None);
+        };
+        if let Some(error) = self.drop_refusal(number) {
+            return Err(error);
+        }
+        let entry = Entry::DropRange { partition, number };
+        let drop = ops_of_drop(&self.tree, alloc, partition, number, &entry)?;
+        self.partitions.reserve()?;
+        let token = append(&mut self.tree, &mut self.log, alloc, &drop.ops, entry)?;
+        self.partitions.take(partition);
+        self.clients += 1;
+        self.kept -= drop.forgotten;
+        Ok(Some(token))
+    }
+
+    /// Why the drop of a partition, whose next number this is, isn't appended.
+    fn drop_refusal(&self, number: u32) -> Option<ChangeError>
+        ensures { (p : Option ℕ) → number ≡ next_number self.now.next p → result ≡ option_map (λ l. change.LimitReached l.0 l.1) (drop_limit self.now.next self.now.log p) }
+    {
+        if number >= 65_536 {
+            return Some(ChangeError::LimitReached {
+                limit: Limit::Numbers,
+                value: u64::from(number),
+            });
+        }
+        if self.clients >= 32_768 {
+            return Some(ChangeError::LimitReached {
+                limit: Limit::ClientEntries,
+                value: u64::from(self.clients),
+            });
+        }
+        None
+    }
+}

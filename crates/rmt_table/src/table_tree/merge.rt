@@ -1,0 +1,87 @@
+ghost use Rattle.std.specs.Prelude.{◌≡◌, length, MatchOption, IfOk, IfErr, OnOk, OnErr};
+ghost use Rattle.rmt_events.specs.LogEvents.{AreMergeable, AreFirstToDiffer, AreAlike};
+ghost use Rattle.rmt_table.specs.TableTrees.{table_at, IsCopyOf, IsMergeOf};
+ghost use Rattle.rmt_table.specs.Refusals.{NoMerge};
+
+use crate::counted::block_sum;
+use crate::merge_error::MergeError;
+use crate::ops::{append, entry_ops};
+use crate::table_tree::TableTree;
+use rmt_entries::Entry;
+use rmt_history::LogCopy;
+use rmt_inserts::in_flight;
+use rmt_list::List;
+use rmt_names::{PartName, merged};
+use rmt_row::Seen;
+use rmt_values::Limit;
+use std::alloc::Global;
+
+/// The first neighbours among these names that are of different versions.
+fn first_to_differ(copy: &LogCopy, names: &[PartName]) -> Option<(PartName, PartName)>
+    ensures { MatchOption result (AreAlike copy.now.log names.now)
+        (λ pair. AreFirstToDiffer copy.now.log names.now pair.0 pair.1) }
+{
+    let [first, rest @ ..] = names else {
+        return None;
+    };
+    let mut left = *first;
+    'names: for right in rest {
+        if copy.ver(&left) != copy.ver(right) {
+            return Some((left, *right));
+        }
+        left = *right;
+    }
+    None
+}
+
+impl TableTree {
+    /// Appends a merge of neighbours, where the log still has the length of the copy that they were chosen from. Its
+    /// entry's token comes back.
+    ///
+    /// At an error the table is as it was. At `LogMoved` choose again from a copy of the whole log.
+    pub fn assign_merge(
+        &mut self,
+        alloc: Global,
+        copy: &LogCopy,
+        sources: &[PartName],
+    ) -> Result<Seen<Entry>, MergeError>
+        requires of { IsCopyOf self.old copy.now }
+        requires neighbours { AreMergeable copy.now.log sources.now }
+        ensures done { IfOk result (λ token. IsMergeOf self.old sources.now token self.new) }
+        ensures refused { IfErr result (NoMerge (table_at self.old) (length copy.now.log) sources.now) }
+        ensures err { OnErr result (self.new ≡ self.old) }
+        ensures replicas { length self.new.sessions ≡ length self.old.sessions }
+    {
+        let seen = copy.len();
+        if seen < self.log.len() {
+            return Err(MergeError::LogMoved {
+                seen: seen as u32,
+                found: self.log_len(),
+            });
+        }
+        if let Some((left, right)) = first_to_differ(copy, sources) {
+            return Err(MergeError::Differ { left, right });
+        }
+        let Some(new) = merged(sources) else {
+            unreachable!()
+        };
+        if let Some(number) = in_flight(&self.tree, alloc, new.partition(), new.min(), new.max())? {
+            return Err(MergeError::InFlight(number));
+        }
+        if self.workers >= 32_768 {
+            return Err(MergeError::LimitReached {
+                limit: Limit::WorkerEntries,
+                value: u64::from(self.workers),
+            });
+        }
+        let entry = Entry::Merge {
+            new,
+            sources: List::new(Vec::from_slice(alloc, sources)?),
+            count: block_sum(copy, sources),
+        };
+        let ops = entry_ops(alloc, &entry)?;
+        let token = append(&mut self.tree, &mut self.log, alloc, &ops, entry)?;
+        self.workers += 1;
+        Ok(token)
+    }
+}

@@ -1,0 +1,96 @@
+ghost use Rattle.std.specs.Prelude.{◌≡◌, ◌≤◌, length, IfOk, IfErr, OnOk, OnErr};
+ghost use Rattle.rmt_model.specs.Lawful.{Lawful};
+ghost use Rattle.rmt_history.specs.Mutations.{number_among as number_among_of};
+ghost use Rattle.rmt_events.specs.LogEvents.{IsMutable};
+ghost use Rattle.rmt_table.specs.MutateEntries.{IsMutateEntry};
+ghost use Rattle.rmt_table.specs.TableTrees.{table_at, IsCopyOf, IsMutateOf};
+ghost use Rattle.rmt_table.specs.Refusals.{NoMutate};
+
+use crate::counted::block_count;
+use crate::mutate_error::MutateError;
+use crate::ops::{append, entry_ops};
+use crate::table_tree::TableTree;
+use rmt_entries::Entry;
+use rmt_history::LogCopy;
+use rmt_names::{PartName, PartitionId};
+use rmt_row::Seen;
+use rmt_values::Limit;
+use std::alloc::Global;
+
+/// The number in a partition among pairs; none where the partition isn't there.
+fn number_among(pairs: &[(PartitionId, u32)], partition: PartitionId) -> Option<u32>
+    ensures { result ≡ number_among_of pairs.now partition }
+{
+    'pairs: for pair in pairs {
+        if pair.0 == partition {
+            return Some(pair.1);
+        }
+    }
+    None
+}
+
+/// The entry that brings a live part up to the mutation at a place, which is pending for it.
+fn mutate_entry(copy: &LogCopy, old: &PartName, upto: usize) -> Entry
+    requires lawful { Lawful copy.now.schema copy.now.log }
+    requires few { length copy.now.log ≤ 65536 }
+    requires pending { IsMutable copy.now.log old.now upto }
+    ensures { IsMutateEntry copy.now.log old.now upto result }
+{
+    let Some(token) = copy.entry(upto) else {
+        unreachable!()
+    };
+    let Entry::Mutation { id, numbers, .. } = token.value() else {
+        unreachable!()
+    };
+    let Some(number) = number_among(numbers.as_slice(), old.partition()) else {
+        unreachable!()
+    };
+    let new = PartName::new(old.partition(), old.min(), old.max(), old.level(), number);
+    Entry::Mutate {
+        old: *old,
+        new,
+        upto: upto as u32,
+        count: block_count(copy, old),
+        mcount: *id + 1,
+    }
+}
+
+impl TableTree {
+    /// Appends the mutation of a live part up to the mutation at a place of the log, where the log still has the length of
+    /// the copy that the part was chosen from. Its entry's token comes back.
+    ///
+    /// At an error the table is as it was. At `LogMoved` choose again from a copy of the whole log.
+    pub fn assign_mutate(
+        &mut self,
+        alloc: Global,
+        copy: &LogCopy,
+        old: &PartName,
+        upto: usize,
+    ) -> Result<Seen<Entry>, MutateError>
+        requires of { IsCopyOf self.old copy.now }
+        requires pending { IsMutable copy.now.log old.now upto }
+        ensures done { IfOk result (λ token. IsMutateOf self.old old.now upto token self.new) }
+        ensures refused { IfErr result (NoMutate (table_at self.old) (length copy.now.log)) }
+        ensures err { OnErr result (self.new ≡ self.old) }
+        ensures replicas { length self.new.sessions ≡ length self.old.sessions }
+    {
+        let seen = copy.len();
+        if seen < self.log.len() {
+            return Err(MutateError::LogMoved {
+                seen: seen as u32,
+                found: self.log_len(),
+            });
+        }
+        if self.workers >= 32_768 {
+            return Err(MutateError::LimitReached {
+                limit: Limit::WorkerEntries,
+                value: u64::from(self.workers),
+            });
+        }
+        let entry = mutate_entry(copy, old, upto);
+        let ops = entry_ops(alloc, &entry)?;
+        let token = append(&mut self.tree, &mut self.log, alloc, &ops, entry)?;
+        self.workers += 1;
+        Ok(token)
+    }
+}

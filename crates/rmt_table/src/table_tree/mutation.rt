@@ -1,0 +1,154 @@
+ghost use Rattle.std.specs.Prelude.{◌≡◌, ◌∷◌, ◌++◌, [], length, true, false, None, IfOk, IfErr, OnOk, OnErr};
+ghost use Rattle.std.specs.Option.{option_map};
+ghost use Rattle.std.specs.Fmt.{decimal};
+ghost use Rattle.rmt_values.specs.Commands.{CommandFits};
+ghost use Rattle.rmt_tree.specs.Ops.{after_all};
+ghost use Rattle.rmt_tree.specs.declared.op.Op.TheVariants as op;
+ghost use Rattle.rmt_znodes.specs.declared.znode.Znode.TheVariants.{MutationNode};
+ghost use Rattle.rmt_znodes.specs.Znodes.{znode_path, entry_path};
+ghost use Rattle.rmt_entries.specs.EntryBytes.{entry_bytes, EntryInRange, CommandInRange};
+ghost use Rattle.rmt_entries.specs.declared.entry.Entry.TheVariants.{Mutation};
+ghost use Rattle.rmt_model.specs.Lawful.{mutation_count};
+ghost use Rattle.rmt_limits.specs.EntryLimits.{mutation_limit};
+ghost use Rattle.rmt_events.specs.TableCalls.{CreatesMutation};
+ghost use Rattle.rmt_table_model.specs.Held.{table_of};
+ghost use Rattle.rmt_table_model.specs.Nodes.{mutation_ops, number_ops as ops_of_number, numbers_ops as ops_of_numbers};
+ghost use Rattle.rmt_table.specs.TableTrees.{table_at};
+ghost use Rattle.rmt_table.specs.Refusals.{NoMutation};
+ghost use Rattle.rmt_table.specs.declared.change_error.ChangeError.TheVariants as change;
+
+use crate::change_error::ChangeError;
+use crate::ops::{append, entry_op, number_text};
+use crate::table_tree::TableTree;
+use rmt_entries::Entry;
+use rmt_names::PartitionId;
+use rmt_row::Seen;
+use rmt_tree::Op;
+use rmt_values::{Blob, CheckedMutation, Limit};
+use rmt_znodes::{Znode, lock_path};
+use std::alloc::{AllocError, Global};
+
+/// Adds the operations that take a number of a partition, its next one, and leave no lock on it.
+///
+/// At an error no memory was left.
+fn push_number(
+    ops: &mut Vec<Op>,
+    alloc: Global,
+    partition: PartitionId,
+    number: u32,
+) -> Result<(), AllocError>
+    ensures { OnOk result (ops.new.items ≡ ops.old.items ++ ops_of_number partition number) }
+{
+    let path = lock_path(alloc, partition)?;
+    ops.push(Op::Create {
+        path,
+        value: Blob::new(Vec::new(alloc)),
+        sequential: true,
+        owner: None,
+    })?;
+    let path = Znode::Lock { partition, number }.path(alloc)?;
+    ops.push(Op::Delete {
+        path,
+        version: None,
+    })?;
+    Ok(())
+}
+
+/// The operations that take the next number of each of these partitions. At an error no memory was left.
+fn numbers_ops(alloc: Global, numbers: &[(PartitionId, u32)]) -> Result<Vec<Op>, AllocError>
+    ensures { IfOk result (λ ops. ops.items ≡ ops_of_numbers numbers.now) }
+{
+    let mut ops = Vec::new(alloc);
+    'pairs: for pair in numbers {
+        push_number(&mut ops, alloc, pair.0, pair.1)?;
+    }
+    Ok(ops)
+}
+
+/// Adds the operations that make the znode of a mutation, whose entry stands at this place, and write that entry.
+///
+/// At an error no memory was left.
+fn push_entry(
+    ops: &mut Vec<Op>,
+    alloc: Global,
+    id: u32,
+    place: u32,
+    entry: &Entry,
+) -> Result<(), AllocError>
+    requires in_range { EntryInRange entry.now }
+    ensures { OnOk result (ops.new.items ≡ ops.old.items ++ (op.Create (znode_path (MutationNode id)) (decimal place) false None ∷ op.Create entry_path (entry_bytes entry.now) true None ∷ [])) }
+{
+    let path = Znode::MutationNode(id).path(alloc)?;
+    let value = number_text(alloc, place)?;
+    ops.push(Op::Create {
+        path,
+        value,
+        sequential: false,
+        owner: None,
+    })?;
+    ops.push(entry_op(alloc, entry)?)?;
+    Ok(())
+}
+
+impl TableTree {
+    /// Appends a mutation, which takes a number in every partition that exists. Its entry's token comes back. The command
+    /// applies to the blocks of lower number, also to those in flight.
+    ///
+    /// At an error the table is as it was.
+    pub fn create_mutation(
+        &mut self,
+        alloc: Global,
+        command: CheckedMutation,
+    ) -> Result<Seen<Entry>, ChangeError>
+        requires fits { CommandFits self.old.schema command }
+        requires in_range { CommandInRange command }
+        ensures token { IfOk result (λ token. token ≡ record { place = length self.old.log; value = Mutation (mutation_count self.old.log) self.old.next command; cell = length self.old.log }) }
+        ensures creates { OnOk result (CreatesMutation (table_at self.old) command (table_at self.new)) }
+        ensures ops { OnOk result (self.new.tree ≡ after_all self.old.tree (mutation_ops entry_bytes command (table_of self.old))) }
+        ensures refused { IfErr result (NoMutation (table_at self.old)) }
+        ensures err { OnErr result (self.new ≡ self.old) }
+        ensures replicas { length self.new.sessions ≡ length self.old.sessions }
+    {
+        if let Some(error) = self.mutation_refusal() {
+            return Err(error);
+        }
+        let numbers = self.partitions.list(alloc)?;
+        let mut ops = numbers_ops(alloc, numbers.as_slice())?;
+        let entry = Entry::Mutation {
+            id: self.mutations,
+            numbers,
+            command,
+        };
+        push_entry(&mut ops, alloc, self.mutations, self.log_len(), &entry)?;
+        let token = append(&mut self.tree, &mut self.log, alloc, &ops, entry)?;
+        self.partitions.take_each();
+        self.mutations += 1;
+        self.clients += 1;
+        Ok(token)
+    }
+
+    /// Why a mutation isn't appended.
+    fn mutation_refusal(&self) -> Option<ChangeError>
+        ensures { result ≡ option_map (λ l. change.LimitReached l.0 l.1) (mutation_limit self.now.next self.now.log) }
+    {
+        if self.mutations >= 1024 {
+            return Some(ChangeError::LimitReached {
+                limit: Limit::Mutations,
+                value: u64::from(self.mutations),
+            });
+        }
+        if let Some(number) = self.partitions.first_at(65_536) {
+            return Some(ChangeError::LimitReached {
+                limit: Limit::Numbers,
+                value: u64::from(number),
+            });
+        }
+        if self.clients >= 32_768 {
+            return Some(ChangeError::LimitReached {
+                limit: Limit::ClientEntries,
+                value: u64::from(self.clients),
+            });
+        }
+        None
+    }
+}
