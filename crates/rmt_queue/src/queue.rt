@@ -1,4 +1,4 @@
-ghost use Rattle.std.specs.Prelude.{◌≡◌, ℕ, ◌<◌, ◌≤◌, [], true, length, slice_set, MatchOption, OnOk, OnErr};
+ghost use Rattle.std.specs.Prelude.{◌≡◌, ℕ, ◌<◌, ◌≤◌, [], true, false, length, replicate, slice_set, MatchOption, OnOk, OnErr};
 ghost use Rattle.rmt_queue.specs.Marks.{done_at, grown, AllDone, IsLowest, IsDonePrefix};
 
 use std::alloc::{AllocError, Global};
@@ -59,6 +59,14 @@ impl Queue {
     {
         self.marks[i] = true;
         self.prefix = prefix_from(&self.marks, self.prefix);
+    }
+
+    /// Takes every mark away again; the places stay, and no memory is taken.
+    pub fn clear(&mut self)
+        ensures { self.new ≡ replicate (length self.old) false }
+    {
+        self.marks.fill(false);
+        self.prefix = 0;
     }
 
     /// Whether a place is done.
