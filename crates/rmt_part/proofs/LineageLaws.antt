@@ -178,7 +178,7 @@ abbrev pub passing : (ℕ → Bool) → ℕ → ℕ → ℕ
 passing h low k = total (λ n. cond (h n) 1 0) low k
 
 -- one more number that passes
-passing-more : (h : ℕ → Bool) (m low k : ℕ) → h m ≡ false → passing (λ n. nat_eq m n || h n) low k ≡ cond (nat_le low m && nat_lt m (low + k)) 1 0 + passing h low k
+pub passing-more : (h : ℕ → Bool) (m low k : ℕ) → h m ≡ false → passing (λ n. nat_eq m n || h n) low k ≡ cond (nat_le low m && nat_lt m (low + k)) 1 0 + passing h low k
 passing-more h m low zero f = let e : (nat_le low m && nat_lt m (low + 0)) ≡ false = grind (arith, nat_tests) in rw e refl
 passing-more h m low (suc k) f = go (nat_eq m low) refl (passing-more h m (low + 1) k f)
   where
@@ -282,7 +282,7 @@ later low k b [] r g w = tt
 later low k b (x ∷ bs) r g w = let i = r.0 in let j = w.0.1 in ((omega (arith, i, g), omega (arith, j)), later low k b bs r.1 g w.1)
 
 -- blocks in order of number, in a range where so many numbers pass as there are blocks at most
-fewer : (h : ℕ → Bool) (low k : ℕ) (bs : List NumberedBlock) → Pairwise (λ x y. x.number < y.number) bs → Each (λ b. (low ≤ b.number) × (b.number < low + k)) bs → Each (λ b. h b.number ≡ true) bs → length bs ≤ passing h low k
+pub fewer : (h : ℕ → Bool) (low k : ℕ) (bs : List NumberedBlock) → Pairwise (λ x y. x.number < y.number) bs → Each (λ b. (low ≤ b.number) × (b.number < low + k)) bs → Each (λ b. h b.number ≡ true) bs → length bs ≤ passing h low k
 fewer h low zero [] p w t = omega arith
 fewer h low zero (b ∷ bs) p w t = let i = w.0.0 in let j = w.0.1 in absurd (omega (arith, i, j))
 fewer h low (suc k) [] p w t = omega arith

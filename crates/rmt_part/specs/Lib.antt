@@ -7,3 +7,4 @@ pub use Rattle.rmt_granules.specs.MadePart
 pub use Rattle.rmt_model.specs.Words
 pub use Rattle.rmt_model.specs.Parts
 pub mod Lineages
+pub mod CopiedPart

@@ -4,12 +4,21 @@ ghost use Rattle.rmt_block.specs.Blocks.{id_of};
 ghost use Rattle.rmt_entries.specs.declared.entry.Entry.{Entry};
 ghost use Rattle.rmt_model.specs.Lawful.{IsPrefix, Lawful};
 ghost use Rattle.rmt_model.specs.Content.{Blocks, content};
+ghost use Rattle.rmt_model.specs.CopiedParts.{IsCopied};
 ghost use Rattle.rmt_part.specs.Lineages.{PartValue, IsPart, IsOfLog, IsOfTable, HasEntries, AgreeOn};
+ghost use Rattle.rmt_part.specs.CopiedPart.{copied};
 
 /// Law: in each lawful log that has the part's entry and those of its lineage, its rows are the content of its name.
 pub fn rows_are_content()
     ensures { (part : PartValue) (log : List Entry) (blocks : Blocks) → IsPart part → Lawful part.schema log
         → HasEntries log part → AgreeOn blocks part → part.body.rows ≡ content part.schema log blocks part.name }
+{}
+
+/// Law: a part whose entries stand in a lawful log is, as a cluster sees it, one of that log: its blocks are exactly the log's of
+/// its name's range, and its rows are the content that the log gives to its name.
+pub fn a_part_is_seen_as_its_log_says()
+    ensures { (part : PartValue) (log : List Entry) → IsPart part → Lawful part.schema log → IsOfLog log part
+        → IsCopied part.schema log (copied part) }
 {}
 
 /// Law: a log in which a part's entries stand at their places has them, and goes on having them as it grows.
