@@ -17,7 +17,7 @@ use Rattle.rmt_limits.specs.EntryLimits.{allocate_limit, commit_limit, mutation_
 use Rattle.rmt_events.specs.TableCalls.{with_lock, with_session, locks_without, locks_without_below, window_with, window_without, kept_part, IsLocked}
 use Rattle.rmt_events.specs.ReplicaCalls.{IsStaged, staged_with, staged_without}
 use Rattle.rmt_events.specs.Clusters.{Attempt, Cluster, without_kinds, with_replica, values_of}
-use Rattle.rmt_events.specs.ClusterChanges.{IsNumbered, IsAttempt, attempts_without}
+use Rattle.rmt_events.specs.ClusterChanges.{IsNumbered, IsAttempt, attempts_without, renumbered}
 use Rattle.rmt_events.specs.InsertEvents.{HasQuorum, HasStaged, BeginsAttempt, LostFor}
 use Rattle.rmt_events.specs.Steps.{Step}
 use Rattle.rmt_events.specs.WorkedEvents.{Shared}
@@ -135,7 +135,7 @@ loses s id a x why i n z l c =
 abbrev pub renewed : Cluster → ℕ → Attempt → Cluster
 renewed s id a = record s {
   table = record s.table { next = with_next s.table.next a.block.partition (next_number s.table.next a.block.partition + 1); locks = with_lock (record { partition = a.block.partition; number = next_number s.table.next a.block.partition; owner = a.replica }) s.table.locks };
-  attempts = record a { number = next_number s.table.next a.block.partition } ∷ attempts_without s.attempts id;
+  attempts = renumbered s.attempts id (next_number s.table.next a.block.partition);
 }
 
 pub renews : (s : Cluster) (id : ℕ) (a : Attempt) → IsAttempt s id a → (IsLocked s.table.locks a.block.partition a.number → ⊥) → Has s.table.sessions a.replica → HasQuorum s.table a.need → kept_part s.table.window a.block.partition a.block.digest ≡ None → allocate_limit s.table.next s.table.log a.block.partition ≡ None

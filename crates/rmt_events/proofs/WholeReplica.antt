@@ -24,7 +24,7 @@ use Rattle.rmt_events.proofs.FairSteps.{Serves}
 use Rattle.rmt_events.specs.Clusters.{Cluster}
 use Rattle.rmt_events.specs.Whole.{HasItsBlocks, IsRightlyStaged, KeepsBlock, IsKeptAt, Follows, IsWhole}
 use Rattle.rmt_events.specs.ClusterChanges.{IsNumbered, AtReplica}
-use Rattle.rmt_events.proofs.Copies.{gets-within, dropped-behind}
+use Rattle.rmt_events.proofs.Copies.{gets-within, dropped-behind, lawful-behind}
 use Rattle.rmt_events.proofs.Moves.{goes-on-refl, whole-replaced}
 use Rattle.rmt_events.proofs.ReplicaSteps.{stands-settles, stands-drop, stands-part, stands-pulls, swept-note}
 
@@ -33,24 +33,36 @@ follower s k x w at = Each-at (Follows s) s.replicas x w.follow at.is_in
 
 -- ---- pull
 
-follows-pulls : (s : Cluster) (x y : Replica) → IsWhole s → Follows s x → Pulls x s.table.log y → Follows s y
-follows-pulls s x y w f e =
+-- a copy of more of the log, if not of all
+follows-copies : (s : Cluster) (x y : Replica) (log : List Entry) → IsWhole s → Follows s x → IsPrefix x.log log → IsPrefix log s.table.log → Pulls x log y → Follows s y
+follows-copies s x y log w f g h e =
     record {
-      stands = stands-pulls s.table.schema x y s.table.log f.stands (IsSoundTable.lawful w.table) f.prefix e;
-      prefix = subst (λ (l : List Entry). IsPrefix l s.table.log) (sym (ap (λ (z : Replica). z.log) e)) (goes-on-refl s.table.log);
+      stands = stands-pulls s.table.schema x y log f.stands (lawful-behind s.table.schema (IsPrefix.gained h) log (subst (Lawful s.table.schema) (IsPrefix.is h) (IsSoundTable.lawful w.table))) g e;
+      prefix = subst (λ (l : List Entry). IsPrefix l s.table.log) (sym (ap (λ (z : Replica). z.log) e)) h;
       session = subst (λ (z : Replica). (z.up ≡ true → Has s.table.sessions z.number) × (Has s.table.sessions z.number → z.up ≡ true)) (sym e) f.session;
       sources = subst (λ (z : Replica). (p : Option ℕ) (n need : ℕ) (digest : List ℕ) → Has s.table.log (Get p n digest z.number need) → IsKeptAt z p n digest) (sym e) (λ p n need digest h. kept p n digest (f.sources p n need digest h));
       blocks = subst (λ (z : Replica). Each (HasItsBlocks s) z.parts) (sym e) f.blocks;
       waiting = subst (λ (z : Replica). Each (IsRightlyStaged s) z.staged) (sym e) f.waiting;
     }
   where
-    kept : (p : Option ℕ) (n : ℕ) (digest : List ℕ) → IsKeptAt x p n digest → IsKeptAt (record x { log = s.table.log; done = grown x.done (length s.table.log) }) p n digest
+    kept : (p : Option ℕ) (n : ℕ) (digest : List ℕ) → IsKeptAt x p n digest → IsKeptAt (record x { log = log; done = grown x.done (length log) }) p n digest
     kept p n digest (inl k) = inl (record { block = k.block; staged = record { is_in = IsStaged.is_in k.staged; partition = IsStaged.partition k.staged }; same_id = k.same_id })
     kept p n digest (inr (inl k)) = inr (inl k)
-    kept p n digest (inr (inr k)) = inr (inr (subst (λ (l : List Entry). Dropped l (block_name p n)) (sym (IsPrefix.is f.prefix)) (dropped-behind (IsPrefix.gained f.prefix) x.log (block_name p n) k)))
+    kept p n digest (inr (inr k)) = inr (inr (subst (λ (l : List Entry). Dropped l (block_name p n)) (sym (IsPrefix.is g)) (dropped-behind (IsPrefix.gained g) x.log (block_name p n) k)))
+
+-- a replica has copied some of the log
+pub whole-copies : (s t : Cluster) (k : ℕ) (log : List Entry) → IsWhole s → IsPrefix log s.table.log → AtReplica s k (λ x y. IsPrefix x.log log × Pulls x log y) t → IsWhole t
+whole-copies s t k log w h a = subst IsWhole (sym a.change) (whole-replaced s k a.old a.new w a.at (ap (λ (z : Replica). z.number) a.does.1) (follows-copies s a.old a.new log w (follower s k a.old w a.at) a.does.0 h a.does.1))
 
 pub whole-pulls : (s t : Cluster) (k : ℕ) → IsWhole s → AtReplica s k (λ x y. Pulls x s.table.log y) t → IsWhole t
-whole-pulls s t k w a = subst IsWhole (sym a.change) (whole-replaced s k a.old a.new w a.at (ap (λ (z : Replica). z.number) a.does) (follows-pulls s a.old a.new w (follower s k a.old w a.at) a.does))
+whole-pulls s t k w a = whole-copies s t k s.table.log w (goes-on-refl s.table.log) (record {
+  old = a.old;
+  new = a.new;
+  at = record { is_in = a.at.is_in; number = a.at.number };
+  up = a.up;
+  does = (Follows.prefix (follower s k a.old w a.at), a.does);
+  change = a.change;
+})
 
 -- ---- what an entry that is done leaves staged
 

@@ -6,7 +6,7 @@ use Rattle.std.specs.declared.option.Option.TheVariants.{Some}
 use Rattle.rmt_values.specs.Rows.{Shape}
 use Rattle.rmt_entries.specs.declared.entry.Entry.{Entry}
 use Rattle.rmt_entries.specs.declared.entry.Entry.TheVariants.{Get}
-use Rattle.rmt_model.specs.Words.{Has, Each}
+use Rattle.rmt_model.specs.Words.{Has, Each, Pairwise}
 use Rattle.rmt_model.specs.Lawful.{Used, entry_at, IsPrefix}
 use Rattle.rmt_model.proofs.Lists.{Each-at, Each-all, Has-filter, Pairwise-filter}
 use Rattle.rmt_model.proofs.LiveLaws.{Pairwise-cases}
@@ -15,10 +15,10 @@ use Rattle.rmt_events.specs.Views.{Block, Staged, Replica, Lock, Table}
 use Rattle.rmt_limits.specs.BlockNumbers.{next_number}
 use Rattle.rmt_events.specs.TableCalls.{locks_without}
 use Rattle.rmt_events.specs.Sound.{IsSoundTable}
-use Rattle.rmt_events.specs.ReplicaCalls.{IsStaged, Stages, staged_without}
+use Rattle.rmt_events.specs.ReplicaCalls.{IsStaged, Stages, comes_before, with_block, staged_without}
 use Rattle.rmt_events.specs.Clusters.{Attempt, Cluster, block_of, committed_at, values_of, values_in, Accepted, accepted, blocks_in, rows_of, with_replica}
 use Rattle.rmt_events.specs.Whole.{HasItsBlocks, IsRightlyStaged, IsKeptAt, Follows, IsOpen, IsCommitted, HasReplica, HoldDifferentNumbers, IsWhole}
-use Rattle.rmt_events.specs.ClusterChanges.{attempts_without, cluster_with}
+use Rattle.rmt_events.specs.ClusterChanges.{attempts_without, renumbered, cluster_with}
 use Rattle.rmt_events.specs.InsertEvents.{BeginsAttempt, RenewsAttempt, StagesAttempt, AcceptsBlock, EndsAttempt}
 use Rattle.rmt_events.proofs.Numbers.{next-with}
 use Rattle.rmt_events.proofs.TableSteps.{still-below, sound-allocates, sound-commits, sound-fewer}
@@ -139,6 +139,48 @@ whole-fewer s id w =
 not-dropped-try : (id : ℕ) (a : Attempt) → not (nat_eq a.id id) ≡ true → a.id ≡ id → ⊥
 not-dropped-try id a e q = absurd (grind (arith, nat_tests))
 
+-- no two open tries have one id
+same-id : (xs : List Attempt) (x y : Attempt) → Pairwise HoldDifferentNumbers xs → Has xs x → Has xs y → x.id ≡ y.id → x ≡ y
+same-id xs x y r h k e = elim (Pairwise-cases HoldDifferentNumbers xs x y r h k) [
+  | inl q ↦ q
+  | inr o ↦ elim o [ inl u ↦ absurd (u.0 e) | inr u ↦ absurd (u.0 (sym e)) ]
+]
+
+-- the tries with another number for one: each was there, or is that one
+renumbered-from : (xs : List Attempt) (id n : ℕ) (a : Attempt) → Has (renumbered xs id n) a → Has xs a ⊎ ((b : Attempt) × Has xs b × (b.id ≡ id) × (record b { number = n } ≡ a))
+renumbered-from [] id n a h = absurd h
+renumbered-from (x ∷ xs) id n a h = go (nat_eq x.id id) refl h (renumbered-from xs id n a)
+  where
+    go : (c : Bool) → nat_eq x.id id ≡ c → Has (cond c (record x { number = n } ∷ xs) (x ∷ renumbered xs id n)) a → (Has (renumbered xs id n) a → Has xs a ⊎ ((b : Attempt) × Has xs b × (b.id ≡ id) × (record b { number = n } ≡ a)))
+        → Has (x ∷ xs) a ⊎ ((b : Attempt) × Has (x ∷ xs) b × (b.id ≡ id) × (record b { number = n } ≡ a))
+    go true q (inl e) f = inr (x, inl refl, (let i : x.id ≡ id = grind (arith, nat_tests) in i), e)
+    go true q (inr k) f = inl (inr k)
+    go false q (inl e) f = inl (inl e)
+    go false q (inr k) f = elim (f k) [ inl m ↦ inl (inr m) | inr m ↦ inr (m.0, inr m.1, m.2, m.3) ]
+
+renumbered-apart : (xs : List Attempt) (id n : ℕ) → ((a b : Attempt) → Has xs a → Has xs b → a.id ≡ id → a.block.partition ≡ b.block.partition → n ≡ b.number → ⊥) → Pairwise HoldDifferentNumbers xs → Pairwise HoldDifferentNumbers (renumbered xs id n)
+renumbered-apart [] id n fresh r = tt
+renumbered-apart (x ∷ xs) id n fresh r = go (nat_eq x.id id) refl (renumbered-apart xs id n (λ a b h k. fresh a b (inr h) (inr k)) r.1)
+  where
+    old : (b : Attempt) → Has xs b → HoldDifferentNumbers x b
+    old b h = Each-at (HoldDifferentNumbers x) xs b r.0 h
+
+    first : (b : Attempt) → x.id ≡ id → Has xs b → HoldDifferentNumbers (record x { number = n }) b
+    first b i h = ((old b h).0, λ p m. fresh x b (inl refl) (inr h) i p m)
+
+    later : (b : Attempt) → Has xs b → b.id ≡ id → HoldDifferentNumbers x (record b { number = n })
+    later b h i = ((old b h).0, λ p m. fresh b x (inr h) (inl refl) i (sym p) (sym m))
+
+    go : (c : Bool) → nat_eq x.id id ≡ c → Pairwise HoldDifferentNumbers (renumbered xs id n) → Pairwise HoldDifferentNumbers (cond c (record x { number = n } ∷ xs) (x ∷ renumbered xs id n))
+    go true q f = (Each-all (HoldDifferentNumbers (record x { number = n })) xs (λ b h. first b (let i : x.id ≡ id = grind (arith, nat_tests) in i) h), r.1)
+    go false q f = (
+      Each-all (HoldDifferentNumbers x) (renumbered xs id n) (λ y h. elim (renumbered-from xs id n y h) [
+        | inl k ↦ old y k
+        | inr k ↦ subst (HoldDifferentNumbers x) k.3 (later k.0 k.1 k.2)
+      ]),
+      f,
+    )
+
 pub whole-again : (s t : Cluster) (id : ℕ) (reply : Reply) → IsWhole s → RenewsAttempt s id reply t → IsWhole t
 whole-again s t id reply w e =
     subst IsWhole (sym e.change) (record {
@@ -146,19 +188,28 @@ whole-again s t id reply w e =
       rising = w.rising;
       follow = Each-all (Follows new) s.replicas (λ x h. follows-moved s new x (suits x (Each-at (Follows s) s.replicas x w.follow h)) (Each-at (Follows s) s.replicas x w.follow h));
       committed = λ i p n source m digest q. let g = w.committed i p n source m digest (subst (λ (l : List Entry). entry_at l i ≡ Some (Get p n digest source m)) log-is q) in (record { block = IsCommitted.block g.0; is = IsCommitted.is g.0; partition = IsCommitted.partition g.0; same_id = IsCommitted.same_id g.0 }, g.1);
-      attempts = (first (Each-at (IsOpen s) s.attempts e.attempt w.attempts e.is.is_in), Each-all (IsOpen new) (attempts_without s.attempts id) (λ a h. rest a (Each-at (IsOpen s) s.attempts a w.attempts (Has-filter stays s.attempts a h).0)));
-      apart = (Each-all (HoldDifferentNumbers attempt) (attempts_without s.attempts id) (λ a h. others a (Has-filter stays s.attempts a h).1 (Each-at (IsOpen s) s.attempts a w.attempts (Has-filter stays s.attempts a h).0)), Pairwise-filter HoldDifferentNumbers stays s.attempts w.apart);
+      attempts = Each-all (IsOpen new) (renumbered s.attempts id e.number) (λ a h. elim (from a h) [
+        | inl k ↦ rest a (Each-at (IsOpen s) s.attempts a w.attempts k)
+        | inr q ↦ subst (IsOpen new) q (first (Each-at (IsOpen s) s.attempts e.attempt w.attempts e.is.is_in))
+      ]);
+      apart = renumbered-apart s.attempts id e.number others w.apart;
       counted = count-kept s new (ap (λ (u : Table). u.values) e.call.change) (ap (λ (u : Table). u.schema) e.call.change) (ap (λ (l : List Entry). blocks_in l s.events) log-is) w.counted;
     })
   where
-    stays : Attempt → Bool
-    stays a = not (nat_eq a.id id)
-
     attempt : Attempt
     attempt = record e.attempt { number = e.number }
 
     new : Cluster
-    new = record s { table = e.table; attempts = record e.attempt { number = e.number } ∷ attempts_without s.attempts id }
+    new = record s { table = e.table; attempts = renumbered s.attempts id e.number }
+
+    the-one : (b : Attempt) → Has s.attempts b → b.id ≡ id → b ≡ e.attempt
+    the-one b h i = same-id s.attempts b e.attempt w.apart h e.is.is_in (i ∙ sym e.is.id_is)
+
+    from : (a : Attempt) → Has (renumbered s.attempts id e.number) a → Has s.attempts a ⊎ (attempt ≡ a)
+    from a h = elim (renumbered-from s.attempts id e.number a h) [
+      | inl k ↦ inl k
+      | inr k ↦ inr (ap (λ (b : Attempt). record b { number = e.number }) (sym (the-one k.0 k.1 k.2)) ∙ k.3)
+    ]
 
     log-is : e.table.log ≡ s.table.log
     log-is = ap (λ (u : Table). u.log) e.call.change
@@ -182,7 +233,7 @@ whole-again s t id reply w e =
       gets = λ p n m digest h. inl (subst (λ (l : List Entry). Has l (Get p n digest x.number m)) log-is h);
       staged = λ z h. record {
         gets = λ i source m digest q. inl (subst (λ (l : List Entry). entry_at l i ≡ Some (Get z.block.partition z.number digest source m)) log-is q);
-        attempts = λ a i p n. elim i [ inl q ↦ absurd (taken z a q p n (IsRightlyStaged.below (Each-at (IsRightlyStaged s) x.staged z f.waiting h))) | inr g ↦ inl (Has-filter stays s.attempts a g).0 ];
+        attempts = λ a i p n. elim (from a i) [ inl g ↦ inl g | inr q ↦ absurd (taken z a q p n (IsRightlyStaged.below (Each-at (IsRightlyStaged s) x.staged z f.waiting h))) ];
       };
     }
       where
@@ -205,11 +256,13 @@ whole-again s t id reply w e =
     rest : (a : Attempt) → IsOpen s a → IsOpen new a
     rest a o = open-moved s new a (omega arith) (λ q. q) grows (λ u. subst (λ (l : List Entry). Used l a.block.partition a.number) log-is u) o
 
-    others : (a : Attempt) → stays a ≡ true → IsOpen s a → HoldDifferentNumbers attempt a
-    others a k o = (
-      λ q. not-dropped-try id a k (sym q ∙ e.is.id_is),
-      λ p q. let l = subst (λ (x : Option ℕ). a.number < next_number s.table.next x) (sym p) o.below in let g = e.call.number in absurd (omega (arith, l, q, g)),
-    )
+    others : (a b : Attempt) → Has s.attempts a → Has s.attempts b → a.id ≡ id → a.block.partition ≡ b.block.partition → e.number ≡ b.number → ⊥
+    others a b h k i p q =
+        let o = Each-at (IsOpen s) s.attempts b w.attempts k in
+        let p' : e.attempt.block.partition ≡ b.block.partition = ap (λ (y : Attempt). y.block.partition) (sym (the-one a h i)) ∙ p in
+        let l = subst (λ (x : Option ℕ). b.number < next_number s.table.next x) (sym p') o.below in
+        let g = e.call.number in
+        absurd (omega (arith, l, q, g))
 
 -- ---- a block is staged, or is staged no more
 
@@ -217,6 +270,27 @@ get-used : (log : List Entry) (p : Option ℕ) (n source need : ℕ) (digest : L
 get-used [] p n source need digest h = absurd h
 get-used (e ∷ log) p n source need digest (inl q) = subst (λ (x : Entry). Used (x ∷ log) p n) (sym q) (inl (refl, refl))
 get-used (e ∷ log) p n source need digest (inr h) = inr (get-used log p n source need digest h)
+
+-- one more block is the new one, or was there
+block-from : (z : Staged) (ys : List Staged) (x : Staged) → Has (with_block z ys) x → (z ≡ x) ⊎ Has ys x
+block-from z [] x (inl e) = inl e
+block-from z [] x (inr h) = absurd h
+block-from z (y ∷ ys) x h = go (comes_before y z) h (block-from z ys x)
+  where
+    go : (b : Bool) → Has (cond b (y ∷ with_block z ys) (z ∷ y ∷ ys)) x → (Has (with_block z ys) x → (z ≡ x) ⊎ Has ys x) → (z ≡ x) ⊎ Has (y ∷ ys) x
+    go true (inl e) f = inr (inl e)
+    go true (inr i) f = elim (f i) [ inl e ↦ inl e | inr j ↦ inr (inr j) ]
+    go false (inl e) f = inl e
+    go false (inr i) f = inr i
+
+block-old : (z : Staged) (ys : List Staged) (x : Staged) → Has ys x → Has (with_block z ys) x
+block-old z [] x h = absurd h
+block-old z (y ∷ ys) x h = go (comes_before y z) h (block-old z ys x)
+  where
+    go : (b : Bool) → Has (y ∷ ys) x → (Has ys x → Has (with_block z ys) x) → Has (cond b (y ∷ with_block z ys) (z ∷ y ∷ ys)) x
+    go true (inl e) f = inl e
+    go true (inr i) f = inr (f i)
+    go false i f = inr i
 
 kept-unstaged : (x : Replica) (more : Staged → List Staged → List Staged) (z : Staged) (p q : Option ℕ) (n m : ℕ) (digest : List ℕ) → ((zs : List Staged) (y : Staged) → Has zs y → Has (more z zs) y) → IsKeptAt x p n digest → (q ≡ p → m ≡ n → ⊥) → IsKeptAt (record x { staged = more z (staged_without x.staged q m) }) p n digest
 kept-unstaged x more z p q n m digest f (inl k) d = elim (still-waits (Some (Get q m [] 0 0)) x.staged (record { number = n; block = k.block }) (IsStaged.is_in k.staged)) [
@@ -245,9 +319,12 @@ follows-stages s x y a w f h e =
       stands = stands-stages s.table.schema x y a.number a.block f.stands e;
       prefix = subst (λ (z : Replica). IsPrefix z.log s.table.log) (sym e) f.prefix;
       session = subst (λ (z : Replica). (z.up ≡ true → Has s.table.sessions z.number) × (Has s.table.sessions z.number → z.up ≡ true)) (sym e) f.session;
-      sources = subst (λ (z : Replica). (p : Option ℕ) (n need : ℕ) (digest : List ℕ) → Has s.table.log (Get p n digest z.number need) → IsKeptAt z p n digest) (sym e) (λ p n need digest g. kept-unstaged x (λ z zs. z ∷ zs) (record { number = a.number; block = a.block }) p a.block.partition n a.number digest (λ zs y k. inr k) (f.sources p n need digest g) (λ q r. used p n need digest g q r));
+      sources = subst (λ (z : Replica). (p : Option ℕ) (n need : ℕ) (digest : List ℕ) → Has s.table.log (Get p n digest z.number need) → IsKeptAt z p n digest) (sym e) (λ p n need digest g. kept-unstaged x with_block (record { number = a.number; block = a.block }) p a.block.partition n a.number digest (λ zs y k. block-old (record { number = a.number; block = a.block }) zs y k) (f.sources p n need digest g) (λ q r. used p n need digest g q r));
       blocks = subst (λ (z : Replica). Each (HasItsBlocks s) z.parts) (sym e) f.blocks;
-      waiting = subst (λ (z : Replica). Each (IsRightlyStaged s) z.staged) (sym e) (newest, Each-all (IsRightlyStaged s) (staged_without x.staged a.block.partition a.number) (λ z g. Each-at (IsRightlyStaged s) x.staged z f.waiting (Has-filter _ x.staged z g).0));
+      waiting = subst (λ (z : Replica). Each (IsRightlyStaged s) z.staged) (sym e) (Each-all (IsRightlyStaged s) (with_block (record { number = a.number; block = a.block }) (staged_without x.staged a.block.partition a.number)) (λ z g. elim (block-from (record { number = a.number; block = a.block }) (staged_without x.staged a.block.partition a.number) z g) [
+        | inl q ↦ subst (IsRightlyStaged s) q newest
+        | inr i ↦ Each-at (IsRightlyStaged s) x.staged z f.waiting (Has-filter _ x.staged z i).0
+      ]));
     }
   where
     o : IsOpen s a

@@ -116,7 +116,7 @@ module _ (schema : Shape) (column : Column) (one two five : Shared) (d1 d2 d5 : 
   s11 = with_event (committed s10 0 (attempt_of 0 1 (row_block 1 d1) 4)) (ev.Commit 0) (rp.Entry 3)
 
   k11 : Step s10 (ev.Commit 0) (rp.Entry 3) s11
-  k11 = commits s10 0 (attempt_of 0 1 (row_block 1 d1) 4) (holding 1 (under 4 (row_block 1 d1) ∷ under 0 (row_block 1 d1) ∷ [])) (record { is_in = inl refl; id_is = refl }) (record { is_in = inl refl; number = refl }) (record { is_in = inl refl; partition = refl }) (record { enough = omega arith; quiet = λ l. refl }) (record { lock = lock_of 4 1; is_in = inl refl; partition = refl; number = refl }) refl refl
+  k11 = commits s10 0 (attempt_of 0 1 (row_block 1 d1) 4) (holding 1 (under 0 (row_block 1 d1) ∷ under 4 (row_block 1 d1) ∷ [])) (record { is_in = inl refl; id_is = refl }) (record { is_in = inl refl; number = refl }) (record { is_in = inr (inl refl); partition = refl }) (record { enough = omega arith; quiet = λ l. refl }) (record { lock = lock_of 4 1; is_in = inl refl; partition = refl; number = refl }) refl refl
 
   abbrev s12 : Cluster
   s12 = with_event (allocated s11 1 (row_block 5 d5)) (ev.Allocate 1 five 0) (rp.Attempt 2 5)
@@ -131,10 +131,10 @@ module _ (schema : Shape) (column : Column) (one two five : Shared) (d1 d2 d5 : 
   k13 = allocates s12 2 five (row_block 5 d5) e5 (inr (inl refl)) (record { enough = omega arith; quiet = λ l. refl }) (unkept d5 d1 (block_name None 4) apart refl) refl
 
   abbrev s14 : Cluster
-  s14 = with_event (staged s13 (attempt_of 2 1 (row_block 5 d5) 5) (holding 1 (under 4 (row_block 1 d1) ∷ under 0 (row_block 1 d1) ∷ []))) (ev.Stage 2) (rp.Done)
+  s14 = with_event (staged s13 (attempt_of 2 1 (row_block 5 d5) 5) (holding 1 (under 0 (row_block 1 d1) ∷ under 4 (row_block 1 d1) ∷ []))) (ev.Stage 2) (rp.Done)
 
   k14 : Step s13 (ev.Stage 2) (rp.Done) s14
-  k14 = stages s13 2 (attempt_of 2 1 (row_block 5 d5) 5) (holding 1 (under 4 (row_block 1 d1) ∷ under 0 (row_block 1 d1) ∷ [])) (record { is_in = inr (inl refl); id_is = refl }) (record { is_in = inl refl; number = refl }) refl
+  k14 = stages s13 2 (attempt_of 2 1 (row_block 5 d5) 5) (holding 1 (under 0 (row_block 1 d1) ∷ under 4 (row_block 1 d1) ∷ [])) (record { is_in = inr (inl refl); id_is = refl }) (record { is_in = inl refl; number = refl }) refl
 
   abbrev s15 : Cluster
   s15 = with_event (staged s14 (attempt_of 3 2 (row_block 5 d5) 6) (holding 2 (under 1 (row_block 2 d2) ∷ []))) (ev.Stage 3) (rp.Done)
@@ -146,13 +146,13 @@ module _ (schema : Shape) (column : Column) (one two five : Shared) (d1 d2 d5 : 
   s16 = with_event (committed s15 3 (attempt_of 3 2 (row_block 5 d5) 6)) (ev.Commit 3) (rp.Entry 4)
 
   k16 : Step s15 (ev.Commit 3) (rp.Entry 4) s16
-  k16 = commits s15 3 (attempt_of 3 2 (row_block 5 d5) 6) (holding 2 (under 6 (row_block 5 d5) ∷ under 1 (row_block 2 d2) ∷ [])) (record { is_in = inl refl; id_is = refl }) (record { is_in = inr (inl refl); number = refl }) (record { is_in = inl refl; partition = refl }) (record { enough = omega arith; quiet = λ l. refl }) (record { lock = lock_of 6 2; is_in = inr (inl refl); partition = refl; number = refl }) (unkept d5 d1 (block_name None 4) apart refl) refl
+  k16 = commits s15 3 (attempt_of 3 2 (row_block 5 d5) 6) (holding 2 (under 1 (row_block 2 d2) ∷ under 6 (row_block 5 d5) ∷ [])) (record { is_in = inl refl; id_is = refl }) (record { is_in = inr (inl refl); number = refl }) (record { is_in = inr (inl refl); partition = refl }) (record { enough = omega arith; quiet = λ l. refl }) (record { lock = lock_of 6 2; is_in = inr (inl refl); partition = refl; number = refl }) (unkept d5 d1 (block_name None 4) apart refl) refl
 
   abbrev s17 : Cluster
-  s17 = with_event (ended s16 2 (attempt_of 2 1 (row_block 5 d5) 5) (holding 1 (under 5 (row_block 5 d5) ∷ under 4 (row_block 1 d1) ∷ under 0 (row_block 1 d1) ∷ []))) (ev.Commit 2) (rp.Refused (rf.Duplicate (block_name None 6)))
+  s17 = with_event (ended s16 2 (attempt_of 2 1 (row_block 5 d5) 5) (holding 1 (under 0 (row_block 1 d1) ∷ under 4 (row_block 1 d1) ∷ under 5 (row_block 5 d5) ∷ []))) (ev.Commit 2) (rp.Refused (rf.Duplicate (block_name None 6)))
 
   k17 : Step s16 (ev.Commit 2) (rp.Refused (rf.Duplicate (block_name None 6))) s17
-  k17 = loses s16 2 (attempt_of 2 1 (row_block 5 d5) 5) (holding 1 (under 5 (row_block 5 d5) ∷ under 4 (row_block 1 d1) ∷ under 0 (row_block 1 d1) ∷ [])) (rf.Duplicate (block_name None 6)) (record { is_in = inl refl; id_is = refl }) (record { is_in = inl refl; number = refl }) (record { is_in = inl refl; partition = refl }) (record { lock = lock_of 5 1; is_in = inl refl; partition = refl; number = refl }) ((record { enough = omega arith; quiet = λ l. refl }), kept-newest d5 d1 (block_name None 6) (block_name None 4) refl)
+  k17 = loses s16 2 (attempt_of 2 1 (row_block 5 d5) 5) (holding 1 (under 0 (row_block 1 d1) ∷ under 4 (row_block 1 d1) ∷ under 5 (row_block 5 d5) ∷ [])) (rf.Duplicate (block_name None 6)) (record { is_in = inl refl; id_is = refl }) (record { is_in = inl refl; number = refl }) (record { is_in = inr (inr (inl refl)); partition = refl }) (record { lock = lock_of 5 1; is_in = inl refl; partition = refl; number = refl }) ((record { enough = omega arith; quiet = λ l. refl }), kept-newest d5 d1 (block_name None 6) (block_name None 4) refl)
 
   -- the whole list
   pub overtakes : (s : Cluster) × After (two_replicas (of_one_column schema column)) (overtaken one two five command) s

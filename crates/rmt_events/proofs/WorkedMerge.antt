@@ -56,19 +56,19 @@ module _ (schema : Shape) (column : Column) (one two five : Shared) (d1 d2 d5 : 
   s6 = with_event (committed s5 0 (attempt_of 0 1 (row_block 1 d1) 0)) (ev.Commit 0) (rp.Entry 0)
 
   k6 : Step s5 (ev.Commit 0) (rp.Entry 0) s6
-  k6 = commits s5 0 (attempt_of 0 1 (row_block 1 d1) 0) (holding 1 (under 2 (row_block 5 d5) ∷ under 0 (row_block 1 d1) ∷ [])) (record { is_in = inr (inr (inl refl)); id_is = refl }) (record { is_in = inl refl; number = refl }) (record { is_in = inr (inl refl); partition = refl }) (record { enough = omega arith; quiet = λ l. refl }) (record { lock = lock_of 0 1; is_in = inl refl; partition = refl; number = refl }) refl refl
+  k6 = commits s5 0 (attempt_of 0 1 (row_block 1 d1) 0) (holding 1 (under 0 (row_block 1 d1) ∷ under 2 (row_block 5 d5) ∷ [])) (record { is_in = inr (inr (inl refl)); id_is = refl }) (record { is_in = inl refl; number = refl }) (record { is_in = inl refl; partition = refl }) (record { enough = omega arith; quiet = λ l. refl }) (record { lock = lock_of 0 1; is_in = inl refl; partition = refl; number = refl }) refl refl
 
   abbrev s7 : Cluster
   s7 = with_event (committed s6 2 (attempt_of 2 1 (row_block 5 d5) 2)) (ev.Commit 2) (rp.Entry 1)
 
   k7 : Step s6 (ev.Commit 2) (rp.Entry 1) s7
-  k7 = commits s6 2 (attempt_of 2 1 (row_block 5 d5) 2) (holding 1 (under 2 (row_block 5 d5) ∷ under 0 (row_block 1 d1) ∷ [])) (record { is_in = inl refl; id_is = refl }) (record { is_in = inl refl; number = refl }) (record { is_in = inl refl; partition = refl }) (record { enough = omega arith; quiet = λ l. refl }) (record { lock = lock_of 2 1; is_in = inr (inl refl); partition = refl; number = refl }) (unkept d5 d1 (block_name None 0) apart refl) refl
+  k7 = commits s6 2 (attempt_of 2 1 (row_block 5 d5) 2) (holding 1 (under 0 (row_block 1 d1) ∷ under 2 (row_block 5 d5) ∷ [])) (record { is_in = inl refl; id_is = refl }) (record { is_in = inl refl; number = refl }) (record { is_in = inr (inl refl); partition = refl }) (record { enough = omega arith; quiet = λ l. refl }) (record { lock = lock_of 2 1; is_in = inr (inl refl); partition = refl; number = refl }) (unkept d5 d1 (block_name None 0) apart refl) refl
 
   abbrev s8 : Cluster
-  s8 = with_event (pulled s7 1 (holding 1 (under 2 (row_block 5 d5) ∷ under 0 (row_block 1 d1) ∷ []))) (ev.Pull 1) (rp.Pulled 2)
+  s8 = with_event (pulled s7 1 (holding 1 (under 0 (row_block 1 d1) ∷ under 2 (row_block 5 d5) ∷ []))) (ev.Pull 1) (rp.Pulled 2)
 
   k8 : Step s7 (ev.Pull 1) (rp.Pulled 2) s8
-  k8 = pulls s7 1 (holding 1 (under 2 (row_block 5 d5) ∷ under 0 (row_block 1 d1) ∷ [])) (record { is_in = inl refl; number = refl }) refl
+  k8 = pulls s7 1 (holding 1 (under 0 (row_block 1 d1) ∷ under 2 (row_block 5 d5) ∷ [])) (record { is_in = inl refl; number = refl }) refl
 
   abbrev names : List Name
   names = block_name None 0 ∷ block_name None 2 ∷ []
@@ -90,7 +90,7 @@ module _ (schema : Shape) (column : Column) (one two five : Shared) (d1 d2 d5 : 
       why = rf.InFlight 1;
       cause = (
         record {
-          replica = record (holding 1 (under 2 (row_block 5 d5) ∷ under 0 (row_block 1 d1) ∷ [])) { log = s7.table.log; done = grown [] 2 };
+          replica = record (holding 1 (under 0 (row_block 1 d1) ∷ under 2 (row_block 5 d5) ∷ [])) { log = s7.table.log; done = grown [] 2 };
           is = record { at = record { is_in = inl refl; number = refl }; up = refl };
           meets = (record { left = []; right = []; among = refl }, (refl, tt));
           whole = refl;

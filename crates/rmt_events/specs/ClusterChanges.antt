@@ -1,6 +1,6 @@
 -- Words that several events share: which replica or attempt is meant, and what of a cluster changes.
 -- No public source: that an event makes one call and changes nothing else is this program's own.
-use Rattle.std.specs.Prelude.{◌≡◌, ℕ, true, false, not, nat_eq, List, length, filter}
+use Rattle.std.specs.Prelude.{◌≡◌, ℕ, true, false, not, cond, nat_eq, List, [], ◌∷◌, length, filter}
 use Rattle.rmt_model.specs.Words.{Has}
 use Rattle.rmt_events.specs.Views.{Replica, Table}
 use Rattle.rmt_events.specs.Clusters.{Attempt, Cluster, with_replica}
@@ -31,6 +31,11 @@ LacksAttempt s id = (a : Attempt) → IsAttempt s id a → ⊥
 -- the open attempts without one
 abbrev pub attempts_without : List Attempt → ℕ → List Attempt
 attempts_without attempts id = filter (λ a. not (nat_eq a.id id)) attempts
+
+-- the open attempts, where the one of this id has another number
+abbrev pub renumbered : List Attempt → ℕ → ℕ → List Attempt
+renumbered [] id n = []
+renumbered (a ∷ rest) id n = cond (nat_eq a.id id) (record a { number = n } ∷ rest) (a ∷ renumbered rest id n)
 
 -- the cluster with another replica in place of the one with its number
 abbrev pub cluster_with : Cluster → ℕ → Replica → Cluster

@@ -12,7 +12,7 @@ use Rattle.rmt_limits.specs.EntryLimits.{allocate_limit, commit_limit}
 use Rattle.rmt_events.specs.TableCalls.{IsLocked, kept_part, Allocates, Commits, Unlocks}
 use Rattle.rmt_events.specs.ReplicaCalls.{IsStaged, Stages, Unstages}
 use Rattle.rmt_events.specs.Clusters.{values_of, Attempt, Cluster, with_replica}
-use Rattle.rmt_events.specs.ClusterChanges.{IsNumbered, IsAttempt, LacksAttempt, attempts_without, AtReplica, IsDown}
+use Rattle.rmt_events.specs.ClusterChanges.{IsNumbered, IsAttempt, LacksAttempt, attempts_without, renumbered, AtReplica, IsDown}
 use Rattle.rmt_events.specs.declared.reply.Reply.{Reply}
 use Rattle.rmt_events.specs.declared.reply.Reply.TheVariants as rp
 use Rattle.rmt_events.specs.declared.step_refused.StepRefused.{StepRefused}
@@ -68,7 +68,7 @@ pub record RenewsAttempt (s : Cluster) (id : ℕ) (reply : Reply) (t : Cluster) 
   pub quorum : HasQuorum s.table attempt.need
   pub call : Allocates s.table attempt.replica attempt.block.partition attempt.block.digest number table
   pub answer : reply ≡ rp.Attempt id number
-  pub change : t ≡ record s { table = table; attempts = record attempt { number = number } ∷ attempts_without s.attempts id }
+  pub change : t ≡ record s { table = table; attempts = renumbered s.attempts id number }
 
 -- why an attempt gets no other number
 abbrev pub NoOther : Cluster → ℕ → StepRefused → Type 0

@@ -1,7 +1,7 @@
 -- What the calls on a replica change, and what always holds of one.
 -- ClickHouse documentation, Data Replication: a replica copies the log and does its entries by itself. That they may be done
 -- in any order is this program's own.
-use Rattle.std.specs.Prelude.{◌≡◌, ◌⊎◌, ◌&&◌, ℕ, Bool, true, false, not, nat_eq, List, ◌∷◌, length, filter, replicate, slice_set}
+use Rattle.std.specs.Prelude.{◌≡◌, ◌⊎◌, ◌&&◌, ◌||◌, ℕ, Bool, true, false, not, cond, nat_eq, nat_lt, List, [], ◌∷◌, length, filter, replicate, slice_set}
 use Rattle.std.specs.declared.option.Option.{Option}
 use Rattle.std.specs.declared.option.Option.TheVariants.{Some}
 use Rattle.rmt_values.specs.Rows.{Shape}
@@ -45,9 +45,18 @@ waits_at p n z = nat_eq (rank z.block.partition) (rank p) && nat_eq z.number n
 abbrev pub staged_without : List Staged → Option ℕ → ℕ → List Staged
 staged_without zs p n = filter (λ z. not (waits_at p n z)) zs
 
--- the staged blocks with one more under a number, in place of what was there
+-- whether a staged block comes before another: by partition, then by number
+abbrev pub comes_before : Staged → Staged → Bool
+comes_before y z = nat_lt (rank y.block.partition) (rank z.block.partition) || (nat_eq (rank y.block.partition) (rank z.block.partition) && nat_lt y.number z.number)
+
+-- the staged blocks in order with one more
+abbrev pub with_block : Staged → List Staged → List Staged
+with_block z [] = z ∷ []
+with_block z (y ∷ ys) = cond (comes_before y z) (y ∷ with_block z ys) (z ∷ y ∷ ys)
+
+-- the staged blocks with one under a number, in place of what was there
 abbrev pub staged_with : List Staged → ℕ → Block → List Staged
-staged_with zs n b = record { number = n; block = b } ∷ staged_without zs b.partition n
+staged_with zs n b = with_block (record { number = n; block = b }) (staged_without zs b.partition n)
 
 -- this block is staged under the number n of p
 pub record IsStaged (r : Replica) (p : Option ℕ) (n : ℕ) (b : Block) : Type 0 where

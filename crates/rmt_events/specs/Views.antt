@@ -23,7 +23,7 @@ pub record Staged : Type 0 where
   pub block : Block
 
 -- a replica: its number, whether it is up and may fetch, its copy of the log, its marks, its active parts, its staged
--- blocks, and the parts that it has noted
+-- blocks in order, and the parts that it has noted
 pub record Replica : Type 0 where
   pub number : ℕ
   pub up : Bool
