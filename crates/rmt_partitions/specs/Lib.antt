@@ -1,2 +1,3 @@
 pub use Rattle.rmt_limits.specs.BlockNumbers
+pub mod KeptNumbers
 pub mod NumbersInOrder
