@@ -16,8 +16,7 @@ use Rattle.rmt_table_model.specs.Numbers.{Nexts, Holders, IsLocked}
 use Rattle.rmt_table_model.specs.Kept.{Placed, Differ, with_number}
 use Rattle.rmt_table_model.specs.Inserts.{HasNumbers, HasKeptIds, IsKeptBelow, IsLeastLocked}
 use Rattle.rmt_table_model.specs.Nodes.{owned, plain, next_states, lock_states, kept_states}
-use Rattle.rmt_inserts.specs.ZnodeNames.{order_name}
-use Rattle.rmt_inserts.proofs.NameLemmas.{Lower, order-lower, lock-lower, lock-from, lock-not-lower}
+use Rattle.rmt_inserts.proofs.NameLemmas.{order_name, Lower, order-lower, lock-lower, lock-from, lock-not-lower}
 use Rattle.rmt_inserts.proofs.ListLemmas.{rising-same, rising-last, first-from, none-from}
 use Rattle.rmt_inserts.proofs.ChildLemmas.{IsNameBelow, child-znode, znode-child, children-rise}
 

@@ -1,7 +1,7 @@
 -- What a drop takes away: the locks below a number, and the kept ids of the blocks below it.
-use Rattle.std.proofs.Common.{◌≡◌, ◌≢◌, ℕ, zero, suc, inl, inr, ◌+◌, ◌-◌, ◌<◌, ◌≤◌, ◌^◌, ◌&&◌, Bool, true, false, cond, not, is_some, List, [], ◌∷◌, ◌++◌, length, take, drop, map, get_or, nat_eq, nat_lt, Result, Ok, Err, IfOk, refl, sym, ap, subst, arith, ◌∙◌, length-append}
+use Rattle.std.proofs.Common.{◌≡◌, ◌≢◌, ℕ, zero, suc, inl, inr, ◌+◌, ◌<◌, ◌≤◌, ◌^◌, ◌&&◌, Bool, true, false, cond, not, is_some, List, [], ◌∷◌, ◌++◌, length, take, drop, map, get_or, nat_eq, nat_lt, Result, Ok, Err, IfOk, refl, sym, ap, subst, arith, ◌∙◌}
 use Rattle.std.proofs.lemmas.Bool.Decides.{nat_tests}
-use Rattle.std.proofs.lemmas.List.{append_assoc, append-nil, take_all}
+use Rattle.std.proofs.lemmas.List.{append_assoc, append-nil}
 use Rattle.std.specs.List.{filter}
 use Rattle.std.specs.Option.{option_map, option_eq}
 use Rattle.std.specs.Str.Parse.{digits_value}
@@ -14,20 +14,20 @@ use Rattle.rmt_paths.specs.Paths.{Names}
 use Rattle.rmt_tree.specs.Trees.{Node, TreeView, node_at, children, children_at}
 use Rattle.rmt_tree.specs.declared.op.Op.{Op}
 use Rattle.rmt_tree.specs.declared.op.Op.TheVariants as op
-use Rattle.rmt_znodes.specs.declared.znode.Znode.TheVariants.{Partition, Lock, Order}
+use Rattle.rmt_znodes.specs.declared.znode.Znode.TheVariants.{Partition, Lock}
 use Rattle.rmt_znodes.specs.Znodes.{znode_path, lock_name, IsPartition}
 use Rattle.rmt_znodes.specs.ZnodeStates.{state_of}
 use Rattle.rmt_znodes.proofs.ZnodeLemmas.{digits-value}
 use Rattle.rmt_table_model.specs.Numbers.{Nexts, Holders, IsLocked}
 use Rattle.rmt_table_model.specs.Kept.{Placed, outlives}
-use Rattle.rmt_table_model.specs.Inserts.{HasNumbers, HasKeptIds, AreDropOps}
+use Rattle.rmt_table_model.specs.Inserts.{HasNumbers, AreDropOps}
 use Rattle.rmt_table_model.specs.Nodes.{counting, leave_ops, forget_ops, unlock_ops, AreLocks}
 use Rattle.rmt_table_model.proofs.NumberLemmas.{next-is}
-use Rattle.rmt_inserts.specs.ZnodeNames.{order_name, unlock_below, AreUnlockOps}
+use Rattle.rmt_inserts.specs.Unlocks.{unlock_below, AreUnlockOps}
 use Rattle.rmt_inserts.proofs.NameLemmas.{Lower, lower-irreflexive}
 use Rattle.rmt_inserts.proofs.ListLemmas.{Has-map, map-Has}
 use Rattle.rmt_inserts.proofs.ChildLemmas.{children-rise}
-use Rattle.rmt_inserts.proofs.BelowLemmas.{child-lock, lock-child, locked-small, order_names, order-children}
+use Rattle.rmt_inserts.proofs.BelowLemmas.{child-lock, lock-child, locked-small}
 
 -- ---- children, as they are read
 
@@ -189,40 +189,6 @@ outlives-not p n k e l =
     let t : nat_lt k.kept.part.min n ≡ true = grind (arith, nat_tests) in
     ap (λ (b : Bool). not (b && nat_lt k.kept.part.min n)) u ∙ ap not t
 
--- a kept id by its place, the newest at 0
-pub record IsAt (ks : List Placed) (i : ℕ) (d : List ℕ) : Type 0 where
-  pub kept : Placed
-  pub here : Has ks kept
-  pub taken : take (suc i) ks ≡ take i ks ++ kept ∷ []
-  pub name : get_or (order_names ks) (length ks - 1 - i) d ≡ order_name kept.number
-
-pub length-names : (ks : List Placed) → length (order_names ks) ≡ length ks
-unfolding order_names
-length-names [] = refl
-length-names (k ∷ ks) = length-append (order_names ks) (order_name k.number ∷ []) ∙ (let l = length-names ks in omega (arith, l))
-
-get-left : (xs ys : List (List ℕ)) (i : ℕ) (d : List ℕ) → i < length xs → get_or (xs ++ ys) i d ≡ get_or xs i d
-get-left [] ys i d l = absurd (omega arith)
-get-left (x ∷ xs) ys zero d l = refl
-get-left (x ∷ xs) ys (suc i) d l = get-left xs ys i d (omega arith)
-
-get-last : (xs : List (List ℕ)) (y : List ℕ) (i : ℕ) (d : List ℕ) → i ≡ length xs → get_or (xs ++ y ∷ []) i d ≡ y
-get-last [] y zero d e = refl
-get-last [] y (suc i) d e = absurd (omega arith)
-get-last (x ∷ xs) y zero d e = absurd (omega arith)
-get-last (x ∷ xs) y (suc i) d e = get-last xs y i d (omega arith)
-
-pub is-at : (ks : List Placed) (i : ℕ) (d : List ℕ) → i < length ks → IsAt ks i d
-unfolding order_names
-is-at [] i d l = absurd (omega arith)
-is-at (k ∷ ks) zero d l = record { kept = k; here = inl refl; taken = refl; name = get-last (order_names ks) (order_name k.number) (length (k ∷ ks) - 1 - 0) d (let w = length-names ks in omega (arith, w)) }
-is-at (k ∷ ks) (suc i) d l = let r = is-at ks i d (omega arith) in record {
-  kept = r.kept;
-  here = inr r.here;
-  taken = ap (λ (js : List Placed). k ∷ js) r.taken;
-  name = get-left (order_names ks) (order_name k.number ∷ []) (length (k ∷ ks) - 1 - suc i) d (let w = length-names ks in omega (arith, w, l)) ∙ ap (λ (j : ℕ). get_or (order_names ks) j d) (omega arith) ∙ r.name;
-}
-
 -- partitions that a test tells apart
 pub apart : (a b : Option ℕ) → option_eq nat_eq a b ≡ false → a ≡ b → ⊥
 apart a b e f = go b (subst (λ (x : Option ℕ). option_eq nat_eq x b ≡ false) f e)
@@ -268,33 +234,6 @@ unlock-step t next holders has p part below names e i l name d is ops more befor
     ∙ ap (λ (os : List Op). unlocks p below (take i names) ++ os) (sym (unlocks-one p below name))
     ∙ sym (unlocks-append p below (take i names) (name ∷ []))
     ∙ ap (unlocks p below) (ap (λ (n : List ℕ). take i names ++ n ∷ []) is ∙ sym (take-next names i d l) ∙ ap (λ (k : ℕ). take k names) one)
-
-pub forget-step : (t : TreeView) (ks : List Placed) (count : ℕ) → HasKeptIds t ks count → (p : Option ℕ) (n : ℕ) (names : List (List ℕ)) → names ≡ children t (znode_path Order) → (i : ℕ) → i < length names
-    → (name d : List ℕ) → name ≡ get_or names (length names - 1 - i) d → (init ops more : List Op) → ops ≡ init ++ forget_ops p n (take i ks) → ((k : Placed) → Has ks k → name ≡ order_name k.number → more ≡ ops ++ forget_ops p n (k ∷ [])) → more ≡ init ++ forget_ops p n (take (i + 1) ks)
-forget-step t ks count has p n names e i l name d is init ops more before step =
-    let o : names ≡ order_names ks = e ∙ order-children t ks count has in
-    let m : length names ≡ length ks = ap length o ∙ length-names ks in
-    let a = is-at ks i d (omega (arith, l, m)) in
-    let named : name ≡ order_name a.kept.number = is ∙ ap (λ (ns : List (List ℕ)). get_or ns (length names - 1 - i) d) o ∙ ap (λ (k : ℕ). get_or (order_names ks) (k - 1 - i) d) m ∙ a.name in
-    let one : suc i ≡ i + 1 = omega arith in
-    step a.kept a.here named
-    ∙ ap (λ (os : List Op). os ++ forget_ops p n (a.kept ∷ [])) before
-    ∙ append_assoc init (forget_ops p n (take i ks)) (forget_ops p n (a.kept ∷ []))
-    ∙ ap (λ (os : List Op). init ++ os) (sym (forget-append p n (take i ks) (a.kept ∷ [])) ∙ ap (forget_ops p n) (sym a.taken ∙ ap (λ (k : ℕ). take k ks) one))
-
--- all of them were looked at
-pub forgot-all : (t : TreeView) (ks : List Placed) (count : ℕ) → HasKeptIds t ks count → (p : Option ℕ) (n : ℕ) (names : List (List ℕ)) → names ≡ children t (znode_path Order) → (i : ℕ) → length names ≤ i → (init ops : List Op) → ops ≡ init ++ forget_ops p n (take i ks) → ops ≡ init ++ forget_ops p n ks
-forgot-all t ks count has p n names e i l init ops before =
-    let m : length names ≡ length ks = ap length (e ∙ order-children t ks count has) ∙ length-names ks in
-    before ∙ ap (λ (js : List Placed). init ++ forget_ops p n js) (take_all i ks (omega (arith, l, m)))
-
--- the order is there
-pub order-is : (t : TreeView) (ks : List Placed) (count : ℕ) → HasKeptIds t ks count → (q : Names) → q ≡ znode_path Order → None ≡ children_at t q → ⊥
-order-is t ks count has q path e = go (node_at t (znode_path Order)) (has.nodes.nodes Order tt) (ap (λ (w : Names). is_some (node_at t w)) (sym path) ∙ children-none t q e)
-  where
-    go : (o : Option Node) → option_map state_of o ≡ Some (counting count) → is_some o ≡ false → ⊥
-    go None e f = absurd (cc)
-    go (Some n) e f = absurd (cc)
 
 -- the locks, and then the kept ids
 pub drops-both : {A E : Type 0} (r : Result A E) (f : A → List Op) (holders : Holders) (ks : List Placed) (p : Option ℕ) (n : ℕ) (ops : List Op) → AreUnlockOps holders p n ops → IfOk r (λ all. f all ≡ ops ++ forget_ops p n ks) → IfOk r (λ all. AreDropOps holders ks p n (f all))

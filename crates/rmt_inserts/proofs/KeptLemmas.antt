@@ -23,12 +23,12 @@ use Rattle.rmt_znodes.proofs.PathLemmas.{IsName-id}
 use Rattle.rmt_table_model.specs.Kept.{Placed, Differ, has_id, with_id, with_number}
 use Rattle.rmt_table_model.specs.Inserts.{HasKeptIds, IsKeptBelow}
 use Rattle.rmt_table_model.specs.Nodes.{plain, oldest, leave_ops, keep_ops}
-use Rattle.rmt_inserts.specs.ZnodeNames.{order_name}
+use Rattle.rmt_inserts.proofs.NameLemmas.{order_name}
 use Rattle.rmt_inserts.proofs.BelowLemmas.{order_names, order-children, kept-small}
 
 -- ---- one of the kept ids
 
-number-is : (ks : List Placed) (k : Placed) → Pairwise Differ ks → Has ks k → with_number k.number ks ≡ Some k
+pub number-is : (ks : List Placed) (k : Placed) → Pairwise Differ ks → Has ks k → with_number k.number ks ≡ Some k
 number-is [] k d h = absurd h
 number-is (j ∷ ks) k d (inl e) =
     let t : nat_eq k.number j.number ≡ true = let q = ap (λ (i : Placed). i.number) e in grind (arith, nat_tests) in
@@ -71,7 +71,7 @@ pub IsName-order : (n : ℕ) → IsName (order_name n)
 IsName-order n = IsName-append (codes "id-") (digits 10 n) (record { some = omega arith; whole = refl }) (digits-whole 10 n)
 
 module _ (t : TreeView) (ks : List Placed) (count : ℕ) (has : HasKeptIds t ks count) (k : Placed) (here : Has ks k) where
-  order-there : option_map state_of (node_at t (znode_path (OrderOf k.number))) ≡ Some (plain (id_text k.kept.part.partition k.kept.digest))
+  pub order-there : option_map state_of (node_at t (znode_path (OrderOf k.number))) ≡ Some (plain (id_text k.kept.part.partition k.kept.digest))
   order-there = has.nodes.nodes (OrderOf k.number) (kept-small t ks count has k here) ∙ ap (option_map (λ j. plain (id_text j.kept.part.partition j.kept.digest))) (number-is ks k has.differ here)
 
   block-there : option_map state_of (node_at t (znode_path (Block k.kept.part.partition k.kept.digest))) ≡ Some (plain (text_of k.kept.part))
@@ -86,6 +86,9 @@ module _ (t : TreeView) (ks : List Placed) (count : ℕ) (has : HasKeptIds t ks 
   -- the node of the order by its name
   pub order-path-is : (name : List ℕ) → name ≡ order_name k.number → (o : Option Names) (q : Names) → (IsName name → o ≡ Some (child (znode_path Order) name)) → o ≡ Some q → q ≡ znode_path (OrderOf k.number)
   order-path-is name e o q f g = child-is (znode_path Order) name (order_name k.number) o q (f (subst IsName (sym e) (IsName-order k.number))) e g
+
+  pub order-path-some : (name : List ℕ) → name ≡ order_name k.number → (o : Option Names) → (IsName name → o ≡ Some (child (znode_path Order) name)) → o ≡ None → ⊥
+  order-path-some name e o f g = let w = f (subst IsName (sym e) (IsName-order k.number)) in absurd (cc)
 
   -- the id that it holds
   pub order-value : (q : Names) → q ≡ znode_path (OrderOf k.number) → (value : List ℕ) (version : ℕ) → Some (value, version) ≡ option_map {U = List ℕ × ℕ} value_and_version (node_at t q) → value ≡ id_text k.kept.part.partition k.kept.digest

@@ -24,7 +24,6 @@ use Rattle.rmt_paths.specs.Paths.{digits}
 use Rattle.rmt_paths.specs.PathOrder.{name_cmp}
 use Rattle.rmt_znodes.specs.Znodes.{lock_name, IsPartition}
 use Rattle.rmt_znodes.proofs.ZnodeLemmas.{digits-value}
-use Rattle.rmt_inserts.specs.ZnodeNames.{order_name}
 
 -- ---- order
 
@@ -105,6 +104,10 @@ test-lower a b e = go (name_cmp a b) e
 pub lock-lower : (a b : ℕ) → a < b → b < 2 ^ 32 → Lower (lock_name a) (lock_name b)
 unfolding Lower
 lock-lower a b l h = digits-lower 10 a b l (omega arith)
+
+-- the name of a kept id's node in the order
+abbrev pub order_name : ℕ → List ℕ
+order_name n = codes "id-" ++ digits 10 n
 
 pub order-lower : (a b : ℕ) → a < b → b < 2 ^ 32 → Lower (order_name a) (order_name b)
 unfolding Lower

@@ -1,3 +1,4 @@
 pub use Rattle.rmt_table_model.specs.Inserts
 pub mod Numbers
-pub mod ZnodeNames
+pub mod OrderNumbers
+pub mod Unlocks

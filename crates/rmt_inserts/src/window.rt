@@ -5,12 +5,11 @@ ghost use Rattle.rmt_names.specs.Texts.{text_of};
 ghost use Rattle.rmt_block.specs.Blocks.{IsId};
 ghost use Rattle.rmt_model.specs.Words.{Has};
 ghost use Rattle.rmt_tree.specs.declared.op.Op.TheVariants as op;
-ghost use Rattle.rmt_znodes.specs.declared.znode.Znode.TheVariants.{Block};
+ghost use Rattle.rmt_znodes.specs.declared.znode.Znode.TheVariants.{Block, OrderOf};
 ghost use Rattle.rmt_znodes.specs.Znodes.{znode_path, order_path as path_of_order, id_text as text_of_id};
 ghost use Rattle.rmt_table_model.specs.Kept.{Placed, with_id};
 ghost use Rattle.rmt_table_model.specs.Inserts.{HasKeptIds, part_of};
 ghost use Rattle.rmt_table_model.specs.Nodes.{keep_ops as ops_of_keeping, leave_ops, oldest};
-ghost use Rattle.rmt_inserts.specs.ZnodeNames.{order_name};
 
 use crate::names::{child_path, part_of_text};
 use crate::ops::{create, create_sequential, delete, with_op};
@@ -95,24 +94,24 @@ fn without_oldest(tree: &Tree, alloc: Global, ops: Vec<Op>) -> Result<Vec<Op>, A
 {
     let order = Znode::Order.path(alloc)?;
     match tree.first_child(&order) {
-        Some(name) => without_kept(tree, alloc, ops, name),
+        Some(name) => match child_path(alloc, Znode::Order, name)? {
+            Some(order) => without_kept(tree, alloc, ops, order),
+            None => Ok(ops),
+        },
         None => Ok(ops),
     }
 }
 
-/// The operations, and then those that let the kept id go whose node in the order has this name. At an error no memory was
+/// The operations, and then those that let the kept id go whose node in the order has this path. At an error no memory was
 /// left.
 pub(crate) fn without_kept(
     tree: &Tree,
     alloc: Global,
     ops: Vec<Op>,
-    name: &[u8],
+    order: Path,
 ) -> Result<Vec<Op>, AllocError>
-    ensures { (ks : List Placed) (count : ℕ) (k : Placed) → HasKeptIds tree.now ks count → Has ks k → name.now ≡ order_name k.number → IfOk result (λ all. all.items ≡ ops.items ++ leave_ops (Some k)) }
+    ensures { (ks : List Placed) (count : ℕ) (k : Placed) → HasKeptIds tree.now ks count → Has ks k → order ≡ znode_path (OrderOf k.number) → IfOk result (λ all. all.items ≡ ops.items ++ leave_ops (Some k)) }
 {
-    let Some(order) = child_path(alloc, Znode::Order, name)? else {
-        return Ok(ops);
-    };
     let Some((text, _)) = tree.get(&order) else {
         return Ok(ops);
     };

@@ -1,48 +1,40 @@
-use Rattle.std.proofs.Common.{◌≡◌, ◌∙◌, ◌-◌, get_or, length, sym, ap, arith}
-use Rattle.std.specs.Option.{option_map}
-use Rattle.rmt_tree.specs.Trees.{children}
-use Rattle.rmt_znodes.specs.declared.znode.Znode.TheVariants.{Order}
-use Rattle.rmt_znodes.specs.Znodes.{znode_path}
-use Rattle.rmt_inserts.proofs.DropLemmas.{children-some, forget-step, forgot-all, order-is}
-use Rattle.rmt_inserts.proofs.ForgetLemmas.{room-for, count-step, counted-all}
+use Rattle.std.proofs.Common.{◌≡◌, ◌+◌, ◌++◌, ◌∷◌, ℕ, List, length, filter, sym, subst}
+use Rattle.std.specs.Iterator.Adapters.{rev_source}
+use Rattle.std.specs.Slice.Iter.{iter_rest}
+use Rattle.rmt_table_model.specs.Kept.{outlives}
+use Rattle.rmt_table_model.specs.Nodes.{forget_ops}
+use Rattle.rmt_inserts.proofs.ForgetLemmas.{found, one-back, none-left, include-all, room-for, forget-step, count-step, forgot-all, counted-all}
 use Rattle.rmt_inserts.proofs.drops.without_dropped.Goals as goal
-
-pub returns-in_default-clause-ops : goal.returns-in_default-clause-ops
-returns-in_default-clause-ops c = λ ks count has.
-    absurd (order-is c.args.tree.now ks count has c.in_ok-order.order c.in_ok-order.ensures.path (sym (ap (option_map (λ ns. ns.items)) c.in_default.is) ∙ c.in_ok-names.ensures))
-
-pub returns-in_default-clause-forgotten : goal.returns-in_default-clause-forgotten
-returns-in_default-clause-forgotten c = λ ks count has.
-    absurd (order-is c.args.tree.now ks count has c.in_ok-order.order c.in_ok-order.ensures.path (sym (ap (option_map (λ ns. ns.items)) c.in_default.is) ∙ c.in_ok-names.ensures))
 
 pub without_one-requires : goal.without_one-requires
 without_one-requires c =
-    let n : c.in-Some.names.items ≡ children c.args.tree.now (znode_path Order) = children-some c.args.tree.now c.in_ok-order.order _ _ c.in_ok-names.ensures (ap (option_map (λ ns. ns.items)) c.in-Some.is) ∙ ap (children c.args.tree.now) c.in_ok-order.ensures.path in
-    let k : c.len-index-end.result ≡ length c.in-Some.names.items = c.len-index-end.ensures ∙ c.in-Some.names.ok.0 in
     let r = c.requires.kept in
-    record { room = room-for c.args.tree.now r.0 r.1 r.2 c.in-Some.names.items n c.names.index (omega (arith, k, c.names-test.true)) c.args.partition c.args.below c.names.dropped.forgotten ((c.names.invariant r.0 r.1 r.2).1) }
+    let i = c.numbers.invariant in
+    record { room = room-for c.args.tree.now r.0 r.1 r.2 c.args.partition c.args.below c.args.numbers.now c.requires.rising r.3 (iter_rest (rev_source c.numbers.number-iterator)) i.0 i.1 c.numbers.dropped.forgotten ((i.2 r.0 r.1 r.2).1) }
 
-pub names-preserved : goal.names-preserved
-names-preserved c = λ ks count has.
-    let n : c.in-Some.names.items ≡ children c.args.tree.now (znode_path Order) = children-some c.args.tree.now c.in_ok-order.order _ _ c.in_ok-names.ensures (ap (option_map (λ ns. ns.items)) c.in-Some.is) ∙ ap (children c.args.tree.now) c.in_ok-order.ensures.path in
-    let m : c.len.result ≡ length c.in-Some.names.items = c.len.ensures ∙ c.in-Some.names.ok.0 in
-    let k : c.len-index-end.result ≡ length c.in-Some.names.items = c.len-index-end.ensures ∙ c.in-Some.names.ok.0 in
-    let i = c.names.invariant ks count has in
-    let named = c.as_bytes.ensures ∙ c.index-name.ensures ∙ ap (λ j. get_or c.in-Some.names.items (j - 1 - c.names.index) c.index-name.result.now) m in (
-      forget-step c.args.tree.now ks count has c.args.partition c.args.below c.in-Some.names.items n c.names.index (omega (arith, k, c.names-test.true)) c.as_bytes.result.now c.index-name.result.now named c.args.ops.items c.names.dropped.ops.items c.in_ok-dropped.dropped.ops.items
-          i.0 (λ j here is. c.in_ok-dropped.ensures.ops ks count j has here is),
-      count-step c.args.tree.now ks count has c.args.partition c.args.below c.in-Some.names.items n c.names.index (omega (arith, k, c.names-test.true)) c.as_bytes.result.now c.index-name.result.now named c.names.dropped.forgotten c.in_ok-dropped.dropped.forgotten
-          i.1 (λ j here is. c.in_ok-dropped.ensures.forgotten ks count j has here is),
+pub numbers-preserved : goal.numbers-preserved
+numbers-preserved c =
+    let i = c.numbers.invariant in (
+      c.in-Some.number.now ∷ i.0,
+      one-back c.args.numbers.now (iter_rest (rev_source c.numbers.number-iterator)) (iter_rest (rev_source c.next.new.self)) i.0 c.in-Some.number.now i.1 c.in-Some.ensures.steps,
+      λ ks count has. (
+        forget-step c.args.partition c.args.below ks c.in-Some.number.now i.0 c.args.ops.items c.numbers.dropped.ops.items c.in_ok-dropped.dropped.ops.items ((i.2 ks count has).0) (c.in_ok-dropped.ensures.ops ks count has),
+        count-step c.args.partition c.args.below ks c.in-Some.number.now i.0 c.numbers.dropped.forgotten c.in_ok-dropped.dropped.forgotten ((i.2 ks count has).1) (c.in_ok-dropped.ensures.forgotten ks count has),
+      ),
     )
 
 pub returns-clause-ops : goal.returns-clause-ops
 returns-clause-ops c = λ ks count has.
-    let n : c.in-Some.names.items ≡ children c.args.tree.now (znode_path Order) = children-some c.args.tree.now c.in_ok-order.order _ _ c.in_ok-names.ensures (ap (option_map (λ ns. ns.items)) c.in-Some.is) ∙ ap (children c.args.tree.now) c.in_ok-order.ensures.path in
-    let k : c.len-index-end.result ≡ length c.in-Some.names.items = c.len-index-end.ensures ∙ c.in-Some.names.ok.0 in
-    forgot-all c.args.tree.now ks count has c.args.partition c.args.below c.in-Some.names.items n c.names.index (omega (arith, k, c.names-test.false)) c.args.ops.items c.names.dropped.ops.items ((c.names.invariant ks count has).0)
+    let r = c.requires.kept in
+    let i = c.numbers.invariant in
+    let e = none-left c.args.numbers.now (iter_rest (rev_source c.numbers.number-iterator)) i.0 i.1 c.in-None.ensures.steps.0 in
+    forgot-all c.args.tree.now ks count has c.args.partition c.args.below c.args.numbers.now c.requires.rising (include-all c.args.tree.now r.0 ks r.1 count r.2 has c.args.partition c.args.numbers.now r.3) c.args.ops.items c.numbers.dropped.ops.items
+    (subst (λ (ns : List ℕ). c.numbers.dropped.ops.items ≡ c.args.ops.items ++ forget_ops c.args.partition c.args.below (found ks ns)) (sym e) ((i.2 ks count has).0))
 
 pub returns-clause-forgotten : goal.returns-clause-forgotten
 returns-clause-forgotten c = λ ks count has.
-    let n : c.in-Some.names.items ≡ children c.args.tree.now (znode_path Order) = children-some c.args.tree.now c.in_ok-order.order _ _ c.in_ok-names.ensures (ap (option_map (λ ns. ns.items)) c.in-Some.is) ∙ ap (children c.args.tree.now) c.in_ok-order.ensures.path in
-    let k : c.len-index-end.result ≡ length c.in-Some.names.items = c.len-index-end.ensures ∙ c.in-Some.names.ok.0 in
-    counted-all c.args.tree.now ks count has c.args.partition c.args.below c.in-Some.names.items n c.names.index (omega (arith, k, c.names-test.false)) (omega (arith, k, c.names.auto.index-end)) c.names.dropped.forgotten ((c.names.invariant ks count has).1)
+    let r = c.requires.kept in
+    let i = c.numbers.invariant in
+    let e = none-left c.args.numbers.now (iter_rest (rev_source c.numbers.number-iterator)) i.0 i.1 c.in-None.ensures.steps.0 in
+    counted-all c.args.tree.now ks count has c.args.partition c.args.below c.args.numbers.now c.requires.rising (include-all c.args.tree.now r.0 ks r.1 count r.2 has c.args.partition c.args.numbers.now r.3) c.numbers.dropped.forgotten
+    (subst (λ (ns : List ℕ). c.numbers.dropped.forgotten + length (filter (outlives c.args.partition c.args.below) (found ks ns)) ≡ length (found ks ns)) (sym e) ((i.2 ks count has).1))

@@ -1,15 +1,10 @@
--- The names of znodes, and what a drop does for each.
+-- What a drop does for each lock.
 -- No public clause cites this module.
-use Rattle.std.specs.Prelude.{◌≡◌, ℕ, ◌++◌, cond, nat_lt, List, [], ◌∷◌, codes}
+use Rattle.std.specs.Prelude.{◌≡◌, ℕ, cond, nat_lt, List, [], ◌∷◌}
 use Rattle.std.specs.declared.option.Option.{Option}
-use Rattle.rmt_paths.specs.Paths.{digits}
 use Rattle.rmt_tree.specs.declared.op.Op.{Op}
 use Rattle.rmt_table_model.specs.Numbers.{Holders}
 use Rattle.rmt_table_model.specs.Nodes.{AreLocks, unlock_ops}
-
--- the name of a kept id's node in the order
-abbrev pub order_name : ℕ → List ℕ
-order_name n = codes "id-" ++ digits 10 n
 
 -- takes the lock on number m of p away where it is below n
 abbrev pub unlock_below : Option ℕ → ℕ → ℕ → List Op
