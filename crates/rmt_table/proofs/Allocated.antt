@@ -1,5 +1,5 @@
 -- What a number for a block makes of a table, and why there is none.
-use Rattle.std.proofs.Common.{◌≡◌, ℕ, ◌+◌, ◌-◌, ◌<◌, ◌≤◌, ◌&&◌, Bool, true, false, cond, nat_eq, nat_le, List, [], ◌∷◌, length, refl, sym, ap, subst, arith, ◌∙◌}
+use Rattle.std.proofs.Common.{◌≡◌, ℕ, ◌+◌, ◌-◌, ◌<◌, ◌≤◌, ◌&&◌, Bool, true, false, cond, nat_eq, nat_le, List, length, refl, sym, ap, subst, arith, ◌∙◌}
 use Rattle.std.proofs.lemmas.Bool.Decides.{nat_tests}
 use Rattle.std.specs.declared.option.Option.{Option}
 use Rattle.std.specs.declared.option.Option.TheVariants.{Some, None}
@@ -217,7 +217,7 @@ module _ (h : Held) (tokens : List (Token Entry)) (counts : Counts) (k : IsTable
         pub allocated-tree : IsTableTree after tokens counts
         allocated-tree = record {
           held = held-held entry_bytes after (after_allocate id.partition s v) table same;
-          counted = record { clients = k.counted.clients; workers = k.counted.workers; mutations = k.counted.mutations; kept = k.counted.kept };
+          counted = record { clients = k.counted.clients; workers = k.counted.workers; mutations = k.counted.mutations; blocks = k.counted.blocks; kept = k.counted.kept; numbers = k.counted.numbers };
           places = k.places;
         }
 

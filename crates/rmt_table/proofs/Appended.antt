@@ -2,15 +2,14 @@
 use Rattle.std.proofs.Common.{◌≡◌, ℕ, zero, suc, ◌+◌, ◌<◌, ◌≤◌, cond, not, List, [], ◌∷◌, ◌++◌, length, slice_get, take, refl, sym, ap, arith, ◌∙◌}
 use Rattle.std.proofs.lemmas.List.Sums.{sum_by-cons, length-filter, count_by-le-length}
 use Rattle.std.specs.declared.option.Option.{Option}
-use Rattle.std.specs.declared.option.Option.TheVariants.{Some, None}
+use Rattle.std.specs.declared.option.Option.TheVariants.{Some}
 use Rattle.rmt_row.specs.Token.{Token}
 use Rattle.rmt_entries.specs.declared.entry.Entry.{Entry}
 use Rattle.rmt_entries.specs.declared.entry.Entry.TheVariants.{Get, Merge, Mutate, Mutation, DropRange}
 use Rattle.rmt_model.specs.Lawful.{is_mutation, mutation_count}
 use Rattle.rmt_limits.specs.EntryLimits.{is_client, client_count, worker_count}
 use Rattle.rmt_names.specs.Names.{block_name}
-use Rattle.rmt_table_model.specs.Kept.{Placed, outlives, in_order, get_count}
-use Rattle.rmt_table_model.proofs.KeptLemmas.{placed}
+use Rattle.rmt_table_model.specs.Kept.{outlives, in_order, get_count, is_get}
 use Rattle.rmt_table.specs.TableTrees.{ArePlaced}
 
 -- each token is at its place, one more too
@@ -33,6 +32,9 @@ workers-next e log = sum_by-cons (λ x. cond (not (is_client x)) 1 0) e log
 
 pub mutations-next : (e : Entry) (log : List Entry) → mutation_count (e ∷ log) ≡ cond (is_mutation e) 1 0 + mutation_count log
 mutations-next e log = sum_by-cons (λ x. cond (is_mutation x) 1 0) e log
+
+pub blocks-next : (e : Entry) (log : List Entry) → get_count (e ∷ log) ≡ cond (is_get e) 1 0 + get_count log
+blocks-next e log = sum_by-cons (λ x. cond (is_get x) 1 0) e log
 
 take-most : {A : Type 0} (w : ℕ) (xs : List A) → length (take w xs) ≤ w
 take-most zero xs = omega arith

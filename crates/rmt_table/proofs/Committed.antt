@@ -1,5 +1,5 @@
 -- What an accepted block makes of a table.
-use Rattle.std.proofs.Common.{◌≡◌, ℕ, suc, ◌+◌, ◌<◌, ◌≤◌, Bool, true, false, cond, nat_le, nat_lt, List, [], ◌∷◌, ◌++◌, length, refl, sym, ap, subst, arith, ◌∙◌}
+use Rattle.std.proofs.Common.{◌≡◌, ℕ, ◌+◌, ◌<◌, ◌≤◌, Bool, true, false, cond, nat_le, nat_lt, List, [], ◌∷◌, ◌++◌, length, refl, sym, ap, subst, arith, ◌∙◌}
 use Rattle.std.proofs.lemmas.Bool.Decides.{nat_tests}
 use Rattle.std.proofs.lemmas.List.{append-nil}
 use Rattle.std.specs.declared.option.Option.{Option}
@@ -26,7 +26,7 @@ use Rattle.rmt_znodes.specs.Znodes.{znode_path, entry_path}
 use Rattle.rmt_znodes.specs.ZnodeStates.{Makes}
 use Rattle.rmt_table_model.specs.Numbers.{IsLocked}
 use Rattle.rmt_paths.specs.Paths.{Names}
-use Rattle.rmt_table_model.specs.Kept.{Placed, in_order, with_id}
+use Rattle.rmt_table_model.specs.Kept.{Placed, in_order, get_count, with_id}
 use Rattle.rmt_table_model.specs.Inserts.{HasKeptIds, part_of}
 use Rattle.rmt_table_model.specs.Tables.{TableView}
 use Rattle.rmt_table_model.specs.Changes.{MayCommit, after_commit}
@@ -35,7 +35,8 @@ use Rattle.rmt_table_model.specs.Steps.{Steps}
 use Rattle.rmt_table_model.specs.Held.{Held, table_of, holders_in}
 use Rattle.rmt_table_model.proofs.TableLemmas.{commit-steps}
 use Rattle.rmt_table_model.proofs.HeldLemmas.{held-table, held-held}
-use Rattle.rmt_events.specs.TableCalls.{Commits, kept_part}
+use Rattle.rmt_events.specs.TableCalls.{Commits}
+use Rattle.rmt_partitions.specs.KeptNumbers.{NumbersOf, numbers_of}
 use Rattle.rmt_table_view.specs.Shown.{shown}
 use Rattle.rmt_table_view.proofs.NumberLemmas as view
 use Rattle.rmt_table_view.proofs.CallBridge.{commit-bridge}
@@ -43,8 +44,8 @@ use Rattle.rmt_table.specs.declared.lock.Lock.{Lock}
 use Rattle.rmt_table.specs.declared.commit_error.CommitError.{CommitError}
 use Rattle.rmt_table.specs.declared.commit_error.CommitError.TheVariants as commit
 use Rattle.rmt_table.specs.Refusals.{IsAcceptable, TakesLock}
-use Rattle.rmt_table.specs.TableTrees.{table_at, IsReplica, Counts, ArePlaced, IsTableTree, IsUnlocked, AfterNoCommit, next_token, kept_after}
-use Rattle.rmt_table.proofs.Appended.{placed-more, clients-next, workers-next, mutations-next, window-most, window-next, window-full}
+use Rattle.rmt_table.specs.TableTrees.{table_at, IsReplica, Counts, ArePlaced, IsTableTree, IsUnlocked, AfterNoCommit, next_token, kept_after, order_numbers}
+use Rattle.rmt_table.proofs.Appended.{placed-more, clients-next, workers-next, mutations-next, blocks-next, window-most, window-next, window-full}
 use Rattle.rmt_table.proofs.HeldNodes.{held-kept}
 use Rattle.rmt_table.proofs.SoundRanges.{commit-range}
 use Rattle.rmt_table.proofs.Allocated.{unkept}
@@ -146,7 +147,8 @@ module _ (h : Held) (tokens : List (Token Entry)) (counts : Counts) (k : IsTable
           (subst (λ (u : TableView). Commits (table_at h) lock.id.partition lock.number lock.id.digest lock.replica need values (shown u)) (sym (held-table entry_bytes after (after_commit lock.id.partition lock.number lock.id.digest lock.replica need values (table_of h)) table same))
           (commit-bridge (table_of h) k.held.sound lock.id.partition lock.number lock.id.digest lock.replica need values may))
 
-      module _ (clients kept : ℕ) (clients-is : clients ≡ counts.clients + 1) (kept-is : kept ≡ kept_after counts.kept h.schema.window) where
+      module _ (clients blocks kept : ℕ) (clients-is : clients ≡ counts.clients + 1) (blocks-is : blocks ≡ counts.blocks + 1) (kept-is : kept ≡ kept_after counts.kept h.schema.window)
+          (numbers : List NumbersOf) (numbers-are : (p : Option ℕ) → numbers_of numbers p ≡ order_numbers (entry ∷ h.log) p) where
         kept-count : kept ≡ length (in_order h.schema.window (entry ∷ h.log))
         kept-count = go (nat_lt counts.kept h.schema.window) refl kept-is
           where
@@ -162,14 +164,16 @@ module _ (h : Held) (tokens : List (Token Entry)) (counts : Counts) (k : IsTable
                 let w = window-full h.schema.window h.log lock.id.partition lock.number lock.id.digest lock.replica need (omega (arith, c, l)) in
                 omega (arith, q, c, w)
 
-        pub committed-tree : IsTableTree after more (record counts { clients = clients; kept = kept })
+        pub committed-tree : IsTableTree after more (record counts { clients = clients; blocks = blocks; kept = kept; numbers = numbers })
         committed-tree = record {
           held = held-held entry_bytes after (after_commit lock.id.partition lock.number lock.id.digest lock.replica need values (table_of h)) table same;
           counted = record {
             clients = let c = k.counted.clients in let n = clients-next entry h.log in (omega (arith, clients-is, c, n) ∙ ap client_count (sym log-is));
             workers = let c = k.counted.workers in let n = workers-next entry h.log in (omega (arith, c, n) ∙ ap worker_count (sym log-is));
             mutations = let c = k.counted.mutations in let n = mutations-next entry h.log in (omega (arith, c, n) ∙ ap mutation_count (sym log-is));
+            blocks = let c = k.counted.blocks in let n = blocks-next entry h.log in (omega (arith, blocks-is, c, n) ∙ ap get_count (sym log-is));
             kept = kept-count ∙ ap (λ (log : List Entry). length (in_order h.schema.window log)) (sym log-is);
+            numbers = λ p. numbers-are p ∙ ap (λ (log : List Entry). order_numbers log p) (sym log-is);
           };
           places = subst ArePlaced (sym more-is) (placed-more tokens token k.places (ap (λ (v : Token Entry). v.place) token-is ∙ ap length of ∙ length-entries tokens));
         }

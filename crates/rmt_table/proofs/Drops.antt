@@ -28,17 +28,18 @@ use Rattle.rmt_table_model.specs.Steps.{Steps}
 use Rattle.rmt_table_model.proofs.NumberLemmas.{next-has}
 use Rattle.rmt_table_model.proofs.TableLemmas.{drop-steps}
 use Rattle.rmt_table_model.proofs.HeldLemmas.{held-table, held-held}
+use Rattle.rmt_partitions.specs.KeptNumbers.{NumbersOf, numbers_of}
 use Rattle.rmt_table_view.specs.Shown.{shown}
 use Rattle.rmt_table_view.proofs.NumberLemmas.{taken-same}
 use Rattle.rmt_table_view.proofs.CallBridge.{drop-bridge}
 use Rattle.rmt_events.specs.TableCalls.{DropsPartition}
-use Rattle.rmt_table.specs.TableTrees.{table_at, Counts, ArePlaced, IsTableTree, next_token, Drops}
+use Rattle.rmt_table.specs.TableTrees.{table_at, Counts, ArePlaced, IsTableTree, next_token, order_numbers, Drops}
 use Rattle.rmt_table.specs.Refusals.{NoDrop}
 use Rattle.rmt_table.specs.declared.change_error.ChangeError.{ChangeError}
 use Rattle.rmt_table.specs.declared.change_error.ChangeError.TheVariants.{LimitReached, Memory}
 use Rattle.rmt_table.proofs.LookupLemmas.{lookup-same, number-where}
 use Rattle.rmt_table.proofs.HeldNodes.{held-numbers, held-kept}
-use Rattle.rmt_table.proofs.Appended.{clients-next, workers-next, mutations-next}
+use Rattle.rmt_table.proofs.Appended.{clients-next, workers-next, mutations-next, blocks-next}
 use Rattle.rmt_table.proofs.ChangeLimits.{limit_error, no-error, error-limit, drop-free}
 
 -- a partition that isn't found gives no number yet
@@ -143,16 +144,18 @@ module _ (h : Held) (tokens : List (Token Entry)) (counts : Counts) (is : IsTabl
         after-is : ◌≡◌ {A = TableView} (record (after_drop p (table_of h)) { holders = holders_in t }) (table_of new)
         after-is = ap (λ (q : Quorum). record (table_of new) { quorum = q }) (ap (quorum_after_drop p (next_number h.next p)) still ∙ sym still)
 
-        pub drop-kept : (all : List (Token Entry)) → ArePlaced all → (forgotten : ℕ) → forgotten + length (filter (outlives p (next_number h.next p)) (in_order h.schema.window h.log)) ≡ counts.kept
-            → IsTableTree (record h { log = log; next = next; tree = t }) all (record { clients = counts.clients + 1; workers = counts.workers; mutations = counts.mutations; kept = counts.kept - forgotten })
-        drop-kept all placed forgotten fewer = subst (λ (k : Held). IsTableTree k all (record { clients = counts.clients + 1; workers = counts.workers; mutations = counts.mutations; kept = counts.kept - forgotten })) (sym new-is)
+        pub drop-kept : (all : List (Token Entry)) → ArePlaced all → (numbers : List NumbersOf) → ((q : Option ℕ) → numbers_of numbers q ≡ order_numbers (DropRange p (next_number h.next p) ∷ h.log) q) → (forgotten : ℕ) → forgotten + length (filter (outlives p (next_number h.next p)) (in_order h.schema.window h.log)) ≡ counts.kept
+            → IsTableTree (record h { log = log; next = next; tree = t }) all (record { clients = counts.clients + 1; workers = counts.workers; mutations = counts.mutations; blocks = counts.blocks; kept = counts.kept - forgotten; numbers = numbers })
+        drop-kept all placed numbers numbers-are forgotten fewer = subst (λ (k : Held). IsTableTree k all (record { clients = counts.clients + 1; workers = counts.workers; mutations = counts.mutations; blocks = counts.blocks; kept = counts.kept - forgotten; numbers = numbers })) (sym new-is)
             (record {
               held = held-held entry_bytes new (after_drop p (table_of h)) stepped after-is;
               counted = record {
                 clients = let a = clients-next (DropRange p (next_number h.next p)) h.log in let b = is.counted.clients in omega (arith, a, b);
                 workers = let a = workers-next (DropRange p (next_number h.next p)) h.log in let b = is.counted.workers in omega (arith, a, b);
                 mutations = let a = mutations-next (DropRange p (next_number h.next p)) h.log in let b = is.counted.mutations in omega (arith, a, b);
+                blocks = let a = blocks-next (DropRange p (next_number h.next p)) h.log in let b = is.counted.blocks in omega (arith, a, b);
                 kept = omega (arith, fewer);
+                numbers = numbers-are;
               };
               places = placed;
             })

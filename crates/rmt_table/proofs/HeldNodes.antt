@@ -1,7 +1,6 @@
 -- What a table's tree has of its block numbers and of its kept ids.
-use Rattle.std.proofs.Common.{◌≡◌, ℕ, zero, suc, ◌<◌, ◌≤◌, inr, List, [], ◌∷◌, filter, refl, sym, ap, subst, arith, ◌∙◌}
+use Rattle.std.proofs.Common.{◌≡◌, ℕ, zero, suc, ◌<◌, ◌≤◌, inr, List, [], ◌∷◌, filter, refl, sym, ap, subst, arith}
 use Rattle.std.proofs.lemmas.List.Sums.{count_by-le-length}
-use Rattle.std.specs.declared.option.Option.{Option}
 use Rattle.rmt_entries.specs.EntryBytes.{entry_bytes}
 use Rattle.rmt_entries.specs.declared.entry.Entry.{Entry}
 use Rattle.rmt_entries.specs.declared.entry.Entry.TheVariants.{Get, Merge, Mutate, Mutation, DropRange}
@@ -9,8 +8,6 @@ use Rattle.rmt_model.specs.Words.{Has, Each}
 use Rattle.rmt_model.proofs.Lists.{Each-all, Each-at}
 use Rattle.rmt_znodes.specs.declared.znode.Znode.{Znode}
 use Rattle.rmt_znodes.specs.declared.znode.Znode.TheVariants.{Log, LogEntry, Blocks, Block, Order, OrderOf, Numbers, Partition, Lock, Mutations, MutationNode, Quorum, Status, LastPart, Replicas, Replica, LogPointer, IsActive}
-use Rattle.rmt_znodes.specs.Znodes.{IsZnode}
-use Rattle.rmt_znodes.specs.ZnodeStates.{ZnodeStates}
 use Rattle.rmt_znodes.proofs.ZnodeStateLemmas.{has_znodes-as}
 use Rattle.rmt_table_model.specs.Kept.{Placed, outlives, in_order, get_count, IsIdZnode, AreKept, is_get}
 use Rattle.rmt_table_model.specs.Tables.{TableView}

@@ -22,7 +22,7 @@ use Rattle.rmt_tree.specs.Trees.{TreeView}
 use Rattle.rmt_tree.specs.Ops.{first_refusal, after_all}
 use Rattle.rmt_tree.specs.declared.op.Op.{Op}
 use Rattle.rmt_table_model.specs.Numbers as numbers
-use Rattle.rmt_table_model.specs.Kept.{in_order}
+use Rattle.rmt_table_model.specs.Kept.{is_get, in_order}
 use Rattle.rmt_table_model.specs.Inserts.{IsLeastLocked}
 use Rattle.rmt_table_model.specs.Tables.{TableView, IsSound}
 use Rattle.rmt_table_model.specs.Changes.{MayMerge}
@@ -35,7 +35,7 @@ use Rattle.rmt_events.specs.Views.{Table}
 use Rattle.rmt_events.specs.TableCalls.{AssignsMerge}
 use Rattle.rmt_table_view.specs.Shown.{shown}
 use Rattle.rmt_table_view.proofs.CallBridge.{shown-locked, locked-shown, merge-bridge}
-use Rattle.rmt_table.specs.TableTrees.{Counts, IsTableTree, IsMergeOf, table_at, next_token, entry_ops}
+use Rattle.rmt_table.specs.TableTrees.{Counts, order_numbers, IsTableTree, IsMergeOf, table_at, next_token, entry_ops}
 use Rattle.rmt_table.specs.Refusals.{NoMerge}
 use Rattle.rmt_table.specs.declared.merge_error.MergeError.{MergeError}
 use Rattle.rmt_table.specs.declared.merge_error.MergeError.TheVariants as merge
@@ -261,19 +261,25 @@ module _ (h : Held) (tokens : List (Token Entry)) (logged : h.log ≡ entries to
           window : in_order h.schema.window (e ∷ h.log) ≡ in_order h.schema.window h.log
           window = ap (λ (x : Entry). in_order h.schema.window (x ∷ h.log)) e-at
 
+          no-block : is_get e ≡ false
+          no-block = ap is_get e-at
+
+          accepted : (p : Option ℕ) → order_numbers (e ∷ h.log) p ≡ order_numbers h.log p
+          accepted p = ap (λ (x : Entry). order_numbers (x ∷ h.log) p) e-at
+
           module _ (t : Token Entry) (t-is : t ≡ record { place = length tokens; value = e; cell = length tokens })
               (more : List (Token Entry)) (more-is : more ≡ tokens ++ t ∷ []) (tree : TreeView) (ops : List Op) (ops-is : ops ≡ entry_ops e) (tree-is : tree ≡ after_all h.tree ops) where
             tree-at : tree ≡ after_all h.tree (entry_ops e)
             tree-at = tree-is ∙ ap (after_all h.tree) ops-is
 
             pub merge-tree : IsTableTree (record h { log = entries more; tree = tree }) more (record counts { workers = counts.workers + 1 })
-            merge-tree = worked-tree h tokens logged counts is e worker other window steps t t-is more more-is tree tree-at
+            merge-tree = worked-tree h tokens logged counts is e worker other window no-block accepted steps t t-is more more-is tree tree-at
 
             pub merge-done : IsMergeOf now names t (record h { log = entries more; tree = tree })
             merge-done = subst (λ (k : Held). IsMergeOf k names t (record h { log = entries more; tree = tree })) same (record {
               name = new;
               count = count;
-              token_is = worked-token h tokens logged counts is e worker other window steps t t-is more more-is tree tree-at ∙ ap (next_token h) e-at;
-              seen = subst (AssignsMerge (table_at h) new names count) (sym (worked-seen h tokens logged counts is e worker other window steps t t-is more more-is tree tree-at)) seen;
+              token_is = worked-token h tokens logged counts is e worker other window no-block accepted steps t t-is more more-is tree tree-at ∙ ap (next_token h) e-at;
+              seen = subst (AssignsMerge (table_at h) new names count) (sym (worked-seen h tokens logged counts is e worker other window no-block accepted steps t t-is more more-is tree tree-at)) seen;
               tree = tree-at ∙ ap (λ (x : Entry). after_all h.tree (entry_ops x)) e-at;
             })

@@ -21,14 +21,15 @@ use Rattle.rmt_table_model.specs.Steps.{Steps}
 use Rattle.rmt_table_model.proofs.HeldLemmas.{held-table, held-held}
 use Rattle.rmt_table_model.proofs.NewLemmas.{new-steps}
 use Rattle.rmt_table_view.specs.Shown.{opened_from, shown}
+use Rattle.rmt_partitions.specs.KeptNumbers.{NumbersOf}
 use Rattle.rmt_table.specs.TableTrees.{table_at, Counts, IsTableTree}
 
 -- what is kept of a new table, in this tree
 abbrev pub new_held : Shape → ℕ → TreeView → Held
 new_held schema count t = record { schema = schema; log = []; next = []; sessions = replicate count None; pulled = replicate count 0; quorum = record { pending = None; last = None }; values = 0; tree = t }
 
-abbrev pub no_counts : Counts
-no_counts = record { clients = 0; workers = 0; mutations = 0; kept = 0 }
+abbrev pub no_counts : List NumbersOf → Counts
+no_counts numbers = record { clients = 0; workers = 0; mutations = 0; blocks = 0; kept = 0; numbers = numbers }
 
 -- an empty list that has grown to a length
 pub resized : {A : Type 0} (xs ys : List A) (n k m : ℕ) (a : A) → ys ≡ [] → k ≡ 0 → n ≡ m → xs ≡ take n ys ++ replicate (n - k) a → xs ≡ replicate m a
@@ -63,15 +64,16 @@ module _ (schema : Shape) (count : ℕ) (few : count ≤ 8) (t : TreeView) (ops 
         ∙ ap (λ (xs : List (Option ℕ)). record (new_held schema count t) { log = entries tokens; next = next; sessions = xs }) (sym sessions-are)
         ∙ ap (λ (xs : List ℕ). record (new_held schema count t) { log = entries tokens; next = next; sessions = sessions; pulled = xs }) (sym pulled-are)
 
-    new-none : IsTableTree (new_held schema count t) [] no_counts
+    new-none : IsTableTree (new_held schema count t) [] (no_counts [])
     new-none = record {
       held = held-held entry_bytes (new_held schema count t) (new_table schema count) new-stepped refl;
-      counted = record { clients = refl; workers = refl; mutations = refl; kept = refl };
+      counted = record { clients = refl; workers = refl; mutations = refl; blocks = refl; kept = refl; numbers = λ p. refl };
       places = λ i x e. absurd (cc);
     }
 
-    pub new-kept : IsTableTree (record { schema = schema; log = entries tokens; next = next; sessions = sessions; pulled = pulled; quorum = record { pending = None; last = None }; values = 0; tree = t }) tokens no_counts
-    new-kept = subst (λ (h : Held). IsTableTree h tokens no_counts) new-same (subst (λ (xs : List (Token Entry)). IsTableTree (new_held schema count t) xs no_counts) (sym no-tokens) new-none)
+    pub new-kept : (numbers : List NumbersOf) → numbers ≡ [] → IsTableTree (record { schema = schema; log = entries tokens; next = next; sessions = sessions; pulled = pulled; quorum = record { pending = None; last = None }; values = 0; tree = t }) tokens (no_counts numbers)
+    new-kept numbers no-numbers = subst (λ (ns : List NumbersOf). IsTableTree (record { schema = schema; log = entries tokens; next = next; sessions = sessions; pulled = pulled; quorum = record { pending = None; last = None }; values = 0; tree = t }) tokens (no_counts ns)) (sym no-numbers)
+        (subst (λ (h : Held). IsTableTree h tokens (no_counts [])) new-same (subst (λ (xs : List (Token Entry)). IsTableTree (new_held schema count t) xs (no_counts [])) (sym no-tokens) new-none))
 
     pub new-shown : table_at (record { schema = schema; log = entries tokens; next = next; sessions = sessions; pulled = pulled; quorum = record { pending = None; last = None }; values = 0; tree = t }) ≡ starts.new_table schema []
     new-shown =

@@ -1,5 +1,5 @@
 -- What a pull makes of a table and of a copy of its log.
-use Rattle.std.proofs.Common.{◌≡◌, ◌≢◌, ℕ, suc, ◌+◌, ◌-◌, ◌<◌, ◌≤◌, List, [], ◌∷◌, ◌++◌, length, refl, sym, ap, subst, arith, ◌∙◌, get_or, set}
+use Rattle.std.proofs.Common.{◌≡◌, ◌≢◌, ℕ, suc, ◌-◌, ◌<◌, ◌≤◌, List, [], ◌∷◌, ◌++◌, length, refl, sym, ap, subst, arith, ◌∙◌, get_or, set}
 use Rattle.std.proofs.lemmas.List.{get_or_default}
 use Rattle.std.proofs.lemmas.Option.{slice_get-get_or}
 use Rattle.std.specs.Prelude.{slice_get}
@@ -98,7 +98,7 @@ module _ (h : Held) (tokens : List (Token Entry)) (counts : Counts) (is : IsTabl
     pub pull-kept : IsTableTree (record h { pulled = set h.pulled (at - 1) len; tree = t }) tokens counts
     pull-kept = subst (λ (k : Held). IsTableTree k tokens counts) pull-moved (record {
       held = held-held entry_bytes (record h { pulled = set h.pulled (r - 1) (length h.log); tree = t }) (after_pull (r - 1) (table_of h)) pull-stepped refl;
-      counted = record { clients = is.counted.clients; workers = is.counted.workers; mutations = is.counted.mutations; kept = is.counted.kept };
+      counted = record { clients = is.counted.clients; workers = is.counted.workers; mutations = is.counted.mutations; blocks = is.counted.blocks; kept = is.counted.kept; numbers = is.counted.numbers };
       places = is.places;
     })
 

@@ -16,12 +16,11 @@ use Rattle.rmt_table_model.specs.Numbers.{Holders, IsLocked}
 use Rattle.rmt_table_model.specs.Tables.{TableView}
 use Rattle.rmt_table_model.specs.Changes.{after_abandon}
 use Rattle.rmt_table_model.specs.Nodes.{IsTable}
-use Rattle.rmt_table_model.specs.Held.{Held, IsHeld, table_of, holders_in}
+use Rattle.rmt_table_model.specs.Held.{Held, table_of, holders_in}
 use Rattle.rmt_znodes.specs.ZnodeStates.{Makes}
 use Rattle.rmt_table_model.specs.Steps.{Steps}
 use Rattle.rmt_table_model.proofs.TableLemmas.{abandon-steps}
 use Rattle.rmt_table_model.proofs.HeldLemmas.{held-table, held-held, held-abandon, lock-there, unlocked-none}
-use Rattle.rmt_events.specs.Views.{Table}
 use Rattle.rmt_events.specs.TableCalls.{Unlocks}
 use Rattle.rmt_events.specs.TableCalls as seen
 use Rattle.rmt_table_view.specs.Shown.{shown}
@@ -37,7 +36,7 @@ read-is (Some x) (Some m) e = refl
 
 -- the counts are those of a table with another tree
 pub recounted : (h : Held) (counts : Counts) (t : TreeView) → AreCounts h counts → AreCounts (record h { tree = t }) counts
-recounted h counts t c = record { clients = c.clients; workers = c.workers; mutations = c.mutations; kept = c.kept }
+recounted h counts t c = record { clients = c.clients; workers = c.workers; mutations = c.mutations; blocks = c.blocks; kept = c.kept; numbers = c.numbers }
 
 module _ (h : Held) (tokens : List (Token Entry)) (counts : Counts) (k : IsTableTree h tokens counts) (now : Held) (e : h ≡ now) (p : Option ℕ) (n : ℕ) (znode : IsZnode (Lock p n)) (path : Names) (at : path ≡ znode_path (Lock p n))
     (found : Option (Bor (List ℕ) × ℕ)) (get : option_map lent_data found ≡ option_map value_and_version (node_at h.tree path)) (b : Bool) (test : is_some found ≡ not b) where
@@ -69,6 +68,11 @@ module _ (h : Held) (tokens : List (Token Entry)) (counts : Counts) (k : IsTable
   pub unlocks-none : b ≡ true → Unlocks (table_at now) p n (table_at now)
   unlocks-none f = subst (λ (w : Held). Unlocks (table_at w) p n (table_at w)) e
       (subst (λ (w : TableView). Unlocks (table_at h) p n (shown w)) (sym (ap (λ (o : Holders). record (table_of h) { holders = o }) (unlocked-none (holders_in h.tree) p n (free f)))) (abandon-bridge (table_of h) k.held.sound p n))
+
+  -- what is told of it
+  pub lock-told : (d : Bool) → b ≡ not d → (d ≡ true) ↔ seen.IsLocked (table_at now).locks p n
+  lock-told true q = (λ t. lock-seen q, λ l. refl)
+  lock-told false q = (λ t. absurd (cc), λ l. absurd (lock-gone q l))
 
   module _ (f : b ≡ false) (t : TreeView) (done : t ≡ after_all h.tree (op.Delete path None ∷ [])) where
     tree-is : t ≡ after_all h.tree (op.Delete (znode_path (Lock p n)) None ∷ [])

@@ -1,15 +1,16 @@
 -- A table as its log and its tree have it.
 -- ClickHouse documentation, Data Replication. What is kept in memory beside the tree is this program's own.
-use Rattle.std.specs.Prelude.{◌≡◌, ℕ, ◌+◌, ◌-◌, ◌≤◌, Bool, true, false, cond, nat_eq, nat_lt, List, [], ◌∷◌, length, slice_get}
+use Rattle.std.specs.Prelude.{◌≡◌, ℕ, ◌+◌, ◌-◌, ◌≤◌, Bool, true, false, cond, nat_eq, nat_lt, List, [], ◌∷◌, ◌++◌, length, slice_get}
 use Rattle.std.specs.declared.option.Option.{Option}
 use Rattle.std.specs.declared.option.Option.TheVariants.{Some, None}
 use Rattle.rmt_row.specs.Token.{Token}
 use Rattle.rmt_entries.specs.declared.entry.Entry.{Entry}
-use Rattle.rmt_entries.specs.declared.entry.Entry.TheVariants.{Merge, Mutate, DropRange}
+use Rattle.rmt_entries.specs.declared.entry.Entry.TheVariants.{Get, Merge, Mutate, Mutation, DropRange}
 use Rattle.rmt_entries.specs.EntryBytes.{entry_bytes}
 use Rattle.rmt_model.specs.Lawful.{IsPrefix, mutation_count}
 use Rattle.rmt_limits.specs.EntryLimits.{client_count, worker_count}
-use Rattle.rmt_table_model.specs.Kept.{in_order}
+use Rattle.rmt_table_model.specs.Kept.{in_order, get_count}
+use Rattle.rmt_partitions.specs.KeptNumbers.{NumbersOf, numbers_of}
 use Rattle.rmt_table_model.specs.Tables.{session_of}
 use Rattle.rmt_table_model.specs.Held.{Held, IsHeld, table_of, holders_in}
 use Rattle.std.specs.Fmt.{decimal}
@@ -23,7 +24,7 @@ use Rattle.rmt_znodes.specs.Znodes.{znode_path, entry_path}
 use Rattle.rmt_events.specs.Views.{Table}
 use Rattle.rmt_events.specs.TableCalls.{Unlocks, DropsPartition, AssignsMerge, AssignsMutate}
 use Rattle.rmt_limits.specs.BlockNumbers.{next_number}
-use Rattle.rmt_names.specs.Names.{Name}
+use Rattle.rmt_names.specs.Names.{Name, rank}
 use Rattle.rmt_table_model.specs.Nodes.{AreLocks, drop_ops}
 use Rattle.rmt_table.specs.declared.lock.Lock as lock
 use Rattle.rmt_table.specs.declared.commit_error.CommitError.{CommitError}
@@ -39,19 +40,33 @@ pub record IsReplica (h : Held) (r : ℕ) : Type 0 where
   pub first : 1 ≤ r
   pub last : r ≤ length h.sessions
 
--- how many entries of clients, of workers and of mutations the log has, and how many ids are kept
+-- the numbers that the blocks of p got in the order of acceptance since its last drop, rising
+abbrev pub order_numbers : List Entry → Option ℕ → List ℕ
+order_numbers [] p = []
+order_numbers (Get q n digest source need ∷ log) p = cond (nat_eq (rank q) (rank p)) (order_numbers log p ++ get_count log ∷ []) (order_numbers log p)
+order_numbers (Merge new sources count ∷ log) p = order_numbers log p
+order_numbers (Mutate old new upto count mcount ∷ log) p = order_numbers log p
+order_numbers (Mutation id numbers command ∷ log) p = order_numbers log p
+order_numbers (DropRange q n ∷ log) p = cond (nat_eq (rank q) (rank p)) [] (order_numbers log p)
+
+-- how many entries of clients, of workers, of mutations and of blocks the log has, how many ids are kept, and for each
+-- partition the numbers of its blocks in their order
 pub record Counts : Type 0 where
   pub clients : ℕ
   pub workers : ℕ
   pub mutations : ℕ
+  pub blocks : ℕ
   pub kept : ℕ
+  pub numbers : List NumbersOf
 
 -- they are those of the log
 pub record AreCounts (h : Held) (counts : Counts) : Type 0 where
   pub clients : counts.clients ≡ client_count h.log
   pub workers : counts.workers ≡ worker_count h.log
   pub mutations : counts.mutations ≡ mutation_count h.log
+  pub blocks : counts.blocks ≡ get_count h.log
   pub kept : counts.kept ≡ length (in_order h.schema.window h.log)
+  pub numbers : (p : Option ℕ) → numbers_of counts.numbers p ≡ order_numbers h.log p
 
 -- each token is at its place
 abbrev pub ArePlaced : List (Token Entry) → Type 0

@@ -11,6 +11,8 @@ mod abandon;
 mod allocate;
 mod commit;
 mod drop;
+mod limits;
+mod locks;
 mod merge;
 mod mutate;
 mod mutation;
@@ -20,7 +22,7 @@ mod sessions;
 use crate::layout::new_ops;
 use crate::ops::multi;
 use rmt_entries::Entry;
-use rmt_partitions::Partitions;
+use rmt_partitions::{KeptNumbers, Partitions};
 use rmt_row::Seen;
 use rmt_tree::Tree;
 use rmt_values::{ReplicaId, Schema};
@@ -46,8 +48,12 @@ pub struct TableTree {
     workers: u32,
     /// How many mutations the log has.
     mutations: u32,
+    /// How many blocks the log has.
+    blocks: u32,
     /// How many ids are kept.
     kept: u32,
+    /// The numbers that the blocks of each partition got in the order of acceptance since its last drop.
+    numbers: KeptNumbers,
     tree: Tree,
 }
 
@@ -67,7 +73,7 @@ impl Model for TableTree {
 
     ghost view = { λ t. record { schema = arc_value t.schema; log = entries t.log.items; next = t.partitions.numbers; sessions = t.sessions.items; pulled = t.pulled.items; quorum = record { pending = None; last = None }; values = t.values; tree = t.tree } };
 
-    ghost invariant = { λ t. IsTableTree (record { schema = arc_value t.schema; log = entries t.log.items; next = t.partitions.numbers; sessions = t.sessions.items; pulled = t.pulled.items; quorum = record { pending = None; last = None }; values = t.values; tree = t.tree }) t.log.items (record { clients = t.clients; workers = t.workers; mutations = t.mutations; kept = t.kept }) };
+    ghost invariant = { λ t. IsTableTree (record { schema = arc_value t.schema; log = entries t.log.items; next = t.partitions.numbers; sessions = t.sessions.items; pulled = t.pulled.items; quorum = record { pending = None; last = None }; values = t.values; tree = t.tree }) t.log.items (record { clients = t.clients; workers = t.workers; mutations = t.mutations; blocks = t.blocks; kept = t.kept; numbers = t.numbers }) };
 }
 
 impl TableTree {
@@ -101,9 +107,18 @@ impl TableTree {
             clients: 0,
             workers: 0,
             mutations: 0,
+            blocks: 0,
             kept: 0,
+            numbers: KeptNumbers::new(alloc),
             tree,
         })
+    }
+
+    /// Its schema.
+    pub fn schema(&self) -> &Arc<Schema, Global>
+        ensures { arc_value result.now ≡ self.now.schema }
+    {
+        &self.schema
     }
 
     /// How many entries the log has.

@@ -139,8 +139,11 @@ impl TableTree {
         };
         is_id(&lock.id);
         let ops = self.commit_ops(alloc, lock, path, &entry)?;
+        self.numbers.reserve(alloc, lock.id.partition)?;
         let token = append(&mut self.tree, &mut self.log, alloc, &ops, entry)?;
+        self.numbers.push(lock.id.partition, self.blocks);
         self.clients += 1;
+        self.blocks += 1;
         self.values += values;
         self.kept = kept_after(self.kept, self.schema.window());
         Ok(token)

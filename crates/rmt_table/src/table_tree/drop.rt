@@ -1,10 +1,12 @@
-ghost use Rattle.std.specs.Prelude.{◌≡◌, ◌+◌, ◌∷◌, ◌++◌, [], ℕ, List, length, filter, true, None, Some, IfOk, IfErr, OnErr};
+ghost use Rattle.std.specs.Prelude.{◌≡◌, ◌<◌, ◌+◌, ◌∷◌, ◌++◌, [], ℕ, List, length, filter, true, None, Some, IfOk, IfErr, OnErr};
 ghost use Rattle.std.specs.Option.{option_map};
 ghost use Rattle.std.specs.declared.option.Option.{Option};
 ghost use Rattle.rmt_tree.specs.declared.op.Op.{Op};
 ghost use Rattle.rmt_tree.specs.declared.op.Op.TheVariants as op;
 ghost use Rattle.rmt_entries.specs.EntryBytes.{entry_bytes, EntryInRange};
 ghost use Rattle.rmt_znodes.specs.Znodes.{entry_path};
+ghost use Rattle.rmt_model.specs.Words.{Pairwise};
+ghost use Rattle.rmt_inserts.specs.OrderNumbers.{IncludeKept};
 ghost use Rattle.rmt_table_model.specs.Numbers.{Nexts, Holders, next_of};
 ghost use Rattle.rmt_table_model.specs.Kept.{Placed, outlives};
 ghost use Rattle.rmt_table_model.specs.Inserts.{HasNumbers, HasKeptIds, AreDropOps};
@@ -27,16 +29,19 @@ use rmt_values::Limit;
 use std::alloc::{AllocError, Global};
 
 /// The operations that drop the numbers of a partition below its next one, which is this, and write the entry of the drop;
-/// and how many kept ids go. At an error no memory was left.
+/// and how many kept ids go. `numbers` are the partition's numbers in the order of acceptance. At an error no memory was
+/// left.
 fn ops_of_drop(
     tree: &Tree,
     alloc: Global,
     partition: PartitionId,
     number: u32,
     entry: &Entry,
+    numbers: &[u32],
 ) -> Result<DropOps, AllocError>
     requires in_range { EntryInRange entry.now }
-    requires kept { (ks : List Placed) × (count : ℕ) × HasKeptIds tree.now ks count }
+    requires rising { Pairwise ◌<◌ numbers.now }
+    requires kept { (ks : List Placed) × (count : ℕ) × HasKeptIds tree.now ks count × IncludeKept ks partition numbers.now }
     ensures ops { (next : Nexts) (holders : Holders) (ks : List Placed) (count : ℕ) → HasNumbers tree.now next holders → HasKeptIds tree.now ks count → next_of next partition ≡ Some number
         → IfOk result (λ d. (removals : List Op) × AreDropOps holders ks partition number removals
         × (d.ops.items ≡ ops_of_number partition number ++ (removals ++ op.Create entry_path (entry_bytes entry.now) true None ∷ []))) }
@@ -44,7 +49,7 @@ fn ops_of_drop(
         → IfOk result (λ d. d.forgotten + length (filter (outlives partition number) ks) ≡ length ks) }
 {
     let mut ops = number_ops(tree, alloc, partition)?;
-    let mut dropped = drop_ops(tree, alloc, partition, number)?;
+    let mut dropped = drop_ops(tree, alloc, partition, number, numbers)?;
     ops.append(&mut dropped.ops)?;
     ops.push(entry_op(alloc, entry)?)?;
     Ok(DropOps {
@@ -76,10 +81,12 @@ impl TableTree {
             return Err(error);
         }
         let entry = Entry::DropRange { partition, number };
-        let drop = ops_of_drop(&self.tree, alloc, partition, number, &entry)?;
+        let numbers = self.numbers.of(partition);
+        let drop = ops_of_drop(&self.tree, alloc, partition, number, &entry, numbers)?;
         self.partitions.reserve()?;
         let token = append(&mut self.tree, &mut self.log, alloc, &drop.ops, entry)?;
         self.partitions.take(partition);
+        self.numbers.clear(partition);
         self.clients += 1;
         self.kept -= drop.forgotten;
         Ok(Some(token))

@@ -11,6 +11,7 @@ use Rattle.rmt_limits.specs.BlockNumbers.{next_number, with_next}
 use Rattle.rmt_tree.specs.Ops.{after_all, first_refusal}
 use Rattle.rmt_table_model.specs.Numbers.{Nexts}
 use Rattle.rmt_table_model.specs.Held.{Held}
+use Rattle.rmt_table.proofs.OrderNumbers.{order-rising, order-includes, numbers-dropped}
 use Rattle.rmt_table.specs.contracts.table_tree.TableTree.{the_view}
 use Rattle.rmt_table.proofs.AppendLemmas.{placed-snoc, entries-more, token-next}
 use Rattle.rmt_table.proofs.Drops.{drop-fine, number-nowhere, drop-refused, drop-small, drop-fewer, drop-forgets, drop-kept, drop-done}
@@ -47,6 +48,7 @@ invariant_of-self-2 c =
     (c.take.ensures ∙ ap (λ (ns : Nexts). with_next ns c.args.partition (next_number ns c.args.partition + 1)) c.in_ok-reserve.ensures.numbers)
     c.append.new.log.items
     (placed-snoc c.self.inside.log.items c.append.new.log.items c.in_ok-token.token c.in_ok-token.ensures.log (ap (λ (t : Token Entry). t.place) c.in_ok-token.ensures.token) c.self.invariant.places)
+    c.clear.new.self (numbers-dropped (the_view c.self.inside).log c.args.partition (next_number (the_view c.self.inside).next c.args.partition) c.self.inside.numbers c.clear.new.self c.self.invariant.counted.numbers c.clear.ensures.numbers c.clear.ensures.others)
     c.in_ok-drop.drop.forgotten
     (drop-forgets (the_view c.self.inside) c.self.inside.log.items _ c.self.invariant refl c.args.self.now c.self.view_is c.args.partition c.number.result c.number.ensures c.in-Some.number c.in-Some.is c.drop_refusal.result c.drop_refusal.ensures c.in_default-drop_refusal.is
     c.in_ok-drop.drop.forgotten c.in_ok-drop.ensures.forgotten)
@@ -69,4 +71,12 @@ append-requires c = record {
 }
 
 pub ops_of_drop-requires-clause-kept : goal.ops_of_drop-requires-clause-kept
-ops_of_drop-requires-clause-kept c = (in_order (the_view c.self.inside).schema.window (the_view c.self.inside).log, order_count (the_view c.self.inside).schema.window (the_view c.self.inside).log, held-kept (the_view c.self.inside) c.self.invariant.held)
+ops_of_drop-requires-clause-kept c = (
+  in_order (the_view c.self.inside).schema.window (the_view c.self.inside).log,
+  order_count (the_view c.self.inside).schema.window (the_view c.self.inside).log,
+  held-kept (the_view c.self.inside) c.self.invariant.held,
+  order-includes (the_view c.self.inside).schema (the_view c.self.inside).schema.window (the_view c.self.inside).log c.self.invariant.held.sound.lawful c.args.partition c.of-numbers.result.now (c.of-numbers.ensures ∙ c.self.invariant.counted.numbers c.args.partition),
+)
+
+pub ops_of_drop-requires-clause-rising : goal.ops_of_drop-requires-clause-rising
+ops_of_drop-requires-clause-rising c = order-rising (the_view c.self.inside).log c.args.partition c.of-numbers.result.now (c.of-numbers.ensures ∙ c.self.invariant.counted.numbers c.args.partition)
