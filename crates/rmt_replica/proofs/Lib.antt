@@ -1,6 +1,9 @@
 pub mod PartLemmas
 pub mod StagedLemmas
+pub mod StagedOrder
 pub mod MarkLemmas
 pub mod ReplicaLemmas
+pub mod RestartLemmas
+pub mod PullLemmas
 pub mod StepLemmas
 pub mod Agreement

@@ -1,9 +1,9 @@
 -- Marks: one more place, and one more mark.
-use Rattle.std.proofs.Common.{◌≡◌, ℕ, zero, suc, ◌-◌, ◌<◌, ◌≤◌, ◌||◌, Bool, true, false, List, [], ◌∷◌, ◌++◌, length, take, refl, ap, arith, ◌∙◌, nat_eq}
+use Rattle.std.proofs.Common.{◌≡◌, ℕ, zero, suc, ◌+◌, ◌-◌, ◌<◌, ◌≤◌, ◌||◌, Bool, true, false, List, [], ◌∷◌, ◌++◌, length, take, refl, ap, arith, ◌∙◌, nat_eq}
 use Rattle.std.proofs.lemmas.Bool.Decides.{nat_tests}
 use Rattle.std.proofs.lemmas.Grind.{common_steps}
 use Rattle.std.specs.Prelude.{replicate, slice_set}
-use Rattle.rmt_queue.specs.Marks.{done_at}
+use Rattle.rmt_queue.specs.Marks.{done_at, grown}
 use Rattle.rmt_model.proofs.Standing.{with_mark}
 
 pub past-false : (xs : List Bool) (i : ℕ) → length xs ≤ i → done_at xs i ≡ false
@@ -11,7 +11,7 @@ past-false [] i l = refl
 past-false (x ∷ xs) zero l = absurd (omega (arith, l))
 past-false (x ∷ xs) (suc i) l = past-false xs i (omega (arith, l))
 
-false-replicate : (k i : ℕ) → done_at (replicate k false) i ≡ false
+pub false-replicate : (k i : ℕ) → done_at (replicate k false) i ≡ false
 false-replicate zero i = refl
 false-replicate (suc k) zero = refl
 false-replicate (suc k) (suc i) = false-replicate k i
@@ -20,6 +20,44 @@ pub false-behind : (xs : List Bool) (k i : ℕ) → done_at xs i ≡ false → d
 false-behind [] k i e = false-replicate k i
 false-behind (x ∷ xs) k zero e = e
 false-behind (x ∷ xs) k (suc i) e = false-behind xs k i e
+
+pub length-replicate-is : (k : ℕ) → length (replicate k false) ≡ k
+length-replicate-is zero = refl
+length-replicate-is (suc k) = ap suc (length-replicate-is k)
+
+length-append-is : (xs ys : List Bool) → length (xs ++ ys) ≡ length xs + length ys
+length-append-is [] ys = omega arith
+length-append-is (x ∷ xs) ys = let r = length-append-is xs ys in omega (arith, r)
+
+pub length-grown : (xs : List Bool) (k : ℕ) → k ≤ length (grown xs k)
+length-grown xs k = let a = length-append-is xs (replicate (k - length xs) false) in let b = length-replicate-is (k - length xs) in omega (arith, a, b)
+
+-- marks of which none is set
+pub take-unmarked : (n : ℕ) (xs : List Bool) → ((i : ℕ) → done_at xs i ≡ false) → n ≤ length xs → take n xs ≡ replicate n false
+take-unmarked zero xs f l = refl
+take-unmarked (suc n) [] f l = absurd (omega (arith, l))
+take-unmarked (suc n) (x ∷ xs) f l = ap (λ b. b ∷ take n xs) (f 0) ∙ ap (λ ys. false ∷ ys) (take-unmarked n xs (λ i. f (suc i)) (omega (arith, l)))
+
+-- more places are more marks, which aren't set
+pub take-longer : (k m n : ℕ) (xs : List Bool) → k ≤ length xs → ((i : ℕ) → k ≤ i → done_at xs i ≡ false) → k ≤ m → m ≤ n → take m (grown xs n) ≡ grown (take k xs) m
+take-longer zero m n xs l f a b =
+    let g = length-grown xs n in
+    let z : m ≡ m - 0 = omega arith in
+    take-unmarked m (grown xs n) (λ i. false-behind xs (n - length xs) i (f i (omega arith))) (omega (arith, b, g)) ∙ ap (λ j. replicate j false) z
+take-longer (suc k) m n [] l f a b = absurd (omega (arith, l))
+take-longer (suc k) zero n (x ∷ xs) l f a b = absurd (omega (arith, a))
+take-longer (suc k) (suc m) zero (x ∷ xs) l f a b = absurd (omega (arith, b))
+take-longer (suc k) (suc m) (suc n) (x ∷ xs) l f a b =
+    let s : suc n - length (x ∷ xs) ≡ n - length xs = omega arith in
+    let t : m - length (take k xs) ≡ suc m - length (take (suc k) (x ∷ xs)) = omega arith in
+    ap (λ j. take (suc m) (x ∷ (xs ++ replicate j false))) s
+    ∙ (ap (λ ys. x ∷ ys) (take-longer k m n xs (omega (arith, l)) (λ i h. f (suc i) (omega (arith, h))) (omega (arith, a)) (omega (arith, b)))
+    ∙ ap (λ j. x ∷ (take k xs ++ replicate j false)) t)
+
+-- a mark more, which isn't set
+pub replicate-snoc : (k : ℕ) → replicate k false ++ false ∷ [] ≡ replicate (suc k) false
+replicate-snoc zero = refl
+replicate-snoc (suc k) = ap (λ ys. false ∷ ys) (replicate-snoc k)
 
 -- a place more is a mark more, which isn't set
 pub take-grown : (n : ℕ) (xs : List Bool) → n ≤ length xs → ((i : ℕ) → n ≤ i → done_at xs i ≡ false) → take (suc n) (xs ++ replicate (suc n - length xs) false) ≡ take n xs ++ false ∷ []

@@ -1,6 +1,5 @@
 -- Steps of a replica, and what is after each.
-use Rattle.std.proofs.Common.{◌≡◌, ℕ, zero, suc, ◌+◌, ◌-◌, ◌≤◌, Bool, false, List, [], ◌∷◌, ◌++◌, length, take, refl, sym, ap, subst, arith, ◌∙◌}
-use Rattle.std.specs.Prelude.{replicate}
+use Rattle.std.proofs.Common.{◌≡◌, ℕ, suc, ◌+◌, ◌-◌, ◌≤◌, Bool, false, List, [], ◌∷◌, ◌++◌, length, take, refl, sym, ap, subst, arith, ◌∙◌}
 use Rattle.rmt_entries.specs.declared.entry.Entry.{Entry}
 use Rattle.rmt_model.specs.Lawful.{Lawful}
 use Rattle.rmt_model.proofs.Lists.{Each-at, Each-all}
@@ -8,12 +7,12 @@ use Rattle.rmt_model.proofs.Drops.{entry-older}
 use Rattle.rmt_model.proofs.Standing.{fair-more, fair-fewer}
 use Rattle.rmt_history.specs.Copies.{History}
 use Rattle.rmt_queue.specs.Marks.{done_at, grown}
-use Rattle.rmt_part.specs.Lineages.{PartValue, IsOfLog, StandsIn}
+use Rattle.rmt_part.specs.Lineages.{PartValue, StandsIn}
 use Rattle.rmt_partset.specs.ActiveParts.{part_names}
 use Rattle.rmt_replica.specs.Parts.{IsMadeIn}
-use Rattle.rmt_replica.specs.StagedBlocks.{Staged}
+use Rattle.rmt_replica.specs.StagedBlocks.{Staged, AreStaged}
 use Rattle.rmt_replica.specs.Replicas.{ReplicaView, IsStandingReplica, HasMarks, IsReplica, replica_of}
-use Rattle.rmt_replica.proofs.MarkLemmas.{past-false, false-behind, take-grown, done-snoc}
+use Rattle.rmt_replica.proofs.MarkLemmas.{past-false, false-behind, take-grown, length-grown, done-snoc}
 
 -- the marks of a copy with one more entry
 pub marks-more : (log : List Entry) (e : Entry) (marks more : List Bool) (n : ℕ) → length log ≤ length marks → ((i : ℕ) → length log ≤ i → done_at marks i ≡ false) → n ≡ length log + 1 → more ≡ grown marks n → take (length (e ∷ log)) more ≡ take (length log) marks ++ false ∷ []
@@ -21,24 +20,17 @@ marks-more log e marks more n l f p q =
     let s : n ≡ suc (length log) = omega (arith, p) in
     ap (take (suc (length log))) (q ∙ ap (λ k. grown marks k) s) ∙ take-grown (length log) marks l f
 
-pub has-marks-more : (old new : History) (e : Entry) (marks more : List Bool) (n : ℕ) → HasMarks old marks → new.log ≡ e ∷ old.log → n ≡ length old.log + 1 → more ≡ grown marks n → HasMarks new more
-has-marks-more old new e marks more n h l p q = record {
-  enough = let a = ap (λ (x : List Entry). length x) l in let b = ap (λ (x : List Bool). length x) q in let c = length-grown marks n in omega (arith, a, b, c, p);
-  none_past = λ i m.
-      let a = ap (λ (x : List Entry). length x) l in
-      ap (λ (x : List Bool). done_at x i) q ∙ false-behind marks (n - length marks) i (h.none_past i (omega (arith, m, a)));
+-- there are marks for a longer copy, once there are as many
+pub has-marks-grown : (old new : History) (marks more : List Bool) (n : ℕ) → HasMarks old marks → length old.log ≤ length new.log → length new.log ≤ n → more ≡ grown marks n → HasMarks new more
+has-marks-grown old new marks more n h a b q = record {
+  enough = let e = ap (λ (x : List Bool). length x) q in let c = length-grown marks n in omega (arith, b, c, e);
+  none_past = λ i m. ap (λ (x : List Bool). done_at x i) q ∙ false-behind marks (n - length marks) i (h.none_past i (omega (arith, m, a)));
 }
-  where
-    length-replicate-is : (k : ℕ) → length (replicate k false) ≡ k
-    length-replicate-is zero = refl
-    length-replicate-is (suc k) = ap suc (length-replicate-is k)
 
-    length-append-is : (xs ys : List Bool) → length (xs ++ ys) ≡ length xs + length ys
-    length-append-is [] ys = omega arith
-    length-append-is (x ∷ xs) ys = let r = length-append-is xs ys in omega (arith, r)
-
-    length-grown : (xs : List Bool) (k : ℕ) → k ≤ length (grown xs k)
-    length-grown xs k = let a = length-append-is xs (replicate (k - length xs) false) in let b = length-replicate-is (k - length xs) in omega (arith, a, b)
+pub has-marks-more : (old new : History) (e : Entry) (marks more : List Bool) (n : ℕ) → HasMarks old marks → new.log ≡ e ∷ old.log → n ≡ length old.log + 1 → more ≡ grown marks n → HasMarks new more
+has-marks-more old new e marks more n h l p q =
+    let a = ap (λ (x : List Entry). length x) l in
+    has-marks-grown old new marks more n h (omega (arith, a)) (omega (arith, a, p)) q
 
 -- one more entry of the log leaves a replica standing
 pub standing-more : (r : ReplicaView) (e : Entry) (cell : ℕ) → IsStandingReplica r → Lawful r.schema (e ∷ r.log) → IsStandingReplica (record r { log = e ∷ r.log; cells = r.cells ++ cell ∷ []; done = r.done ++ false ∷ [] })
@@ -48,6 +40,7 @@ standing-more r e cell s l = record {
   fair = fair-fewer (e ∷ r.log) (done_at (r.done ++ false ∷ [])) (done_at r.done) (part_names r.parts) (λ j k m. done-snoc r.done j m)
       (fair-more e r.log (done_at r.done) (part_names r.parts) (past-false r.done (length r.log) (let m = s.marks in omega (arith, m))) s.fair);
   made = Each-all (IsMadeIn r.schema (e ∷ r.log)) r.parts (λ p h. older p (Each-at (IsMadeIn r.schema r.log) r.parts p s.made h));
+  waiting = s.waiting;
 }
   where
     older : (p : PartValue) → IsMadeIn r.schema r.log p → IsMadeIn r.schema (e ∷ r.log) p
@@ -83,3 +76,9 @@ replica-more number up old new e cell marks more n parts staged r l p q w = reco
   marked = has-marks-more old new e marks more n r.marked (ap (λ (c : History). c.log) l) p q;
   standing = subst IsStandingReplica (sym (view-more number up old new e cell marks more n parts staged r.marked l p q)) (standing-more (replica_of number up old marks parts staged) e cell r.standing w);
 }
+
+-- other staged blocks in order leave a replica standing
+pub replica-staged : (number : ℕ) (up : Bool) (copy : History) (marks : List Bool) (parts : List PartValue) (old new : Staged) → IsReplica copy marks (replica_of number up copy marks parts old) → AreStaged new → IsReplica copy marks (replica_of number up copy marks parts new)
+replica-staged number up copy marks parts old new r w =
+    let s = r.standing in
+    record { marked = r.marked; standing = record { lawful = s.lawful; marks = s.marks; fair = s.fair; made = s.made; waiting = w } }

@@ -28,6 +28,7 @@ use Rattle.rmt_replica.specs.Parts.{IsMadeIn}
 use Rattle.rmt_replica.specs.Replicas.{ReplicaView, IsStandingReplica, HasMarks, IsReplica, replica_of}
 use Rattle.rmt_replica.specs.Answers.{IsMutationEntry, IsAlready, IsEmptied, CanSettle, CanInstall, IsEntryState, IsEntryStateWithout, settled, released, InstallsSupplied, PartsAfter}
 use Rattle.rmt_replica.specs.StagedBlocks.{Staged}
+use Rattle.rmt_replica.proofs.StagedOrder.{staged-released}
 use Rattle.rmt_replica.proofs.PartLemmas.{Installs, TakesParts, installs, takes}
 use Rattle.rmt_replica.proofs.MarkLemmas.{done-set, done-take, length-set-is, take-set, set-past}
 
@@ -135,6 +136,7 @@ standing-settled r i s c = record {
   marks = length-set-is r.done i ∙ s.marks;
   fair = settled-fair r i s c;
   made = s.made;
+  waiting = staged-released (entry_at r.log i) r.staged s.waiting;
 }
 
 -- the replica with a mark more
@@ -171,6 +173,7 @@ standing-taken r i p n parts s q t = record {
   marks = s.marks;
   fair = subst (AreFair r.log (done_at r.done)) (sym t.names) (fair-unset r.log r.done i (filter (λ a. not (in_drop p n a)) (part_names r.parts)) (fair-dropped r.schema r.log i (done_at r.done) (part_names r.parts) p n s.lawful q s.fair));
   made = Each-all (IsMadeIn r.schema r.log) parts (λ x h. Each-at (IsMadeIn r.schema r.log) r.parts x s.made (t.others x h));
+  waiting = s.waiting;
 }
 
 emptied : (r : ReplicaView) (i : ℕ) (p : Option ℕ) (n : ℕ) (parts : List PartValue) → entry_at r.log i ≡ Some (DropRange p n) → TakesParts r.parts p n parts → IsEmptied (record r { parts = parts }) i
@@ -208,6 +211,7 @@ standing-installed r i a part parts s c t = record {
     | inl q ↦ subst (IsMadeIn r.schema r.log) (sym q) c.made
     | inr k ↦ Each-at (IsMadeIn r.schema r.log) r.parts x s.made k
   ]);
+  waiting = s.waiting;
 }
   where
     not-dropped : DroppedAtMark r.log (done_at r.done) part.name → ⊥

@@ -1,4 +1,4 @@
-ghost use Rattle.std.specs.Prelude.{◌≡◌, ◌↔◌, ◌∷◌, ◌++◌, ◌<◌, ◌≤◌, ◌⊎◌, ℕ, [], true, false, length, IsTrue, IfOk, OnOk, OnErr, MatchOption, IfSome};
+ghost use Rattle.std.specs.Prelude.{◌≡◌, ◌↔◌, ◌∷◌, ◌++◌, ◌<◌, ◌≤◌, ◌⊎◌, ℕ, [], true, false, length, replicate, IsTrue, IfOk, OnOk, OnErr, MatchOption, IfSome};
 ghost use Rattle.std.specs.Option.{option_map, option_copied};
 ghost use Rattle.std.specs.Arc.{arc_value};
 ghost use Rattle.rmt_names.specs.Names.{Name, Covers};
@@ -18,6 +18,8 @@ ghost use Rattle.rmt_replica.specs.Supplies.{supplied};
 ghost use Rattle.rmt_entries.specs.Entries.{result_name};
 ghost use Rattle.rmt_entries.specs.declared.entry.Entry.TheVariants.{DropRange};
 ghost use Rattle.std.specs.declared.option.Option.TheVariants.{Some, None};
+
+mod pull;
 
 use crate::applied::Applied;
 use crate::apply_error::ApplyError;
@@ -194,6 +196,21 @@ impl Replica {
         ensures { option_map arc_value (option_copied result) ≡ staged_at self.now.staged (record { partition = partition; number = number }) }
     {
         self.staged.get(BlockNumber { partition, number })
+    }
+
+    /// Takes it down, with all that it has.
+    pub fn kill(&mut self)
+        ensures { self.new ≡ record self.old { up = false } }
+    {
+        self.up = false;
+    }
+
+    /// Brings it up, so that it looks at each entry of its copy again.
+    pub fn restart(&mut self)
+        ensures { self.new ≡ record self.old { up = true; done = replicate (length self.old.log) false } }
+    {
+        self.queue.clear();
+        self.up = true;
     }
 
     /// The active parts at this moment, as a query reads them.
