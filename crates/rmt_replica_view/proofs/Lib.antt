@@ -1,0 +1,3 @@
+pub mod StagedOrder
+pub mod StateViews
+pub mod CallViews
