@@ -1,0 +1,293 @@
+-- What an event leaves of a cluster besides that it is whole.
+use Rattle.std.proofs.Common.{◌≡◌, ℕ, suc, ◌+◌, ◌*◌, ◌≤◌, ◌⊎◌, inl, inr, Bool, true, false, not, cond, List, [], ◌∷◌, ◌++◌, reverse, length, map, refl, sym, ap, subst, arith, ◌∙◌, nat_eq, nat_lt}
+use Rattle.std.proofs.lemmas.Bool.Decides.{nat_tests}
+use Rattle.std.proofs.lemmas.List.{reverse-append}
+use Rattle.std.specs.declared.option.Option.{Option}
+use Rattle.rmt_names.specs.Names.{rank}
+use Rattle.rmt_model.specs.Words.{Has}
+use Rattle.rmt_model.proofs.Lists.{Each-at, Has-filter}
+use Rattle.rmt_limits.specs.BlockNumbers.{next_number, with_next, next_numbers_after}
+use Rattle.rmt_table.specs.TableTrees.{IsReplica, table_at}
+use Rattle.rmt_replica.specs.Replicas.{ReplicaView}
+use Rattle.rmt_replica_view.specs.Shown.{shown}
+use Rattle.rmt_events.specs.Views.{Replica, Table}
+use Rattle.rmt_events.specs.Clusters.{Attempt, Cluster, with_replica, without_kinds}
+use Rattle.std.specs.Arc.{arc_value}
+use Rattle.rmt_events.specs.ClusterChanges.{attempts_without, renumbered}
+use Rattle.rmt_events.specs.Whole.{Follows, IsRightlyStaged, IsWhole}
+use Rattle.rmt_events.specs.Steps.{Does}
+use Rattle.rmt_events.specs.declared.event.Event.{Event}
+use Rattle.rmt_events.specs.declared.event.Event.TheVariants as ev
+use Rattle.rmt_events.specs.declared.reply.Reply.{Reply}
+use Rattle.rmt_events.specs.declared.reply.Reply.TheVariants as rp
+use Rattle.rmt_events.proofs.WholeReplica.{whole-copies}
+use Rattle.rmt_events.proofs.WholeSessions.{whole-kills}
+use Rattle.rmt_events.proofs.WholeSteps.{whole-step}
+use Rattle.rmt_cluster.specs.States.{StateView, IsState, cluster_of}
+use Rattle.rmt_cluster.specs.Attempts.{OpenAttempts}
+use Rattle.rmt_cluster.specs.Acting.{ActsWith, AreSame, SuitAttempts}
+use Rattle.rmt_cluster.specs.Clusters.{numbers_given, IsNumber, IsCluster, MayStep, MayAct, AfterError}
+
+-- ---- numbers given
+
+-- one more number of a partition
+pub given-next : (xs : List (Option ℕ × ℕ)) (p : Option ℕ) → numbers_given xs + 1 ≤ numbers_given (with_next xs p (next_number xs p + 1))
+given-next [] p = omega arith
+given-next (x ∷ xs) p = go (nat_lt (rank x.0) (rank p)) refl (nat_eq (rank x.0) (rank p)) refl (given-next xs p)
+  where
+    go : (b : Bool) → nat_lt (rank x.0) (rank p) ≡ b → (c : Bool) → nat_eq (rank x.0) (rank p) ≡ c → numbers_given xs + 1 ≤ numbers_given (with_next xs p (next_number xs p + 1))
+        → x.1 + numbers_given xs + 1 ≤ numbers_given (cond b (x ∷ with_next xs p (cond c x.1 (next_number xs p) + 1)) (cond c ((p, cond c x.1 (next_number xs p) + 1) ∷ xs) ((p, cond c x.1 (next_number xs p) + 1) ∷ x ∷ xs)))
+    go true e true f i = absurd (grind (arith, nat_tests))
+    go true e false f i = omega (arith, i)
+    go false e true f i = omega arith
+    go false e false f i = omega arith
+
+pub given-after : (xs : List (Option ℕ × ℕ)) → numbers_given xs ≤ numbers_given (next_numbers_after xs)
+given-after [] = omega arith
+given-after (x ∷ xs) = let i = given-after xs in omega (arith, i)
+
+pub given-few : (xs : List (Option ℕ × ℕ)) → ((p : Option ℕ) (n : ℕ) → Has xs (p, n) → n ≤ 65536) → numbers_given xs ≤ length xs * 65536
+given-few [] f = omega arith
+given-few (x ∷ xs) f = let a = f x.0 x.1 (inl refl) in let i = given-few xs (λ p n h. f p n (inr h)) in omega (arith, a, i)
+
+-- ---- replicas
+
+pub length-with : (xs : List Replica) (k : ℕ) (y : Replica) → length (with_replica xs k y) ≡ length xs
+length-with [] k y = refl
+length-with (x ∷ xs) k y = go (nat_eq x.number k) (length-with xs k y)
+  where
+    go : (b : Bool) → length (with_replica xs k y) ≡ length xs → length (cond b (y ∷ xs) (x ∷ with_replica xs k y)) ≡ suc (length xs)
+    go true e = refl
+    go false e = ap suc e
+
+length-shown : (rs : List ReplicaView) → length (map shown rs) ≡ length rs
+length-shown [] = refl
+length-shown (r ∷ rs) = ap suc (length-shown rs)
+
+-- ---- what an event leaves
+
+-- an attempt at a replica at which one was open, or that the event names
+abbrev pub IsFromOne : Cluster → Event → Attempt → Type 0
+IsFromOne s e x = ((y : Attempt) × Has s.attempts y × (x.replica ≡ y.replica)) ⊎ ((k need : ℕ) × (b : _) × (e ≡ ev.Allocate k b need) × (x.replica ≡ k))
+
+pub record Leaves (s : Cluster) (e : Event) (t : Cluster) : Type 0 where
+  pub counts : t.attempts_made + numbers_given s.table.next ≤ s.attempts_made + numbers_given t.table.next
+  pub replicas : length t.replicas ≡ length s.replicas
+  pub attempts : (x : Attempt) → Has t.attempts x → IsFromOne s e x
+
+old : (s : Cluster) (e : Event) (x : Attempt) → Has s.attempts x → IsFromOne s e x
+old s e x h = inl (x, h, refl)
+
+same-leaves : (s : Cluster) (e : Event) (t : Cluster) → t ≡ s → Leaves s e t
+same-leaves s e t q = subst (Leaves s e) (sym q) (record { counts = omega arith; replicas = refl; attempts = λ x h. old s e x h })
+
+-- the table and one replica changed, and attempts ended
+part-leaves : (s : Cluster) (e : Event) (t : Cluster) (table : Table) (rs : List Replica) (xs : List Attempt) → t ≡ record s { table = table; replicas = rs; attempts = xs } → numbers_given s.table.next ≤ numbers_given table.next → length rs ≡ length s.replicas → ((x : Attempt) → Has xs x → IsFromOne s e x) → Leaves s e t
+part-leaves s e t table rs xs q n l f = subst (Leaves s e) (sym q) (record { counts = omega (arith, n); replicas = l; attempts = f })
+
+given-same : (a b : Table) → b.next ≡ a.next → numbers_given a.next ≤ numbers_given b.next
+given-same a b q = subst (λ (xs : List (Option ℕ × ℕ)). numbers_given a.next ≤ numbers_given xs) (sym q) (omega arith)
+
+without-old : (s : Cluster) (e : Event) (id : ℕ) (x : Attempt) → Has (attempts_without s.attempts id) x → IsFromOne s e x
+without-old s e id x h = old s e x (Has-filter (λ (a : Attempt). not (nat_eq a.id id)) s.attempts x h).0
+
+renumbered-old : (s : Cluster) (e : Event) (xs : List Attempt) (id n : ℕ) (x : Attempt) → ((y : Attempt) → Has xs y → Has s.attempts y) → Has (renumbered xs id n) x → IsFromOne s e x
+renumbered-old s e [] id n x f h = absurd h
+renumbered-old s e (y ∷ xs) id n x f h = go (nat_eq y.id id) h (renumbered-old s e xs id n x (λ z k. f z (inr k)))
+  where
+    go : (b : Bool) → Has (cond b (record y { number = n } ∷ xs) (y ∷ renumbered xs id n)) x → (Has (renumbered xs id n) x → IsFromOne s e x) → IsFromOne s e x
+    go true (inl q) g = inl (y, f y (inl refl), sym (ap (λ (z : Attempt). z.replica) q))
+    go true (inr k) g = old s e x (f x (inr k))
+    go false (inl q) g = old s e x (f x (inl q))
+    go false (inr k) g = g k
+
+pub leaves : (s t : Cluster) (e : Event) (r : Reply) → MayStep s e → Does s e r t → Leaves s e t
+leaves s t (ev.Allocate k b need) r m (inr d) = same-leaves s (ev.Allocate k b need) t d.unchanged
+leaves s t (ev.Allocate k b need) r m (inl d) = record {
+  counts =
+      let made = ap (λ (c : Cluster). c.attempts_made) d.change in
+      let p : Option ℕ = (arc_value b).partition in
+      let g = given-next s.table.next p in
+      let n : numbers_given t.table.next ≡ numbers_given (with_next s.table.next p (next_number s.table.next p + 1)) = ap (λ (c : Cluster). numbers_given c.table.next) d.change ∙ (ap (λ (u : Table). numbers_given u.next) d.call.change ∙ ap (λ n. numbers_given (with_next s.table.next p (n + 1))) d.call.number) in
+      omega (arith, made, g, n);
+  replicas = ap (λ (c : Cluster). length c.replicas) d.change;
+  attempts = λ x h. first x (subst (λ (c : Cluster). Has c.attempts x) d.change h);
+}
+  where
+    first : (x : Attempt) → Has (record { id = s.attempts_made; replica = k; block = without_kinds (arc_value b); number = d.number; need = need } ∷ s.attempts) x → IsFromOne s (ev.Allocate k b need) x
+    first x (inl q) = inr (k, need, b, refl, sym (ap (λ (z : Attempt). z.replica) q))
+    first x (inr h) = old s (ev.Allocate k b need) x h
+leaves s t (ev.Again id) r m (inr d) = same-leaves s (ev.Again id) t d.unchanged
+leaves s t (ev.Again id) r m (inl d) =
+    part-leaves s (ev.Again id) t d.table s.replicas (renumbered s.attempts id d.number) d.change
+    (let g = given-next s.table.next d.attempt.block.partition in let n = ap (λ (u : Table). numbers_given u.next) d.call.change ∙ ap (λ n. numbers_given (with_next s.table.next d.attempt.block.partition (n + 1))) d.call.number in omega (arith, g, n))
+    refl (λ x h. renumbered-old s (ev.Again id) s.attempts id d.number x (λ y k. k) h)
+leaves s t (ev.Stage id) r m (inr d) = same-leaves s (ev.Stage id) t d.unchanged
+leaves s t (ev.Stage id) r m (inl d) = part-leaves s (ev.Stage id) t s.table (with_replica s.replicas d.attempt.replica d.at.new) s.attempts d.at.change (omega arith) (length-with s.replicas d.attempt.replica d.at.new) (λ x h. old s (ev.Stage id) x h)
+leaves s t (ev.Commit id) r m (inr (inr d)) = same-leaves s (ev.Commit id) t d.unchanged
+leaves s t (ev.Commit id) r m (inl d) = part-leaves s (ev.Commit id) t d.table s.replicas (attempts_without s.attempts id) d.change (given-same s.table d.table (ap (λ (u : Table). u.next) d.call.change)) refl (λ x h. without-old s (ev.Commit id) id x h)
+leaves s t (ev.Commit id) r m (inr (inl d)) =
+    let e = d.ends in
+    part-leaves s (ev.Commit id) t e.table (with_replica s.replicas e.attempt.replica e.new) (attempts_without s.attempts id) e.change (given-same s.table e.table (ap (λ (u : Table). u.next) e.unlocks)) (length-with s.replicas e.attempt.replica e.new) (λ x h. without-old s (ev.Commit id) id x h)
+leaves s t (ev.Abandon id) r m (inr d) = same-leaves s (ev.Abandon id) t d.unchanged
+leaves s t (ev.Abandon id) r m (inl d) =
+    let e = d.0 in
+    part-leaves s (ev.Abandon id) t e.table (with_replica s.replicas e.attempt.replica e.new) (attempts_without s.attempts id) e.change (given-same s.table e.table (ap (λ (u : Table). u.next) e.unlocks)) (length-with s.replicas e.attempt.replica e.new) (λ x h. without-old s (ev.Abandon id) id x h)
+leaves s t (ev.Pull k) r m (inr d) = same-leaves s (ev.Pull k) t d.unchanged
+leaves s t (ev.Pull k) r m (inl d) = part-leaves s (ev.Pull k) t s.table (with_replica s.replicas k d.at.new) s.attempts d.at.change (omega arith) (length-with s.replicas k d.at.new) (λ x h. old s (ev.Pull k) x h)
+leaves s t (ev.Apply k i) r m d = absurd m
+leaves s t (ev.Merge k sources) r m d = absurd m
+leaves s t (ev.Mutate k part upto) r m d = absurd m
+leaves s t (ev.Fetches k allowed) r m d = absurd m
+leaves s t (ev.CreateMutation command) r m (inr d) = same-leaves s (ev.CreateMutation command) t d.unchanged
+leaves s t (ev.CreateMutation command) r m (inl d) =
+    part-leaves s (ev.CreateMutation command) t d.at.new s.replicas s.attempts d.at.change (let g = given-after s.table.next in let n = ap (λ (u : Table). numbers_given u.next) d.at.does.change in omega (arith, g, n)) refl (λ x h. old s (ev.CreateMutation command) x h)
+leaves s t (ev.DropPartition p) r m (inr (inr d)) = same-leaves s (ev.DropPartition p) t d.unchanged
+leaves s t (ev.DropPartition p) r m (inr (inl d)) = same-leaves s (ev.DropPartition p) t d.unchanged
+leaves s t (ev.DropPartition p) r m (inl d) =
+    let a = d.1.at in
+    part-leaves s (ev.DropPartition p) t a.new s.replicas s.attempts a.change
+    (let g = given-next s.table.next p in let n = ap (λ (u : Table). numbers_given u.next) a.does.change ∙ ap (λ n. numbers_given (with_next s.table.next p (n + 1))) a.does.number in omega (arith, g, n)) refl (λ x h. old s (ev.DropPartition p) x h)
+leaves s t (ev.Kill k) r m d = part-leaves s (ev.Kill k) t d.table (with_replica s.replicas k d.new) s.attempts d.change (given-same s.table d.table (ap (λ (u : Table). u.next) d.closes)) (length-with s.replicas k d.new) (λ x h. old s (ev.Kill k) x h)
+leaves s t (ev.Restart k) r m d =
+    part-leaves s (ev.Restart k) t d.table (with_replica s.replicas k d.new) s.attempts d.change (given-same s.table d.table (ap (λ (u : Table). u.next) d.opens ∙ ap (λ (u : Table). u.next) d.closes)) (length-with s.replicas k d.new) (λ x h. old s (ev.Restart k) x h)
+
+-- ---- a cluster, from event to event
+
+-- a replica of the table that a cluster sees
+pub is-replica : (s : StateView) (k : ℕ) → IsState s → IsNumber k (length (map shown s.replicas)) → IsReplica s.tree k
+is-replica s k w h = let u = h.first in let v = h.last in let m = length-shown s.replicas in let l = w.all in record { first = u; last = omega (arith, v, m, l) }
+
+pub may-act : (s : StateView) (made : ℕ) (attempts : List Attempt) (events : List (Event × Reply)) (e : Event) → IsState s → MayStep (cluster_of s made attempts events) e → MayAct s e
+may-act s made attempts events (ev.Allocate k b need) w m = (is-replica s k w m.0, m.1)
+may-act s made attempts events (ev.Again id) w m = m
+may-act s made attempts events (ev.Stage id) w m = m
+may-act s made attempts events (ev.Commit id) w m = m
+may-act s made attempts events (ev.Abandon id) w m = m
+may-act s made attempts events (ev.Pull k) w m = is-replica s k w m
+may-act s made attempts events (ev.Apply k i) w m = m
+may-act s made attempts events (ev.Merge k sources) w m = m
+may-act s made attempts events (ev.Mutate k old upto) w m = m
+may-act s made attempts events (ev.CreateMutation command) w m = m
+may-act s made attempts events (ev.DropPartition p) w m = m
+may-act s made attempts events (ev.Kill k) w m = is-replica s k w m
+may-act s made attempts events (ev.Restart k) w m = is-replica s k w m
+may-act s made attempts events (ev.Fetches k allowed) w m = m
+
+-- what is staged under an attempt's number is its block, as all is whole
+pub suits : (s : StateView) (a : OpenAttempts) (events : List (Event × Reply)) → IsState s → IsCluster s a events → SuitAttempts s a
+suits s a events w c = record {
+  here = λ x h. let k = c.here x h in let f = k.first in let l = k.last in let n = w.all in record { first = f; last = omega (arith, l, n) };
+  staged = λ r h z i x k p n. IsRightlyStaged.of_try (Each-at (IsRightlyStaged (cluster_of s a.made a.open_ones events)) r.staged z (Follows.waiting (Each-at (Follows (cluster_of s a.made a.open_ones events)) (map shown s.replicas) r c.whole.follow h)) i) x k p n;
+}
+
+-- the rest of a cluster after an event
+kept-here : (s t : StateView) (a b : OpenAttempts) (events : List (Event × Reply)) (e : Event) → IsState s → MayAct s e → ((x : Attempt) → Has a.open_ones x → IsNumber x.replica (length s.replicas)) → Leaves (cluster_of s a.made a.open_ones events) e (cluster_of t b.made b.open_ones events)
+    → (x : Attempt) → Has b.open_ones x → IsNumber x.replica (length t.replicas)
+kept-here s t a b events e w m f l x h = go (l.attempts x h)
+  where
+    sizes : length t.replicas ≡ length s.replicas
+    sizes = sym (length-shown t.replicas) ∙ (l.replicas ∙ length-shown s.replicas)
+
+    moved : (k : ℕ) → IsNumber k (length s.replicas) → IsNumber k (length t.replicas)
+    moved k i = subst (IsNumber k) (sym sizes) i
+
+    named : (k : ℕ) → IsReplica s.tree k → IsNumber k (length s.replicas)
+    named k i = let p = i.first in let q = i.last in let n = w.all in record { first = p; last = omega (arith, q, n) }
+
+    go : IsFromOne (cluster_of s a.made a.open_ones events) e x → IsNumber x.replica (length t.replicas)
+    go (inl y) = moved x.replica (subst (λ k. IsNumber k (length s.replicas)) (sym y.2) (f y.0 y.1))
+    go (inr y) = moved x.replica (subst (λ k. IsNumber k (length s.replicas)) (sym y.4) (named y.0 (subst (MayAct s) y.3 m).0))
+
+pub stepped : (s t : StateView) (a b : OpenAttempts) (events : List (Event × Reply)) (e : Event) (r : Reply) → IsState s → MayStep (cluster_of s a.made a.open_ones events) e → IsCluster s a events → ActsWith s a e r t b → IsCluster t b ((e, r) ∷ events)
+stepped s t a b events e r w m c d =
+    let l = leaves (cluster_of s a.made a.open_ones events) (cluster_of t b.made b.open_ones events) e r m (d events) in
+    record {
+      whole = whole-step (cluster_of s a.made a.open_ones events) (cluster_of t b.made b.open_ones ((e, r) ∷ events)) e r c.whole (record { after = cluster_of t b.made b.open_ones events; does = d events; stored = refl });
+      counted = let n = l.counts in let o = c.counted in omega (arith, n, o);
+      here = kept-here s t a b events e w (may-act s a.made a.open_ones events e w m) c.here l;
+    }
+
+same-cluster : (s t : StateView) (a b : OpenAttempts) (events : List (Event × Reply)) → IsCluster s a events → AreSame a b → t ≡ s → IsCluster t b events
+same-cluster s t a b events c e q =
+    subst (λ (v : StateView). IsCluster v b events) (sym q) (record {
+      whole = subst (λ (xs : List Attempt). IsWhole (cluster_of s b.made xs events)) (sym e.open_ones) (subst (λ n. IsWhole (cluster_of s n a.open_ones events)) (sym e.made) c.whole);
+      counted = let m = e.made in let o = c.counted in omega (arith, m, o);
+      here = λ x h. c.here x (subst (λ (xs : List Attempt). Has xs x) e.open_ones h);
+    })
+
+-- a cluster after an event for which no memory was left
+pub stopped : (s t : StateView) (a b : OpenAttempts) (events : List (Event × Reply)) (e : Event) → IsState s → MayStep (cluster_of s a.made a.open_ones events) e → IsCluster s a events → AfterError s a e t b → IsCluster t b events
+stopped s t a b events (ev.Allocate k x need) w m c d = same-cluster s t a b events c d.attempts d.state
+stopped s t a b events (ev.Again id) w m c d = same-cluster s t a b events c d.attempts d.state
+stopped s t a b events (ev.Stage id) w m c d = same-cluster s t a b events c d.attempts d.state
+stopped s t a b events (ev.Commit id) w m c d = same-cluster s t a b events c d.attempts d.state
+stopped s t a b events (ev.Abandon id) w m c d = same-cluster s t a b events c d.attempts d.state
+stopped s t a b events (ev.Apply k i) w m c d = absurd m
+stopped s t a b events (ev.Merge k sources) w m c d = absurd m
+stopped s t a b events (ev.Mutate k old upto) w m c d = absurd m
+stopped s t a b events (ev.Fetches k allowed) w m c d = absurd m
+stopped s t a b events (ev.CreateMutation command) w m c d = same-cluster s t a b events c d.attempts d.state
+stopped s t a b events (ev.DropPartition p) w m c d = same-cluster s t a b events c d.attempts d.state
+stopped s t a b events (ev.Kill k) w m c d = same-cluster s t a b events c d.attempts d.state
+stopped s t a b events (ev.Pull k) w m c d =
+    let p = d.0.at a.made a.open_ones events in
+    same-cluster t t a b events (record {
+      whole = whole-copies (cluster_of s a.made a.open_ones events) (cluster_of t a.made a.open_ones events) k d.0.log c.whole d.0.prefix (record { old = p.old; new = p.new; at = record { is_in = p.at.is_in; number = p.at.number }; up = p.up; does = (p.does.longer, p.does.pulls); change = p.change });
+      counted = subst (λ (u : Table). a.made ≤ numbers_given u.next) (sym (ap (λ (z : Cluster). z.table) p.change)) c.counted;
+      here = kept-here s t a a events (ev.Pull k) w (may-act s a.made a.open_ones events (ev.Pull k) w m) c.here (part-leaves (cluster_of s a.made a.open_ones events) (ev.Pull k) (cluster_of t a.made a.open_ones events) (table_at s.tree) (with_replica (map shown s.replicas) k p.new) a.open_ones p.change (omega arith) (length-with (map shown s.replicas) k p.new) (λ x h. old (cluster_of s a.made a.open_ones events) (ev.Pull k) x h));
+    }) d.1 refl
+stopped s t a b events (ev.Restart k) w m c d =
+    let p = d.0 a.made a.open_ones events in
+    same-cluster t t a b events (record {
+      whole = whole-kills (cluster_of s a.made a.open_ones events) (cluster_of t a.made a.open_ones events) k rp.Done c.whole p;
+      counted = let l = leaves (cluster_of s a.made a.open_ones events) (cluster_of t a.made a.open_ones events) (ev.Kill k) rp.Done m p in let n = l.counts in let o = c.counted in omega (arith, n, o);
+      here = kept-here s t a a events (ev.Kill k) w (may-act s a.made a.open_ones events (ev.Kill k) w m) c.here (leaves (cluster_of s a.made a.open_ones events) (cluster_of t a.made a.open_ones events) (ev.Kill k) rp.Done m p);
+    }) d.1 refl
+
+-- as many replicas, whether or not memory was left
+pub as-many : (s t : StateView) (a b : OpenAttempts) (events : List (Event × Reply)) (e : Event) (r : Reply) → MayStep (cluster_of s a.made a.open_ones events) e → ActsWith s a e r t b → length (map shown t.replicas) ≡ length (map shown s.replicas)
+as-many s t a b events e r m d = Leaves.replicas (leaves (cluster_of s a.made a.open_ones events) (cluster_of t b.made b.open_ones events) e r m (d events))
+
+same-many : (s t : StateView) → t ≡ s → length (map shown t.replicas) ≡ length (map shown s.replicas)
+same-many s t q = ap (λ (v : StateView). length (map shown v.replicas)) q
+
+pub as-many-left : (s t : StateView) (a b : OpenAttempts) (e : Event) → MayAct s e → AfterError s a e t b → length (map shown t.replicas) ≡ length (map shown s.replicas)
+as-many-left s t a b (ev.Allocate k x need) m d = same-many s t d.state
+as-many-left s t a b (ev.Again id) m d = same-many s t d.state
+as-many-left s t a b (ev.Stage id) m d = same-many s t d.state
+as-many-left s t a b (ev.Commit id) m d = same-many s t d.state
+as-many-left s t a b (ev.Abandon id) m d = same-many s t d.state
+as-many-left s t a b (ev.Apply k i) m d = absurd m
+as-many-left s t a b (ev.Merge k sources) m d = absurd m
+as-many-left s t a b (ev.Mutate k old upto) m d = absurd m
+as-many-left s t a b (ev.Fetches k allowed) m d = absurd m
+as-many-left s t a b (ev.CreateMutation command) m d = same-many s t d.state
+as-many-left s t a b (ev.DropPartition p) m d = same-many s t d.state
+as-many-left s t a b (ev.Kill k) m d = same-many s t d.state
+as-many-left s t a b (ev.Pull k) m d = let p = d.0.at 0 [] [] in ap (λ (c : Cluster). length c.replicas) p.change ∙ length-with (map shown s.replicas) k p.new
+as-many-left s t a b (ev.Restart k) m d = let p = d.0 0 [] [] in ap (λ (c : Cluster). length c.replicas) p.change ∙ length-with (map shown s.replicas) k p.new
+
+-- the log after an event for which no memory was left
+pub log-stays : (s t : StateView) (a b : OpenAttempts) (e : Event) → MayAct s e → AfterError s a e t b → t.tree.log ≡ s.tree.log
+log-stays s t a b (ev.Allocate k x need) m d = ap (λ (v : StateView). v.tree.log) d.state
+log-stays s t a b (ev.Again id) m d = ap (λ (v : StateView). v.tree.log) d.state
+log-stays s t a b (ev.Stage id) m d = ap (λ (v : StateView). v.tree.log) d.state
+log-stays s t a b (ev.Commit id) m d = ap (λ (v : StateView). v.tree.log) d.state
+log-stays s t a b (ev.Abandon id) m d = ap (λ (v : StateView). v.tree.log) d.state
+log-stays s t a b (ev.Apply k i) m d = absurd m
+log-stays s t a b (ev.Merge k sources) m d = absurd m
+log-stays s t a b (ev.Mutate k old upto) m d = absurd m
+log-stays s t a b (ev.Fetches k allowed) m d = absurd m
+log-stays s t a b (ev.CreateMutation command) m d = ap (λ (v : StateView). v.tree.log) d.state
+log-stays s t a b (ev.DropPartition p) m d = ap (λ (v : StateView). v.tree.log) d.state
+log-stays s t a b (ev.Kill k) m d = ap (λ (v : StateView). v.tree.log) d.state
+log-stays s t a b (ev.Pull k) m d = ap (λ (c : Cluster). c.table.log) (d.0.at 0 [] []).change
+log-stays s t a b (ev.Restart k) m d =
+    let p = d.0 0 [] [] in
+    ap (λ (c : Cluster). c.table.log) p.change ∙ ap (λ (u : Table). u.log) p.closes
+
+-- the event that is stored last is the newest
+pub stored-last : (olds room news : List (Event × Reply)) (e : Event) (r copied : Reply) → room ≡ olds → news ≡ room ++ (e, copied) ∷ [] → copied ≡ r → reverse news ≡ (e, r) ∷ reverse olds
+stored-last olds room news e r copied q n c =
+    ap reverse n ∙ (ap (λ (es : List (Event × Reply)). reverse (es ++ (e, copied) ∷ [])) q ∙ (reverse-append olds ((e, copied) ∷ []) ∙ ap (λ (z : Reply). (e, z) ∷ reverse olds) c))

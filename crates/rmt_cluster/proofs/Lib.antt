@@ -1,0 +1,12 @@
+pub mod StateLemmas
+pub mod AttemptLemmas
+pub mod SessionLemmas
+pub mod PullLemmas
+pub mod StageLemmas
+pub mod ChangeLemmas
+pub mod InsertLemmas
+pub mod CauseLemmas
+pub mod InsertActs
+pub mod NewLemmas
+pub mod NewClusterLemmas
+pub mod ClusterLemmas

@@ -1,0 +1,46 @@
+-- A new cluster, put together from a new state.
+use Rattle.std.proofs.Common.{◌≡◌, suc, Bool, List, [], ◌∷◌, map, length, refl, sym, ap, subst, arith, ◌∙◌}
+use Rattle.rmt_values.specs.Rows.{Shape}
+use Rattle.rmt_model.specs.Words.{Has}
+use Rattle.rmt_replica.specs.Replicas.{ReplicaView}
+use Rattle.rmt_replica_view.specs.Shown.{shown}
+use Rattle.rmt_events.specs.Clusters.{Attempt}
+use Rattle.rmt_events.specs.Whole.{IsWhole}
+use Rattle.rmt_events.specs.declared.event.Event.{Event}
+use Rattle.rmt_events.specs.declared.reply.Reply.{Reply}
+use Rattle.rmt_cluster.specs.States.{StateView, cluster_of}
+use Rattle.rmt_cluster.specs.NewStates.{IsNewState}
+use Rattle.rmt_cluster.specs.Attempts.{OpenAttempts}
+use Rattle.rmt_cluster.specs.NewClusters.{IsNewCluster}
+use Rattle.rmt_cluster.specs.Clusters.{IsCluster}
+use Rattle.rmt_cluster.proofs.NewLemmas.{new-cluster, new-is-whole}
+
+-- nothing stands beside the state
+nothing-beside : (s : StateView) (a : OpenAttempts) (events : List (Event × Reply)) → a.made ≡ 0 → a.open_ones ≡ [] → events ≡ [] → cluster_of s a.made a.open_ones events ≡ cluster_of s 0 [] []
+nothing-beside s a events m o e =
+    ap (λ n. cluster_of s n a.open_ones events) m ∙ (ap (λ (xs : List Attempt). cluster_of s 0 xs events) o ∙ ap (λ (es : List (Event × Reply)). cluster_of s 0 [] es) e)
+
+pub new-invariant : (schema : Shape) (up : List Bool) (s : StateView) (a : OpenAttempts) (events : List (Event × Reply)) → IsNewState schema up s → a.made ≡ 0 → a.open_ones ≡ [] → events ≡ [] → IsCluster s a events
+new-invariant schema up s a events n m o e = record {
+  whole = subst IsWhole (sym (nothing-beside s a events m o e)) (new-is-whole schema up s n);
+  counted = omega (arith, m);
+  here = λ x h. absurd (subst (λ (xs : List Attempt). Has xs x) o h);
+}
+
+up-shown : (rs : List ReplicaView) → map (λ r. r.up) (map shown rs) ≡ map (λ r. r.up) rs
+up-shown [] = refl
+up-shown (r ∷ rs) = ap (λ (l : List Bool). r.up ∷ l) (up-shown rs)
+
+pub new-is-new : (schema : Shape) (up : List Bool) (s : StateView) (a : OpenAttempts) (events : List (Event × Reply)) → IsNewState schema up s → a.made ≡ 0 → a.open_ones ≡ [] → events ≡ [] → IsNewCluster schema up (cluster_of s a.made a.open_ones events)
+new-is-new schema up s a events n m o e = record {
+  is_new = nothing-beside s a events m o e ∙ new-cluster schema up s n;
+  replicas = n.replicas;
+  up_ones = up-shown s.replicas ∙ n.up_ones;
+}
+
+length-mapped : {A B : Type 0} (f : A → B) (xs : List A) → length (map f xs) ≡ length xs
+length-mapped f [] = refl
+length-mapped f (x ∷ xs) = ap suc (length-mapped f xs)
+
+pub new-many : (schema : Shape) (up : List Bool) (s : StateView) → IsNewState schema up s → length (map shown s.replicas) ≡ length up
+new-many schema up s n = length-mapped shown s.replicas ∙ (sym (length-mapped (λ (r : ReplicaView). r.up) s.replicas) ∙ ap length n.up_ones)

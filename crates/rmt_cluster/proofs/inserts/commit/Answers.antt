@@ -1,0 +1,36 @@
+use Rattle.std.proofs.Common.{rules, ◌≡◌, ◌∙◌, sym}
+use Rattle.rmt_events.specs.Clusters.{values_of}
+use Rattle.rmt_cluster.specs.States.{cluster_of}
+use Rattle.rmt_cluster.proofs.CauseLemmas.{lost-for, gone-for}
+use Rattle.rmt_cluster.proofs.InsertActs.{accepts-acts, loses-acts, gone-acts}
+use Rattle.rmt_cluster.proofs.inserts.commit.Goals as goal
+
+pub returns-in-Ok-clause-ok : goal.returns-in-Ok-clause-ok
+returns-in-Ok-clause-ok c =
+    let f = c.in-Some.ensures in
+    let h = c.lock.ensures in
+    let s = c.args.state.now in
+    let v : c.values_of-values.result ≡ values_of s.tree.schema c.in-Some.found.now.block.rows = search rules in
+    accepts-acts s c.commit.new.self c.args.attempts.now c.end.new.self c.args.attempt c.in-Ok.place c.values_of-values.result c.in-Some.found.now c.lock.result.now c.requires.suit f.0 f.1 h.unasked h.holds h.number h.replica
+    (c.has_staged.ensures.0 c.if-not-has_staged.false) v c.in-Ok.ensures.place c.in-Ok.ensures.commits c.commit.ensures.replicas c.end.ensures.made c.end.ensures.ends
+
+pub returns-then-not-is_final-clause-ok : goal.returns-then-not-is_final-clause-ok
+returns-then-not-is_final-clause-ok c =
+    let f = c.in-Some.ensures in
+    let h = c.lock.ensures in
+    let s = c.args.state.now in
+    let a = c.args.attempts.now in
+    gone-acts s c.commit.new.self a c.args.attempt c.in-Some-no_commit.why c.in-Some.found.now c.lock.result.now c.requires.suit f.0 f.1 h.holds h.number h.replica (c.has_staged.ensures.0 c.if-not-has_staged.false)
+    (λ events. gone-for c.in-Err.error c.in-Some-no_commit.why (cluster_of s a.made a.open_ones events) c.in-Some.found.now c.lock.result.now c.values_of-values.result s.tree c.commit.new.self.tree h.holds h.number c.in-Err.ensures.refused c.in-Err.ensures.err (sym c.is_final.ensures ∙ c.if-not-is_final.true) (sym c.no_commit.ensures ∙ c.in-Some-no_commit.is))
+    c.commit.ensures.replicas
+
+pub returns-else-not-is_final-clause-ok : goal.returns-else-not-is_final-clause-ok
+returns-else-not-is_final-clause-ok c =
+    let f = c.in-Some.ensures in
+    let h = c.lock.ensures in
+    let s = c.args.state.now in
+    let a = c.args.attempts.now in
+    let v : c.values_of-values.result ≡ values_of s.tree.schema c.in-Some.found.now.block.rows = search rules in
+    loses-acts s c.commit.new.self c.end-in-Err.new.state a c.end-in-Err.new.attempts c.args.attempt c.in-Some-no_commit.why c.in-Some.found.now c.lock.result.now c.requires.suit f.0 f.1 h.holds h.number h.replica (c.has_staged.ensures.0 c.if-not-has_staged.false)
+    (λ events. lost-for c.in-Err.error c.in-Some-no_commit.why (cluster_of s a.made a.open_ones events) c.in-Some.found.now c.lock.result.now c.values_of-values.result s.tree c.commit.new.self.tree h.unasked h.holds h.number v c.in-Err.ensures.refused c.in-Err.ensures.err (sym c.is_final.ensures ∙ c.if-not-is_final.false) (sym c.no_commit.ensures ∙ c.in-Some-no_commit.is))
+    c.commit.ensures.replicas c.end-in-Err.ensures

@@ -1,0 +1,15 @@
+use Rattle.std.proofs.Common.{◌≤◌, arith, subst}
+use Rattle.rmt_cluster.specs.States.{StateView, IsState}
+use Rattle.rmt_cluster.specs.Clusters.{numbers_given}
+use Rattle.rmt_cluster.proofs.ClusterLemmas.{given-few}
+use Rattle.rmt_cluster.proofs.state.State.sound.Goals as goal
+
+pub returns-clause-state : goal.returns-clause-state
+returns-clause-state c = subst IsState c.self.view_is c.self.invariant
+
+pub returns-clause-numbers : goal.returns-clause-numbers
+returns-clause-numbers c =
+    let t = c.self.inside.tree in
+    let g = given-few t.next c.no_limit_is_passed.ensures.numbers in
+    let l = c.no_limit_is_passed.ensures.partitions in
+    subst (λ (v : StateView). numbers_given v.tree.next ≤ 67108864) c.self.view_is (omega (arith, g, l))

@@ -1,0 +1,10 @@
+pub use Rattle.rmt_events.specs.Steps
+pub use Rattle.rmt_table.specs.TableTrees
+pub mod States
+pub mod NewStates
+pub mod Pulls
+pub mod Attempts
+pub mod Causes
+pub mod Acting
+pub mod NewClusters
+pub mod Clusters

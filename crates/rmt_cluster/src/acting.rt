@@ -1,0 +1,50 @@
+//! What an event does, apart from being stored.
+ghost use Rattle.std.specs.Prelude.{◌≡◌, ◌+◌, ◌<◌, ◌^◌, IfOk, OnErr};
+ghost use Rattle.rmt_cluster.specs.Acting.{ActsWith, SuitAttempts};
+ghost use Rattle.rmt_cluster.specs.Clusters.{MayAct, AfterError};
+
+use crate::attempts::Attempts;
+use crate::commands::copy_command;
+use crate::inserts;
+use crate::state::State;
+use rmt_events::{Event, Reply};
+use std::alloc::{AllocError, Global};
+
+/// Does an event to a state and its open attempts. At an error no memory was left.
+pub(crate) fn act(
+    alloc: Global,
+    state: &mut State,
+    attempts: &mut Attempts,
+    event: &Event,
+) -> Result<Reply, AllocError>
+    requires may { MayAct state.old event.now }
+    requires suit { SuitAttempts state.old attempts.old }
+    requires few { attempts.old.made + 1 < 2 ^ 32 }
+    ensures ok { IfOk result (λ reply. ActsWith state.old attempts.old event.now reply state.new attempts.new) }
+    ensures err { OnErr result (AfterError state.old attempts.old event.now state.new attempts.new) }
+{
+    match event {
+        Event::Allocate { replica, block, .. } => {
+            inserts::allocate(alloc, state, attempts, *replica, block)
+        }
+        Event::Again { attempt } => inserts::again(alloc, state, attempts, *attempt),
+        Event::Stage { attempt } => inserts::stage(state, attempts, *attempt),
+        Event::Commit { attempt } => inserts::commit(alloc, state, attempts, *attempt),
+        Event::Abandon { attempt } => inserts::abandon(alloc, state, attempts, *attempt),
+        Event::Pull { replica } => state.pull(alloc, *replica),
+        Event::CreateMutation { command } => {
+            state.create_mutation(alloc, copy_command(alloc, command)?)
+        }
+        Event::DropPartition { partition } => state.drop_partition(alloc, *partition),
+        Event::Kill { replica } => {
+            state.kill(*replica);
+            Ok(Reply::Done)
+        }
+        Event::Restart { replica } => {
+            state.restart(alloc, *replica)?;
+            Ok(Reply::Done)
+        }
+        Event::Apply { .. } | Event::Merge { .. } | Event::Mutate { .. } | Event::Fetches { .. } =>
+            unreachable!(),
+    }
+}

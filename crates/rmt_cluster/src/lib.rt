@@ -1,0 +1,14 @@
+//! A table, its replicas, and the events that move them.
+#![tactic(auto)]
+
+mod acting;
+mod attempt;
+mod attempts;
+mod causes;
+mod cluster;
+mod commands;
+mod inserts;
+mod state;
+
+pub use cluster::Cluster;
+pub use state::State;

@@ -1,0 +1,47 @@
+ghost use Rattle.std.specs.Prelude.{◌≤◌};
+ghost use Rattle.rmt_cluster.specs.States.{IsState};
+ghost use Rattle.rmt_cluster.specs.Clusters.{numbers_given};
+
+mod changes;
+mod inserts;
+mod new;
+mod pull;
+mod sessions;
+mod staging;
+
+use rmt_replica::Replica;
+use rmt_table::TableTree;
+use std::marker::Model;
+
+/// A table and its replicas, which are numbered from 1. Contracts see the table with its tree, and the replicas in order.
+#[derive(Drop)]
+pub struct State {
+    tree: TableTree,
+    replicas: Vec<Replica>,
+}
+
+impl Model for State {
+    ghost use Rattle.std.specs.Coded.{codes};
+    ghost use Rattle.rmt_values.specs.contracts.checked.Checked as filter;
+    ghost use Rattle.rmt_tree.specs.Trees.{tree_code};
+    ghost use Rattle.rmt_cluster.specs.States.{StateView, IsState};
+
+    ghost Value = { StateView };
+
+    ghost coded = { Prim.hlevel (codes, filter.the_row.coded, tree_code) };
+
+    ghost view = { λ s. record { tree = s.tree; replicas = s.replicas.items } };
+
+    ghost invariant = { λ s. IsState (record { tree = s.tree; replicas = s.replicas.items }) };
+}
+
+impl State {
+    /// Tells what always holds of it: its replicas are those of its table, and the table's partitions have given no more
+    /// numbers than their limits allow. It does nothing.
+    pub(crate) fn sound(&self)
+        ensures state { IsState self.now }
+        ensures numbers { numbers_given self.now.tree.next ≤ 67108864 }
+    {
+        self.tree.no_limit_is_passed();
+    }
+}
