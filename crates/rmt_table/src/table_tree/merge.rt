@@ -48,6 +48,7 @@ impl TableTree {
         requires of { IsCopyOf self.old copy.now }
         requires neighbours { AreMergeable copy.now.log sources.now }
         ensures done { IfOk result (λ token. IsMergeOf self.old sources.now token self.new) }
+        ensures current { OnOk result (length copy.now.log ≡ length self.old.log) }
         ensures refused { IfErr result (NoMerge (table_at self.old) (length copy.now.log) sources.now) }
         ensures err { OnErr result (self.new ≡ self.old) }
         ensures replicas { length self.new.sessions ≡ length self.old.sessions }

@@ -70,6 +70,7 @@ impl TableTree {
         requires of { IsCopyOf self.old copy.now }
         requires pending { IsMutable copy.now.log old.now upto }
         ensures done { IfOk result (λ token. IsMutateOf self.old old.now upto token self.new) }
+        ensures current { OnOk result (length copy.now.log ≡ length self.old.log) }
         ensures refused { IfErr result (NoMutate (table_at self.old) (length copy.now.log)) }
         ensures err { OnErr result (self.new ≡ self.old) }
         ensures replicas { length self.new.sessions ≡ length self.old.sessions }

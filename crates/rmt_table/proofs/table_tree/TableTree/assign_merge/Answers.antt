@@ -1,8 +1,9 @@
-use Rattle.std.proofs.Common.{◌∙◌, List, ap, refl, arith}
+use Rattle.std.proofs.Common.{◌∙◌, List, length, ap, refl, arith}
 use Rattle.rmt_names.specs.Names.{Name}
 use Rattle.rmt_entries.specs.declared.entry.Entry.TheVariants.{Merge}
-use Rattle.rmt_table_model.specs.Held.{holders_in}
+use Rattle.rmt_table_model.specs.Held.{Held, holders_in}
 use Rattle.rmt_table.proofs.HeldNodes.{held-numbers}
+use Rattle.rmt_entries.specs.declared.entry.Entry.{Entry}
 use Rattle.rmt_table.proofs.Worked.{whole-copy, short-copy}
 use Rattle.rmt_table.proofs.Merged.{least-of, merge-differs, merge-can, merge-living, merge-few, merge-flies, merge-full, merge-in-range, merge-fine, merge-tree, merge-done}
 use Rattle.rmt_table.specs.contracts.table_tree.TableTree.{the_view}
@@ -59,3 +60,8 @@ pub returns-clause-done : goal.returns-clause-done
 returns-clause-done c =
     merge-done (the_view c.self.inside) c.self.inside.log.items refl _ c.self.invariant c.args.self.now c.self.view_is c.args.copy.now (whole-copy (the_view c.self.inside) c.self.inside.log.items c.args.self.now c.self.view_is c.args.copy.now c.requires.of refl c.len-seen.result c.len-seen.ensures.len c.len.result (c.len.ensures ∙ c.self.inside.log.ok.0) c.if-seen-len.false) c.args.sources.now c.requires.neighbours c.in_default.ensures c.in-Some-merged.new c.in-Some-merged.ensures (least-of (holders_in c.self.inside.tree) _ _ _ _ _ _ _ _ c.partition.ensures c.min.ensures c.max.ensures.value c.in_default-2.is (c.in_ok-number.ensures _ _ (held-numbers (the_view c.self.inside) c.self.invariant.held)))
     c.if-self-ge32768.false c.block_sum.result c.block_sum.ensures _ (ap (λ (xs : List Name). Merge c.in-Some-merged.new xs c.block_sum.result) (c.new.ensures ∙ c.in_ok-from_slice.ensures.items)) c.in_ok-token.token c.in_ok-token.ensures.token c.append.new.log.items c.in_ok-token.ensures.log c.append.new.tree c.deref.result.now (c.deref.ensures.value ∙ c.in_ok-ops.ensures) c.in_ok-token.ensures.tree
+
+pub returns-clause-current : goal.returns-clause-current
+returns-clause-current c =
+    ap (λ (log : List Entry). length log) (whole-copy (the_view c.self.inside) c.self.inside.log.items c.args.self.now c.self.view_is c.args.copy.now c.requires.of refl c.len-seen.result c.len-seen.ensures.len c.len.result (c.len.ensures ∙ c.self.inside.log.ok.0) c.if-seen-len.false)
+    ∙ ap (λ (h : Held). length h.log) c.self.view_is

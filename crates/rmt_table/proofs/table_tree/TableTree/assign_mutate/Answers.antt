@@ -1,4 +1,6 @@
-use Rattle.std.proofs.Common.{◌∙◌, refl, arith}
+use Rattle.std.proofs.Common.{◌∙◌, List, length, ap, refl, arith}
+use Rattle.rmt_entries.specs.declared.entry.Entry.{Entry}
+use Rattle.rmt_table_model.specs.Held.{Held}
 use Rattle.rmt_table.proofs.Worked.{whole-copy, short-copy}
 use Rattle.rmt_table.proofs.Mutated.{mutate-few, mutate-full, mutate-in-range, mutate-fine, mutate-tree, mutate-done}
 use Rattle.rmt_table.specs.contracts.table_tree.TableTree.{the_view}
@@ -31,3 +33,8 @@ invariant_of-self-2 c =
 pub returns-clause-done : goal.returns-clause-done
 returns-clause-done c =
     mutate-done (the_view c.self.inside) c.self.inside.log.items refl _ c.self.invariant c.args.self.now c.self.view_is c.args.copy.now (whole-copy (the_view c.self.inside) c.self.inside.log.items c.args.self.now c.self.view_is c.args.copy.now c.requires.of refl c.len-seen.result c.len-seen.ensures.len c.len.result (c.len.ensures ∙ c.self.inside.log.ok.0) c.if-seen-len.false) c.args.old.now c.args.upto c.if-self-ge32768.false c.mutate_entry-entry.result c.mutate_entry-entry.ensures c.in_ok-token.token c.in_ok-token.ensures.token c.append.new.log.items c.in_ok-token.ensures.log c.append.new.tree c.deref.result.now (c.deref.ensures.value ∙ c.in_ok-ops.ensures) c.in_ok-token.ensures.tree
+
+pub returns-clause-current : goal.returns-clause-current
+returns-clause-current c =
+    ap (λ (log : List Entry). length log) (whole-copy (the_view c.self.inside) c.self.inside.log.items c.args.self.now c.self.view_is c.args.copy.now c.requires.of refl c.len-seen.result c.len-seen.ensures.len c.len.result (c.len.ensures ∙ c.self.inside.log.ok.0) c.if-seen-len.false)
+    ∙ ap (λ (h : Held). length h.log) c.self.view_is
