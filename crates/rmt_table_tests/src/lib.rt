@@ -2,8 +2,30 @@
 #![tactic(auto)]
 
 #[cfg(test)]
-mod calls;
+mod chosen;
+#[cfg(test)]
+mod copies;
 #[cfg(test)]
 mod drops;
 #[cfg(test)]
+mod expected;
+#[cfg(test)]
+mod few;
+#[cfg(test)]
 mod inserts;
+#[cfg(test)]
+mod limits;
+#[cfg(test)]
+mod merges;
+#[cfg(test)]
+mod mutations;
+#[cfg(test)]
+mod played;
+#[cfg(test)]
+mod schemas;
+#[cfg(test)]
+mod steps;
+#[cfg(test)]
+mod two_replicas;
+#[cfg(test)]
+mod wrong;
