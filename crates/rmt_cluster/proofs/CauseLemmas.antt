@@ -23,10 +23,10 @@ use Rattle.rmt_events.specs.declared.step_refused.StepRefused.TheVariants as rf
 use Rattle.rmt_cluster.specs.Attempts.{HoldsBlock}
 use Rattle.rmt_cluster.specs.Causes.{allocate_cause, commit_cause, is_final}
 
-same-cause : (x y : StepRefused) → ◌≡◌ {A = Option StepRefused} (Some x) (Some y) → x ≡ y
+pub same-cause : (x y : StepRefused) → ◌≡◌ {A = Option StepRefused} (Some x) (Some y) → x ≡ y
 same-cause x y e = cc
 
-none-cause : (y : StepRefused) → ◌≡◌ {A = Option StepRefused} None (Some y) → ⊥
+pub none-cause : (y : StepRefused) → ◌≡◌ {A = Option StepRefused} None (Some y) → ⊥
 none-cause y e = absurd (cc)
 
 -- ---- a number

@@ -56,7 +56,7 @@ done-drop-on old new p n None d = goes-on-same old new d.1
 done-drop-on old new p n (Some token) d = drops-on old new p (next_number old.next p) (Drops.seen d) n
 
 -- the table alone changed, and the reply is its entry's place
-appends : (s : StateView) (new : Held) (D : Table → Table → Type 0) (place made : ℕ) (attempts : List Attempt) (events : List (Event × Reply)) → place ≡ length s.tree.log → D (table_at s.tree) (table_at new)
+pub appends : (s : StateView) (new : Held) (D : Table → Table → Type 0) (place made : ℕ) (attempts : List Attempt) (events : List (Event × Reply)) → place ≡ length s.tree.log → D (table_at s.tree) (table_at new)
     → Appends (cluster_of s made attempts events) D (rp.Entry place) (cluster_of (record s { tree = new }) made attempts events)
 appends s new D place made attempts events e d = record { at = record { new = table_at new; does = d; change = refl }; answer = ap rp.Entry e }
 

@@ -4,6 +4,8 @@ pub mod SessionLemmas
 pub mod PullLemmas
 pub mod StageLemmas
 pub mod ChangeLemmas
+pub mod ChoiceLemmas
+pub mod AssignLemmas
 pub mod InsertLemmas
 pub mod CauseLemmas
 pub mod InsertActs

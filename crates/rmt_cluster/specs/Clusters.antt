@@ -34,7 +34,7 @@ pub record IsCluster (s : StateView) (a : OpenAttempts) (events : List (Event ×
   pub here : (x : Attempt) → Has a.open_ones x → IsNumber x.replica (length s.replicas)
 
 -- the event is one that this cluster takes: its replica is there, and its command is one of the table's schema. No replica is
--- asked for, and no event that does an entry of the log, assigns a merge or a mutate, or stops fetches, is among them yet
+-- asked for, and no event that does an entry of the log or stops fetches is among them yet
 abbrev pub MayStep : Cluster → Event → Type 0
 MayStep s (ev.Allocate k b need) = IsNumber k (length s.replicas) × (need ≡ 0)
 MayStep s (ev.Again id) = Unit {0}
@@ -43,8 +43,8 @@ MayStep s (ev.Commit id) = Unit {0}
 MayStep s (ev.Abandon id) = Unit {0}
 MayStep s (ev.Pull k) = IsNumber k (length s.replicas)
 MayStep s (ev.Apply k i) = ⊥
-MayStep s (ev.Merge k sources) = ⊥
-MayStep s (ev.Mutate k old upto) = ⊥
+MayStep s (ev.Merge k sources) = IsNumber k (length s.replicas)
+MayStep s (ev.Mutate k old upto) = IsNumber k (length s.replicas)
 MayStep s (ev.CreateMutation command) = CommandFits s.table.schema command × CommandInRange command
 MayStep s (ev.DropPartition p) = Unit {0}
 MayStep s (ev.Kill k) = IsNumber k (length s.replicas)
@@ -62,8 +62,8 @@ MayAct s (ev.Commit id) = Unit {0}
 MayAct s (ev.Abandon id) = Unit {0}
 MayAct s (ev.Pull k) = IsReplica s.tree k
 MayAct s (ev.Apply k i) = ⊥
-MayAct s (ev.Merge k sources) = ⊥
-MayAct s (ev.Mutate k old upto) = ⊥
+MayAct s (ev.Merge k sources) = IsReplica s.tree k
+MayAct s (ev.Mutate k old upto) = IsReplica s.tree k
 MayAct s (ev.CreateMutation command) = CommandFits s.tree.schema command × CommandInRange command
 MayAct s (ev.DropPartition p) = Unit {0}
 MayAct s (ev.Kill k) = IsReplica s.tree k

@@ -32,6 +32,8 @@ pub(crate) fn act(
         Event::Commit { attempt } => inserts::commit(alloc, state, attempts, *attempt),
         Event::Abandon { attempt } => inserts::abandon(alloc, state, attempts, *attempt),
         Event::Pull { replica } => state.pull(alloc, *replica),
+        Event::Merge { replica, sources } => state.merge(alloc, *replica, sources.as_slice()),
+        Event::Mutate { replica, old, upto } => state.mutate(alloc, *replica, old, *upto),
         Event::CreateMutation { command } => {
             state.create_mutation(alloc, copy_command(alloc, command)?)
         }
@@ -44,7 +46,6 @@ pub(crate) fn act(
             state.restart(alloc, *replica)?;
             Ok(Reply::Done)
         }
-        Event::Apply { .. } | Event::Merge { .. } | Event::Mutate { .. } | Event::Fetches { .. } =>
-            unreachable!(),
+        Event::Apply { .. } | Event::Fetches { .. } => unreachable!(),
     }
 }

@@ -5,6 +5,7 @@ mod acting;
 mod attempt;
 mod attempts;
 mod causes;
+mod choices;
 mod cluster;
 mod commands;
 mod inserts;
