@@ -4,7 +4,6 @@ pub mod SessionLemmas
 pub mod PullLemmas
 pub mod StageLemmas
 pub mod ChangeLemmas
-pub mod ChoiceLemmas
 pub mod AssignLemmas
 pub mod InsertLemmas
 pub mod CauseLemmas

@@ -5,7 +5,6 @@ pub mod NewStates
 pub mod Pulls
 pub mod Attempts
 pub mod Causes
-pub mod Choices
 pub mod Acting
 pub mod NewClusters
 pub mod Clusters

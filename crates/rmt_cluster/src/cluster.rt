@@ -102,7 +102,7 @@ impl Cluster {
         self.events.reserve(1)?;
         self.state.sound();
         let reply = act(alloc, &mut self.state, &mut self.attempts, &event)?;
-        self.events.push((event, reply.copy()))?;
+        self.events.push((event, reply))?;
         Ok(reply)
     }
 }

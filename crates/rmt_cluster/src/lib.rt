@@ -5,7 +5,6 @@ mod acting;
 mod attempt;
 mod attempts;
 mod causes;
-mod choices;
 mod cluster;
 mod commands;
 mod inserts;

@@ -1,10 +1,8 @@
-ghost use Rattle.std.specs.Prelude.{◌≡◌};
-
 use rmt_names::PartName;
 use rmt_values::Limit;
 
 /// Why an event was refused.
-#[derive(Clone, Copy, Debug)]
+#[derive(Clone, Copy, Debug, PartialEq, Eq)]
 pub enum StepRefused {
     /// The replica has no session.
     NoSession,
@@ -38,42 +36,4 @@ pub enum StepRefused {
     LockHeld,
     /// The names or the place don't meet the condition of the call.
     NotLive,
-}
-
-impl StepRefused {
-    /// Returns a copy.
-    pub(crate) fn copy(&self) -> StepRefused
-        ensures { result ≡ self.now }
-    {
-        match self {
-            StepRefused::NoSession => StepRefused::NoSession,
-            StepRefused::TooFewLive { live, need } => StepRefused::TooFewLive {
-                live: *live,
-                need: *need,
-            },
-            StepRefused::QuorumPending(part) => StepRefused::QuorumPending(*part),
-            StepRefused::Duplicate(part) => StepRefused::Duplicate(*part),
-            StepRefused::LimitReached { limit, value } => StepRefused::LimitReached {
-                limit: *limit,
-                value: *value,
-            },
-            StepRefused::LockGone { number } => StepRefused::LockGone { number: *number },
-            StepRefused::LogMoved { seen, found } => StepRefused::LogMoved {
-                seen: *seen,
-                found: *found,
-            },
-            StepRefused::Differ { left, right } => StepRefused::Differ {
-                left: *left,
-                right: *right,
-            },
-            StepRefused::InFlight(number) => StepRefused::InFlight(*number),
-            StepRefused::Down => StepRefused::Down,
-            StepRefused::FetchesStopped => StepRefused::FetchesStopped,
-            StepRefused::NeedsPart(part) => StepRefused::NeedsPart(*part),
-            StepRefused::NoAttempt => StepRefused::NoAttempt,
-            StepRefused::NotStaged => StepRefused::NotStaged,
-            StepRefused::LockHeld => StepRefused::LockHeld,
-            StepRefused::NotLive => StepRefused::NotLive,
-        }
-    }
 }

@@ -25,3 +25,4 @@ pub mod Differing
 pub mod Worked
 pub mod Merged
 pub mod Mutated
+pub mod ChoiceLemmas

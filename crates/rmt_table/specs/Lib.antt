@@ -5,3 +5,4 @@ pub use Rattle.rmt_table_model.specs.Nodes
 pub mod TableTrees
 pub mod Refusals
 pub mod MutateEntries
+pub mod Choices

@@ -3,6 +3,7 @@
 
 mod allocate_error;
 mod change_error;
+mod choices;
 mod commit_error;
 mod counted;
 mod layout;
@@ -14,6 +15,7 @@ mod table_tree;
 
 pub use allocate_error::AllocateError;
 pub use change_error::ChangeError;
+pub use choices::{are_mergeable, is_mutable};
 pub use commit_error::CommitError;
 pub use lock::Lock;
 pub use merge_error::MergeError;

@@ -5,10 +5,10 @@ ghost use Rattle.rmt_table.specs.TableTrees.{IsReplica};
 ghost use Rattle.rmt_cluster.specs.States.{Acts};
 
 use crate::causes::{merge_reply, mutate_reply};
-use crate::choices::{are_mergeable, is_mutable};
 use crate::state::State;
 use rmt_events::{Reply, StepRefused};
 use rmt_names::PartName;
+use rmt_table::{are_mergeable, is_mutable};
 use rmt_values::ReplicaId;
 use std::alloc::{AllocError, Global};
 

@@ -13,7 +13,7 @@ use Rattle.rmt_events.specs.declared.reply.Reply.TheVariants as rp
 use Rattle.rmt_events.specs.declared.step_refused.StepRefused.TheVariants as rf
 use Rattle.rmt_cluster.specs.States.{StateView, Acts}
 use Rattle.rmt_cluster.proofs.StateLemmas.{at-place, state-after}
-use Rattle.rmt_cluster.proofs.ChoiceLemmas.{yes, not-yes}
+use Rattle.rmt_table.proofs.ChoiceLemmas.{yes, not-yes}
 use Rattle.rmt_cluster.proofs.AssignLemmas.{merge-down, merge-not-live, merge-on, merge-told}
 use Rattle.rmt_cluster.proofs.state.State.merge.Goals as goal
 

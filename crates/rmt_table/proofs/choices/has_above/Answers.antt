@@ -1,7 +1,7 @@
 use Rattle.std.proofs.Common.{refl}
 use Rattle.std.specs.declared.option.Option.TheVariants.{None}
-use Rattle.rmt_cluster.proofs.ChoiceLemmas.{above-at, yes}
-use Rattle.rmt_cluster.proofs.choices.has_above.Goals as goal
+use Rattle.rmt_table.proofs.ChoiceLemmas.{above-at, yes}
+use Rattle.rmt_table.proofs.choices.has_above.Goals as goal
 
 pub returns-then-pair-other : goal.returns-then-pair-other
 returns-then-pair-other c =

@@ -1,4 +1,4 @@
--- What a replica's worker looks for among the numbers of a mutation.
+-- What a worker looks for among the numbers of a mutation.
 -- No public clause cites this module.
 use Rattle.std.specs.Prelude.{ℕ, ◌<◌, List}
 use Rattle.std.specs.declared.option.Option.{Option}

@@ -1,8 +1,8 @@
 use Rattle.std.proofs.Common.{refl, sym, ap, ◌∙◌}
 use Rattle.std.specs.declared.option.Option.TheVariants.{Some}
 use Rattle.rmt_entries.specs.declared.entry.Entry.{Entry}
-use Rattle.rmt_cluster.proofs.ChoiceLemmas.{mutable, mutable-above, alone-live, nowhere-mutable, not-yes}
-use Rattle.rmt_cluster.proofs.choices.is_mutable.Goals as goal
+use Rattle.rmt_table.proofs.ChoiceLemmas.{mutable, mutable-above, alone-live, nowhere-mutable, not-yes}
+use Rattle.rmt_table.proofs.choices.is_mutable.Goals as goal
 
 pub returns-in_default : goal.returns-in_default
 returns-in_default c = (λ t. absurd (not-yes _ refl t), λ m. absurd (nowhere-mutable c.args.copy.now.log c.args.old.now c.args.upto c.in_default.ensures.entry m))

@@ -1,7 +1,7 @@
 use Rattle.std.proofs.Common.{◌≡◌, ◌-◌, ◌∷◌, arith, drop, take, length}
 use Rattle.std.proofs.lemmas.Grind.{common_steps}
-use Rattle.rmt_cluster.proofs.ChoiceLemmas.{not-choice}
-use Rattle.rmt_cluster.proofs.choices.are_mergeable.Goals as goal
+use Rattle.rmt_table.proofs.ChoiceLemmas.{not-choice}
+use Rattle.rmt_table.proofs.choices.are_mergeable.Goals as goal
 
 pub returns-else-are_of : goal.returns-else-are_of
 returns-else-are_of c =

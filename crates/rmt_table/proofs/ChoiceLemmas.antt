@@ -16,7 +16,7 @@ use Rattle.rmt_model.specs.Lawful.{entry_at, ver, AreNeighbours, IsMutationWith}
 use Rattle.rmt_model.proofs.Lists.{Has-right}
 use Rattle.rmt_model.proofs.Drops.{entry-below}
 use Rattle.rmt_events.specs.LogEvents.{AreMergeable, IsMutable}
-use Rattle.rmt_cluster.specs.Choices.{HasAbove}
+use Rattle.rmt_table.specs.Choices.{HasAbove}
 
 -- ---- merges
 

@@ -1,8 +1,8 @@
-//! What a replica's worker may merge, and which parts it may mutate.
+//! What a worker may merge, and which parts it may mutate.
 ghost use Rattle.std.specs.Prelude.{◌≡◌, ◌↔◌, IsTrue};
 ghost use Rattle.rmt_model.specs.Words.{Each};
 ghost use Rattle.rmt_events.specs.LogEvents.{AreMergeable, IsMutable};
-ghost use Rattle.rmt_cluster.specs.Choices.{HasAbove};
+ghost use Rattle.rmt_table.specs.Choices.{HasAbove};
 
 use rmt_entries::Entry;
 use rmt_history::LogCopy;
@@ -32,8 +32,9 @@ fn has_above(numbers: &[(PartitionId, u32)], partition: PartitionId, other: u32)
     false
 }
 
-/// Whether the names are two or more neighbours of one partition among the live names of a copy.
-pub(crate) fn are_mergeable(copy: &LogCopy, names: &[PartName]) -> bool
+/// Whether the names are two or more neighbours of one partition among the live names of a copy: what `assign_merge` may merge.
+/// It takes a step for each name.
+pub fn are_mergeable(copy: &LogCopy, names: &[PartName]) -> bool
     ensures { IsTrue result ↔ AreMergeable copy.now.log names.now }
 {
     let [first, rest @ ..] = names else {
@@ -45,8 +46,9 @@ pub(crate) fn are_mergeable(copy: &LogCopy, names: &[PartName]) -> bool
     are_of(rest, first.partition()) && copy.neighbours(names)
 }
 
-/// Whether a name is live in a copy, and the mutation at a place is pending for it.
-pub(crate) fn is_mutable(copy: &LogCopy, old: &PartName, upto: usize) -> bool
+/// Whether a name is live in a copy, and the mutation at a place is pending for it: what `assign_mutate` may bring up to it.
+/// It takes a step for each partition of the mutation.
+pub fn is_mutable(copy: &LogCopy, old: &PartName, upto: usize) -> bool
     ensures { IsTrue result ↔ IsMutable copy.now.log old.now upto }
 {
     let Some(token) = copy.entry(upto) else {
