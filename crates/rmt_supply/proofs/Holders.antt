@@ -1,0 +1,1 @@
+-- Who holds the block of a Get.

@@ -1,0 +1,1 @@
+-- Parts that are made of active parts.

@@ -1,0 +1,3 @@
+pub use Rattle.rmt_replica.specs.Answers
+pub use Rattle.rmt_events.specs.ApplyEvents
+pub mod PartSources

@@ -1,0 +1,77 @@
+//! What other replicas hold.
+ghost use Rattle.std.specs.Prelude.{◌≡◌, ◌<◌, IfOk, IfSome, length, slice_get};
+ghost use Rattle.std.specs.Arc.{arc_value};
+ghost use Rattle.std.specs.Option.{option_map};
+ghost use Rattle.std.specs.declared.option.Option.TheVariants.{Some};
+ghost use Rattle.rmt_replica.specs.Replicas.{ReplicaView};
+ghost use Rattle.rmt_supply.specs.PartSources.{staged_for, IsAccepted, AreOfOneTable, WaitsForBlock, IsGetFor, IsHeld, IsFetchedFor};
+
+use crate::staged::staged_part;
+use rmt_entries::Entry;
+use rmt_names::{PartName, block_name};
+use rmt_part::Part;
+use rmt_replica::Replica;
+use rmt_row::Seen;
+use rmt_values::Schema;
+use std::alloc::{AllocError, Global};
+use std::sync::Arc;
+
+/// What a holder has for the Get of a token: its active part that covers the block's and was made at a place below `len`, else
+/// the part of the block that is staged there. None where it has neither. At an error no memory was left.
+fn held(
+    alloc: Global,
+    holder: &Replica,
+    get: &Seen<Entry>,
+    name: &PartName,
+    len: usize,
+    schema: &Arc<Schema, Global>,
+) -> Result<Option<Arc<Part, Global>>, AllocError>
+    requires get { IsGetFor get.now name.now }
+    requires accepted { IfSome (staged_for holder.now get.now.value) (IsAccepted (arc_value schema.now) get.now.value) }
+    ensures { IfOk result (λ part. IsHeld (arc_value schema.now) holder.now get.now name.now len (option_map arc_value part)) }
+{
+    if let Some(part) = holder.covering(name) {
+        if part.made().place() < len {
+            let shared = Arc::try_clone(part)?;
+            return Ok(Some(shared));
+        }
+    }
+    staged_part(alloc, holder, get, schema)
+}
+
+/// The part for the Get at a place of a replica's copy, which waits and whose block isn't staged there, that its lowest-numbered
+/// other live holder has. None where no other live replica holds the block. At an error no memory was left.
+pub(crate) fn fetched_part(
+    alloc: Global,
+    replicas: &[Replica],
+    at: usize,
+    i: usize,
+    schema: &Arc<Schema, Global>,
+) -> Result<Option<Arc<Part, Global>>, AllocError>
+    requires at { at < length replicas.now }
+    requires table { AreOfOneTable replicas.now i }
+    requires waits { (x : ReplicaView) → slice_get replicas.now at ≡ Some x → (x.schema ≡ arc_value schema.now) × WaitsForBlock x i }
+    ensures { IfOk result (λ part. (x : ReplicaView) → slice_get replicas.now at ≡ Some x → IsFetchedFor replicas.now x i (option_map arc_value part)) }
+{
+    let worker = &replicas[at];
+    let copy = worker.copy();
+    let get = copy.entry(i).unwrap();
+    let Entry::Get {
+        partition,
+        number,
+        ..
+    } = get.value()
+    else {
+        unreachable!()
+    };
+    let name = block_name(*partition, *number);
+    'holders: for (j, holder) in replicas.iter().enumerate() {
+        if j == at || !holder.is_up() {
+            continue;
+        }
+        if let Some(part) = held(alloc, holder, get, &name, copy.len(), schema)? {
+            return Ok(Some(part));
+        }
+    }
+    Ok(None)
+}
