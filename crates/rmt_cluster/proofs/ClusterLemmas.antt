@@ -4,10 +4,11 @@ use Rattle.std.proofs.lemmas.Bool.Decides.{nat_tests}
 use Rattle.std.proofs.lemmas.List.{reverse-append}
 use Rattle.std.specs.declared.option.Option.{Option}
 use Rattle.rmt_names.specs.Names.{rank}
-use Rattle.rmt_model.specs.Words.{Has}
+use Rattle.rmt_values.specs.Rows.{Shape}
+use Rattle.rmt_model.specs.Words.{Has, Each}
 use Rattle.rmt_model.proofs.Lists.{Each-at, Has-filter}
 use Rattle.rmt_limits.specs.BlockNumbers.{next_number, with_next, next_numbers_after}
-use Rattle.rmt_table.specs.TableTrees.{IsReplica, table_at}
+use Rattle.rmt_table.specs.TableTrees.{table_at}
 use Rattle.rmt_replica.specs.Replicas.{ReplicaView}
 use Rattle.rmt_replica_view.specs.Shown.{shown}
 use Rattle.rmt_events.specs.Views.{Replica, Table}
@@ -15,7 +16,7 @@ use Rattle.rmt_events.specs.Clusters.{Attempt, Cluster, with_replica, without_ki
 use Rattle.std.specs.Arc.{arc_value}
 use Rattle.rmt_events.specs.ClusterChanges.{attempts_without, renumbered}
 use Rattle.rmt_events.specs.Whole.{Follows, IsRightlyStaged, IsWhole}
-use Rattle.rmt_events.specs.Steps.{Does}
+use Rattle.rmt_events.specs.Steps.{Does, Kills}
 use Rattle.rmt_events.specs.declared.event.Event.{Event}
 use Rattle.rmt_events.specs.declared.event.Event.TheVariants as ev
 use Rattle.rmt_events.specs.declared.reply.Reply.{Reply}
@@ -26,7 +27,7 @@ use Rattle.rmt_events.proofs.WholeSteps.{whole-step}
 use Rattle.rmt_cluster.specs.States.{StateView, IsState, cluster_of}
 use Rattle.rmt_cluster.specs.Attempts.{OpenAttempts}
 use Rattle.rmt_cluster.specs.Acting.{ActsWith, AreSame, SuitAttempts}
-use Rattle.rmt_cluster.specs.Clusters.{numbers_given, IsNumber, IsCluster, MayStep, MayAct, AfterError}
+use Rattle.rmt_cluster.specs.Clusters.{numbers_given, IsNumber, IsTaken, IsCluster, MayStep, MayAct, Stops, AfterError}
 
 -- ---- numbers given
 
@@ -73,17 +74,18 @@ IsFromOne s e x = ((y : Attempt) × Has s.attempts y × (x.replica ≡ y.replica
 pub record Leaves (s : Cluster) (e : Event) (t : Cluster) : Type 0 where
   pub counts : t.attempts_made + numbers_given s.table.next ≤ s.attempts_made + numbers_given t.table.next
   pub replicas : length t.replicas ≡ length s.replicas
+  pub schema : t.table.schema ≡ s.table.schema
   pub attempts : (x : Attempt) → Has t.attempts x → IsFromOne s e x
 
 old : (s : Cluster) (e : Event) (x : Attempt) → Has s.attempts x → IsFromOne s e x
 old s e x h = inl (x, h, refl)
 
 same-leaves : (s : Cluster) (e : Event) (t : Cluster) → t ≡ s → Leaves s e t
-same-leaves s e t q = subst (Leaves s e) (sym q) (record { counts = omega arith; replicas = refl; attempts = λ x h. old s e x h })
+same-leaves s e t q = subst (Leaves s e) (sym q) (record { counts = omega arith; replicas = refl; schema = refl; attempts = λ x h. old s e x h })
 
 -- the table and one replica changed, and attempts ended
-part-leaves : (s : Cluster) (e : Event) (t : Cluster) (table : Table) (rs : List Replica) (xs : List Attempt) → t ≡ record s { table = table; replicas = rs; attempts = xs } → numbers_given s.table.next ≤ numbers_given table.next → length rs ≡ length s.replicas → ((x : Attempt) → Has xs x → IsFromOne s e x) → Leaves s e t
-part-leaves s e t table rs xs q n l f = subst (Leaves s e) (sym q) (record { counts = omega (arith, n); replicas = l; attempts = f })
+part-leaves : (s : Cluster) (e : Event) (t : Cluster) (table : Table) (rs : List Replica) (xs : List Attempt) → t ≡ record s { table = table; replicas = rs; attempts = xs } → numbers_given s.table.next ≤ numbers_given table.next → table.schema ≡ s.table.schema → length rs ≡ length s.replicas → ((x : Attempt) → Has xs x → IsFromOne s e x) → Leaves s e t
+part-leaves s e t table rs xs q n m l f = subst (Leaves s e) (sym q) (record { counts = omega (arith, n); replicas = l; schema = m; attempts = f })
 
 given-same : (a b : Table) → b.next ≡ a.next → numbers_given a.next ≤ numbers_given b.next
 given-same a b q = subst (λ (xs : List (Option ℕ × ℕ)). numbers_given a.next ≤ numbers_given xs) (sym q) (omega arith)
@@ -111,6 +113,7 @@ leaves s t (ev.Allocate k b need) r m (inl d) = record {
       let n : numbers_given t.table.next ≡ numbers_given (with_next s.table.next p (next_number s.table.next p + 1)) = ap (λ (c : Cluster). numbers_given c.table.next) d.change ∙ (ap (λ (u : Table). numbers_given u.next) d.call.change ∙ ap (λ n. numbers_given (with_next s.table.next p (n + 1))) d.call.number) in
       omega (arith, made, g, n);
   replicas = ap (λ (c : Cluster). length c.replicas) d.change;
+  schema = ap (λ (c : Cluster). c.table.schema) d.change ∙ ap (λ (u : Table). u.schema) d.call.change;
   attempts = λ x h. first x (subst (λ (c : Cluster). Has c.attempts x) d.change h);
 }
   where
@@ -121,64 +124,52 @@ leaves s t (ev.Again id) r m (inr d) = same-leaves s (ev.Again id) t d.unchanged
 leaves s t (ev.Again id) r m (inl d) =
     part-leaves s (ev.Again id) t d.table s.replicas (renumbered s.attempts id d.number) d.change
     (let g = given-next s.table.next d.attempt.block.partition in let n = ap (λ (u : Table). numbers_given u.next) d.call.change ∙ ap (λ n. numbers_given (with_next s.table.next d.attempt.block.partition (n + 1))) d.call.number in omega (arith, g, n))
-    refl (λ x h. renumbered-old s (ev.Again id) s.attempts id d.number x (λ y k. k) h)
+    (ap (λ (u : Table). u.schema) d.call.change) refl (λ x h. renumbered-old s (ev.Again id) s.attempts id d.number x (λ y k. k) h)
 leaves s t (ev.Stage id) r m (inr d) = same-leaves s (ev.Stage id) t d.unchanged
-leaves s t (ev.Stage id) r m (inl d) = part-leaves s (ev.Stage id) t s.table (with_replica s.replicas d.attempt.replica d.at.new) s.attempts d.at.change (omega arith) (length-with s.replicas d.attempt.replica d.at.new) (λ x h. old s (ev.Stage id) x h)
+leaves s t (ev.Stage id) r m (inl d) = part-leaves s (ev.Stage id) t s.table (with_replica s.replicas d.attempt.replica d.at.new) s.attempts d.at.change (omega arith) refl (length-with s.replicas d.attempt.replica d.at.new) (λ x h. old s (ev.Stage id) x h)
 leaves s t (ev.Commit id) r m (inr (inr d)) = same-leaves s (ev.Commit id) t d.unchanged
-leaves s t (ev.Commit id) r m (inl d) = part-leaves s (ev.Commit id) t d.table s.replicas (attempts_without s.attempts id) d.change (given-same s.table d.table (ap (λ (u : Table). u.next) d.call.change)) refl (λ x h. without-old s (ev.Commit id) id x h)
+leaves s t (ev.Commit id) r m (inl d) = part-leaves s (ev.Commit id) t d.table s.replicas (attempts_without s.attempts id) d.change (given-same s.table d.table (ap (λ (u : Table). u.next) d.call.change)) (ap (λ (u : Table). u.schema) d.call.change) refl (λ x h. without-old s (ev.Commit id) id x h)
 leaves s t (ev.Commit id) r m (inr (inl d)) =
     let e = d.ends in
-    part-leaves s (ev.Commit id) t e.table (with_replica s.replicas e.attempt.replica e.new) (attempts_without s.attempts id) e.change (given-same s.table e.table (ap (λ (u : Table). u.next) e.unlocks)) (length-with s.replicas e.attempt.replica e.new) (λ x h. without-old s (ev.Commit id) id x h)
+    part-leaves s (ev.Commit id) t e.table (with_replica s.replicas e.attempt.replica e.new) (attempts_without s.attempts id) e.change (given-same s.table e.table (ap (λ (u : Table). u.next) e.unlocks)) (ap (λ (u : Table). u.schema) e.unlocks) (length-with s.replicas e.attempt.replica e.new) (λ x h. without-old s (ev.Commit id) id x h)
 leaves s t (ev.Abandon id) r m (inr d) = same-leaves s (ev.Abandon id) t d.unchanged
 leaves s t (ev.Abandon id) r m (inl d) =
     let e = d.0 in
-    part-leaves s (ev.Abandon id) t e.table (with_replica s.replicas e.attempt.replica e.new) (attempts_without s.attempts id) e.change (given-same s.table e.table (ap (λ (u : Table). u.next) e.unlocks)) (length-with s.replicas e.attempt.replica e.new) (λ x h. without-old s (ev.Abandon id) id x h)
+    part-leaves s (ev.Abandon id) t e.table (with_replica s.replicas e.attempt.replica e.new) (attempts_without s.attempts id) e.change (given-same s.table e.table (ap (λ (u : Table). u.next) e.unlocks)) (ap (λ (u : Table). u.schema) e.unlocks) (length-with s.replicas e.attempt.replica e.new) (λ x h. without-old s (ev.Abandon id) id x h)
 leaves s t (ev.Pull k) r m (inr d) = same-leaves s (ev.Pull k) t d.unchanged
-leaves s t (ev.Pull k) r m (inl d) = part-leaves s (ev.Pull k) t s.table (with_replica s.replicas k d.at.new) s.attempts d.at.change (omega arith) (length-with s.replicas k d.at.new) (λ x h. old s (ev.Pull k) x h)
-leaves s t (ev.Apply k i) r m d = absurd m
+leaves s t (ev.Pull k) r m (inl d) = part-leaves s (ev.Pull k) t s.table (with_replica s.replicas k d.at.new) s.attempts d.at.change (omega arith) refl (length-with s.replicas k d.at.new) (λ x h. old s (ev.Pull k) x h)
+leaves s t (ev.Apply k i) r m (inr d) = same-leaves s (ev.Apply k i) t d.unchanged
+leaves s t (ev.Apply k i) r m (inl d) = part-leaves s (ev.Apply k i) t s.table (with_replica s.replicas k d.at.new) s.attempts d.at.change (omega arith) refl (length-with s.replicas k d.at.new) (λ x h. old s (ev.Apply k i) x h)
 leaves s t (ev.Merge k sources) r m (inr d) = same-leaves s (ev.Merge k sources) t d.unchanged
 leaves s t (ev.Merge k sources) r m (inl d) =
     let a = d.appends.at in
-    part-leaves s (ev.Merge k sources) t a.new s.replicas s.attempts a.change (given-same s.table a.new (ap (λ (u : Table). u.next) a.does.change)) refl (λ x h. old s (ev.Merge k sources) x h)
+    part-leaves s (ev.Merge k sources) t a.new s.replicas s.attempts a.change (given-same s.table a.new (ap (λ (u : Table). u.next) a.does.change)) (ap (λ (u : Table). u.schema) a.does.change) refl (λ x h. old s (ev.Merge k sources) x h)
 leaves s t (ev.Mutate k part upto) r m (inr d) = same-leaves s (ev.Mutate k part upto) t d.unchanged
 leaves s t (ev.Mutate k part upto) r m (inl d) =
     let a = d.appends.at in
-    part-leaves s (ev.Mutate k part upto) t a.new s.replicas s.attempts a.change (given-same s.table a.new (ap (λ (u : Table). u.next) a.does.change)) refl (λ x h. old s (ev.Mutate k part upto) x h)
+    part-leaves s (ev.Mutate k part upto) t a.new s.replicas s.attempts a.change (given-same s.table a.new (ap (λ (u : Table). u.next) a.does.change)) (ap (λ (u : Table). u.schema) a.does.change) refl (λ x h. old s (ev.Mutate k part upto) x h)
 leaves s t (ev.Fetches k allowed) r m d = absurd m
 leaves s t (ev.CreateMutation command) r m (inr d) = same-leaves s (ev.CreateMutation command) t d.unchanged
 leaves s t (ev.CreateMutation command) r m (inl d) =
-    part-leaves s (ev.CreateMutation command) t d.at.new s.replicas s.attempts d.at.change (let g = given-after s.table.next in let n = ap (λ (u : Table). numbers_given u.next) d.at.does.change in omega (arith, g, n)) refl (λ x h. old s (ev.CreateMutation command) x h)
+    part-leaves s (ev.CreateMutation command) t d.at.new s.replicas s.attempts d.at.change (let g = given-after s.table.next in let n = ap (λ (u : Table). numbers_given u.next) d.at.does.change in omega (arith, g, n)) (ap (λ (u : Table). u.schema) d.at.does.change) refl (λ x h. old s (ev.CreateMutation command) x h)
 leaves s t (ev.DropPartition p) r m (inr (inr d)) = same-leaves s (ev.DropPartition p) t d.unchanged
 leaves s t (ev.DropPartition p) r m (inr (inl d)) = same-leaves s (ev.DropPartition p) t d.unchanged
 leaves s t (ev.DropPartition p) r m (inl d) =
     let a = d.1.at in
     part-leaves s (ev.DropPartition p) t a.new s.replicas s.attempts a.change
-    (let g = given-next s.table.next p in let n = ap (λ (u : Table). numbers_given u.next) a.does.change ∙ ap (λ n. numbers_given (with_next s.table.next p (n + 1))) a.does.number in omega (arith, g, n)) refl (λ x h. old s (ev.DropPartition p) x h)
-leaves s t (ev.Kill k) r m d = part-leaves s (ev.Kill k) t d.table (with_replica s.replicas k d.new) s.attempts d.change (given-same s.table d.table (ap (λ (u : Table). u.next) d.closes)) (length-with s.replicas k d.new) (λ x h. old s (ev.Kill k) x h)
+    (let g = given-next s.table.next p in let n = ap (λ (u : Table). numbers_given u.next) a.does.change ∙ ap (λ n. numbers_given (with_next s.table.next p (n + 1))) a.does.number in omega (arith, g, n)) (ap (λ (u : Table). u.schema) a.does.change) refl (λ x h. old s (ev.DropPartition p) x h)
+leaves s t (ev.Kill k) r m d = part-leaves s (ev.Kill k) t d.table (with_replica s.replicas k d.new) s.attempts d.change (given-same s.table d.table (ap (λ (u : Table). u.next) d.closes)) (ap (λ (u : Table). u.schema) d.closes) (length-with s.replicas k d.new) (λ x h. old s (ev.Kill k) x h)
 leaves s t (ev.Restart k) r m d =
-    part-leaves s (ev.Restart k) t d.table (with_replica s.replicas k d.new) s.attempts d.change (given-same s.table d.table (ap (λ (u : Table). u.next) d.opens ∙ ap (λ (u : Table). u.next) d.closes)) (length-with s.replicas k d.new) (λ x h. old s (ev.Restart k) x h)
+    part-leaves s (ev.Restart k) t d.table (with_replica s.replicas k d.new) s.attempts d.change (given-same s.table d.table (ap (λ (u : Table). u.next) d.opens ∙ ap (λ (u : Table). u.next) d.closes)) (ap (λ (u : Table). u.schema) d.opens ∙ ap (λ (u : Table). u.schema) d.closes) (length-with s.replicas k d.new) (λ x h. old s (ev.Restart k) x h)
 
 -- ---- a cluster, from event to event
 
--- a replica of the table that a cluster sees
-pub is-replica : (s : StateView) (k : ℕ) → IsState s → IsNumber k (length (map shown s.replicas)) → IsReplica s.tree k
-is-replica s k w h = let u = h.first in let v = h.last in let m = length-shown s.replicas in let l = w.all in record { first = u; last = omega (arith, v, m, l) }
+-- as many replicas as the table has
+as-all : (s : StateView) → IsState s → length (map shown s.replicas) ≡ length s.tree.sessions
+as-all s w = length-shown s.replicas ∙ w.all
 
 pub may-act : (s : StateView) (made : ℕ) (attempts : List Attempt) (events : List (Event × Reply)) (e : Event) → IsState s → MayStep (cluster_of s made attempts events) e → MayAct s e
-may-act s made attempts events (ev.Allocate k b need) w m = (is-replica s k w m.0, m.1)
-may-act s made attempts events (ev.Again id) w m = m
-may-act s made attempts events (ev.Stage id) w m = m
-may-act s made attempts events (ev.Commit id) w m = m
-may-act s made attempts events (ev.Abandon id) w m = m
-may-act s made attempts events (ev.Pull k) w m = is-replica s k w m
-may-act s made attempts events (ev.Apply k i) w m = m
-may-act s made attempts events (ev.Merge k sources) w m = is-replica s k w m
-may-act s made attempts events (ev.Mutate k old upto) w m = is-replica s k w m
-may-act s made attempts events (ev.CreateMutation command) w m = m
-may-act s made attempts events (ev.DropPartition p) w m = m
-may-act s made attempts events (ev.Kill k) w m = is-replica s k w m
-may-act s made attempts events (ev.Restart k) w m = is-replica s k w m
-may-act s made attempts events (ev.Fetches k allowed) w m = m
+may-act s made attempts events e w m = subst (λ n. IsTaken s.tree.schema n e) (as-all s w) m
 
 -- what is staged under an attempt's number is its block, as all is whole
 pub suits : (s : StateView) (a : OpenAttempts) (events : List (Event × Reply)) → IsState s → IsCluster s a events → SuitAttempts s a
@@ -187,31 +178,40 @@ suits s a events w c = record {
   staged = λ r h z i x k p n. IsRightlyStaged.of_try (Each-at (IsRightlyStaged (cluster_of s a.made a.open_ones events)) r.staged z (Follows.waiting (Each-at (Follows (cluster_of s a.made a.open_ones events)) (map shown s.replicas) r c.whole.follow h)) i) x k p n;
 }
 
+-- as many replicas after an event
+sizes : (s t : StateView) (a b : OpenAttempts) (events : List (Event × Reply)) (e : Event) → Leaves (cluster_of s a.made a.open_ones events) e (cluster_of t b.made b.open_ones events) → length t.replicas ≡ length s.replicas
+sizes s t a b events e l = sym (length-shown t.replicas) ∙ (l.replicas ∙ length-shown s.replicas)
+
+-- each of the events was one that the state's cluster takes
+abbrev AreTakenBy : StateView → List (Event × Reply) → Type 0
+AreTakenBy s events = Each (λ x. IsTaken s.tree.schema (length s.replicas) x.0) events
+
 -- the rest of a cluster after an event
-kept-here : (s t : StateView) (a b : OpenAttempts) (events : List (Event × Reply)) (e : Event) → IsState s → MayAct s e → ((x : Attempt) → Has a.open_ones x → IsNumber x.replica (length s.replicas)) → Leaves (cluster_of s a.made a.open_ones events) e (cluster_of t b.made b.open_ones events)
+kept-here : (s t : StateView) (a b : OpenAttempts) (events : List (Event × Reply)) (e : Event) → MayStep (cluster_of s a.made a.open_ones events) e → ((x : Attempt) → Has a.open_ones x → IsNumber x.replica (length s.replicas)) → Leaves (cluster_of s a.made a.open_ones events) e (cluster_of t b.made b.open_ones events)
     → (x : Attempt) → Has b.open_ones x → IsNumber x.replica (length t.replicas)
-kept-here s t a b events e w m f l x h = go (l.attempts x h)
+kept-here s t a b events e m f l x h = go (l.attempts x h)
   where
-    sizes : length t.replicas ≡ length s.replicas
-    sizes = sym (length-shown t.replicas) ∙ (l.replicas ∙ length-shown s.replicas)
-
     moved : (k : ℕ) → IsNumber k (length s.replicas) → IsNumber k (length t.replicas)
-    moved k i = subst (IsNumber k) (sym sizes) i
-
-    named : (k : ℕ) → IsReplica s.tree k → IsNumber k (length s.replicas)
-    named k i = let p = i.first in let q = i.last in let n = w.all in record { first = p; last = omega (arith, q, n) }
+    moved k i = subst (IsNumber k) (sym (sizes s t a b events e l)) i
 
     go : IsFromOne (cluster_of s a.made a.open_ones events) e x → IsNumber x.replica (length t.replicas)
     go (inl y) = moved x.replica (subst (λ k. IsNumber k (length s.replicas)) (sym y.2) (f y.0 y.1))
-    go (inr y) = moved x.replica (subst (λ k. IsNumber k (length s.replicas)) (sym y.4) (named y.0 (subst (MayAct s) y.3 m).0))
+    go (inr y) = moved x.replica (subst (λ k. IsNumber k (length s.replicas)) (sym y.4) (subst (IsNumber y.0) (length-shown s.replicas) (subst (MayStep (cluster_of s a.made a.open_ones events)) y.3 m).0))
 
-pub stepped : (s t : StateView) (a b : OpenAttempts) (events : List (Event × Reply)) (e : Event) (r : Reply) → IsState s → MayStep (cluster_of s a.made a.open_ones events) e → IsCluster s a events → ActsWith s a e r t b → IsCluster t b ((e, r) ∷ events)
-stepped s t a b events e r w m c d =
+-- the events so far are as they were taken
+kept-taken : (s t : StateView) (events : List (Event × Reply)) → AreTakenBy s events → t.tree.schema ≡ s.tree.schema → length t.replicas ≡ length s.replicas → AreTakenBy t events
+kept-taken s t events k m n =
+    subst (λ (z : Shape). Each (λ x. IsTaken z (length t.replicas) x.0) events) (sym m) (subst (λ l. Each (λ x. IsTaken s.tree.schema l x.0) events) (sym n) k)
+
+pub stepped : (s t : StateView) (a b : OpenAttempts) (events : List (Event × Reply)) (e : Event) (r : Reply) → MayStep (cluster_of s a.made a.open_ones events) e → IsCluster s a events → ActsWith s a e r t b → IsCluster t b ((e, r) ∷ events)
+stepped s t a b events e r m c d =
     let l = leaves (cluster_of s a.made a.open_ones events) (cluster_of t b.made b.open_ones events) e r m (d events) in
+    let taken : AreTakenBy s ((e, r) ∷ events) = (subst (λ n. IsTaken s.tree.schema n e) (length-shown s.replicas) m, c.taken) in
     record {
       whole = whole-step (cluster_of s a.made a.open_ones events) (cluster_of t b.made b.open_ones ((e, r) ∷ events)) e r c.whole (record { after = cluster_of t b.made b.open_ones events; does = d events; stored = refl });
       counted = let n = l.counts in let o = c.counted in omega (arith, n, o);
-      here = kept-here s t a b events e w (may-act s a.made a.open_ones events e w m) c.here l;
+      here = kept-here s t a b events e m c.here l;
+      taken = kept-taken s t ((e, r) ∷ events) taken l.schema (sizes s t a b events e l);
     }
 
 same-cluster : (s t : StateView) (a b : OpenAttempts) (events : List (Event × Reply)) → IsCluster s a events → AreSame a b → t ≡ s → IsCluster t b events
@@ -220,80 +220,108 @@ same-cluster s t a b events c e q =
       whole = subst (λ (xs : List Attempt). IsWhole (cluster_of s b.made xs events)) (sym e.open_ones) (subst (λ n. IsWhole (cluster_of s n a.open_ones events)) (sym e.made) c.whole);
       counted = let m = e.made in let o = c.counted in omega (arith, m, o);
       here = λ x h. c.here x (subst (λ (xs : List Attempt). Has xs x) e.open_ones h);
+      taken = c.taken;
     })
 
 -- a cluster after an event for which no memory was left
-pub stopped : (s t : StateView) (a b : OpenAttempts) (events : List (Event × Reply)) (e : Event) → IsState s → MayStep (cluster_of s a.made a.open_ones events) e → IsCluster s a events → AfterError s a e t b → IsCluster t b events
-stopped s t a b events (ev.Allocate k x need) w m c d = same-cluster s t a b events c d.attempts d.state
-stopped s t a b events (ev.Again id) w m c d = same-cluster s t a b events c d.attempts d.state
-stopped s t a b events (ev.Stage id) w m c d = same-cluster s t a b events c d.attempts d.state
-stopped s t a b events (ev.Commit id) w m c d = same-cluster s t a b events c d.attempts d.state
-stopped s t a b events (ev.Abandon id) w m c d = same-cluster s t a b events c d.attempts d.state
-stopped s t a b events (ev.Apply k i) w m c d = absurd m
-stopped s t a b events (ev.Merge k sources) w m c d = same-cluster s t a b events c d.attempts d.state
-stopped s t a b events (ev.Mutate k old upto) w m c d = same-cluster s t a b events c d.attempts d.state
-stopped s t a b events (ev.Fetches k allowed) w m c d = absurd m
-stopped s t a b events (ev.CreateMutation command) w m c d = same-cluster s t a b events c d.attempts d.state
-stopped s t a b events (ev.DropPartition p) w m c d = same-cluster s t a b events c d.attempts d.state
-stopped s t a b events (ev.Kill k) w m c d = same-cluster s t a b events c d.attempts d.state
-stopped s t a b events (ev.Pull k) w m c d =
+pub stopped : (s t : StateView) (a b : OpenAttempts) (events : List (Event × Reply)) (e : Event) → MayStep (cluster_of s a.made a.open_ones events) e → IsCluster s a events → AfterError s a e t b → IsCluster t b events
+stopped s t a b events (ev.Allocate k x need) m c d = same-cluster s t a b events c d.attempts d.state
+stopped s t a b events (ev.Again id) m c d = same-cluster s t a b events c d.attempts d.state
+stopped s t a b events (ev.Stage id) m c d = same-cluster s t a b events c d.attempts d.state
+stopped s t a b events (ev.Commit id) m c d = same-cluster s t a b events c d.attempts d.state
+stopped s t a b events (ev.Abandon id) m c d = same-cluster s t a b events c d.attempts d.state
+stopped s t a b events (ev.Apply k i) m c d = same-cluster s t a b events c d.attempts d.state
+stopped s t a b events (ev.Merge k sources) m c d = same-cluster s t a b events c d.attempts d.state
+stopped s t a b events (ev.Mutate k old upto) m c d = same-cluster s t a b events c d.attempts d.state
+stopped s t a b events (ev.Fetches k allowed) m c d = absurd m
+stopped s t a b events (ev.CreateMutation command) m c d = same-cluster s t a b events c d.attempts d.state
+stopped s t a b events (ev.DropPartition p) m c d = same-cluster s t a b events c d.attempts d.state
+stopped s t a b events (ev.Kill k) m c d = same-cluster s t a b events c d.attempts d.state
+stopped s t a b events (ev.Pull k) m c d =
     let p = d.0.at a.made a.open_ones events in
+    let l = part-leaves (cluster_of s a.made a.open_ones events) (ev.Pull k) (cluster_of t a.made a.open_ones events) (table_at s.tree) (with_replica (map shown s.replicas) k p.new) a.open_ones p.change (omega arith) refl (length-with (map shown s.replicas) k p.new) (λ x h. old (cluster_of s a.made a.open_ones events) (ev.Pull k) x h) in
     same-cluster t t a b events (record {
       whole = whole-copies (cluster_of s a.made a.open_ones events) (cluster_of t a.made a.open_ones events) k d.0.log c.whole d.0.prefix (record { old = p.old; new = p.new; at = record { is_in = p.at.is_in; number = p.at.number }; up = p.up; does = (p.does.longer, p.does.pulls); change = p.change });
       counted = subst (λ (u : Table). a.made ≤ numbers_given u.next) (sym (ap (λ (z : Cluster). z.table) p.change)) c.counted;
-      here = kept-here s t a a events (ev.Pull k) w (may-act s a.made a.open_ones events (ev.Pull k) w m) c.here (part-leaves (cluster_of s a.made a.open_ones events) (ev.Pull k) (cluster_of t a.made a.open_ones events) (table_at s.tree) (with_replica (map shown s.replicas) k p.new) a.open_ones p.change (omega arith) (length-with (map shown s.replicas) k p.new) (λ x h. old (cluster_of s a.made a.open_ones events) (ev.Pull k) x h));
+      here = kept-here s t a a events (ev.Pull k) m c.here l;
+      taken = kept-taken s t events c.taken l.schema (sizes s t a a events (ev.Pull k) l);
     }) d.1 refl
-stopped s t a b events (ev.Restart k) w m c d =
+stopped s t a b events (ev.Restart k) m c d =
     let p = d.0 a.made a.open_ones events in
+    let l = leaves (cluster_of s a.made a.open_ones events) (cluster_of t a.made a.open_ones events) (ev.Kill k) rp.Done m p in
     same-cluster t t a b events (record {
       whole = whole-kills (cluster_of s a.made a.open_ones events) (cluster_of t a.made a.open_ones events) k rp.Done c.whole p;
-      counted = let l = leaves (cluster_of s a.made a.open_ones events) (cluster_of t a.made a.open_ones events) (ev.Kill k) rp.Done m p in let n = l.counts in let o = c.counted in omega (arith, n, o);
-      here = kept-here s t a a events (ev.Kill k) w (may-act s a.made a.open_ones events (ev.Kill k) w m) c.here (leaves (cluster_of s a.made a.open_ones events) (cluster_of t a.made a.open_ones events) (ev.Kill k) rp.Done m p);
+      counted = let n = l.counts in let o = c.counted in omega (arith, n, o);
+      here = kept-here s t a a events (ev.Kill k) m c.here l;
+      taken = kept-taken s t events c.taken l.schema (sizes s t a a events (ev.Kill k) l);
     }) d.1 refl
 
 -- as many replicas, whether or not memory was left
 pub as-many : (s t : StateView) (a b : OpenAttempts) (events : List (Event × Reply)) (e : Event) (r : Reply) → MayStep (cluster_of s a.made a.open_ones events) e → ActsWith s a e r t b → length (map shown t.replicas) ≡ length (map shown s.replicas)
 as-many s t a b events e r m d = Leaves.replicas (leaves (cluster_of s a.made a.open_ones events) (cluster_of t b.made b.open_ones events) e r m (d events))
 
-same-many : (s t : StateView) → t ≡ s → length (map shown t.replicas) ≡ length (map shown s.replicas)
-same-many s t q = ap (λ (v : StateView). length (map shown v.replicas)) q
+pub schema-stays : (s t : StateView) (a b : OpenAttempts) (events : List (Event × Reply)) (e : Event) (r : Reply) → MayStep (cluster_of s a.made a.open_ones events) e → ActsWith s a e r t b → t.tree.schema ≡ s.tree.schema
+schema-stays s t a b events e r m d = Leaves.schema (leaves (cluster_of s a.made a.open_ones events) (cluster_of t b.made b.open_ones events) e r m (d events))
 
-pub as-many-left : (s t : StateView) (a b : OpenAttempts) (e : Event) → MayAct s e → AfterError s a e t b → length (map shown t.replicas) ≡ length (map shown s.replicas)
-as-many-left s t a b (ev.Allocate k x need) m d = same-many s t d.state
-as-many-left s t a b (ev.Again id) m d = same-many s t d.state
-as-many-left s t a b (ev.Stage id) m d = same-many s t d.state
-as-many-left s t a b (ev.Commit id) m d = same-many s t d.state
-as-many-left s t a b (ev.Abandon id) m d = same-many s t d.state
-as-many-left s t a b (ev.Apply k i) m d = absurd m
-as-many-left s t a b (ev.Merge k sources) m d = same-many s t d.state
-as-many-left s t a b (ev.Mutate k old upto) m d = same-many s t d.state
-as-many-left s t a b (ev.Fetches k allowed) m d = absurd m
-as-many-left s t a b (ev.CreateMutation command) m d = same-many s t d.state
-as-many-left s t a b (ev.DropPartition p) m d = same-many s t d.state
-as-many-left s t a b (ev.Kill k) m d = same-many s t d.state
-as-many-left s t a b (ev.Pull k) m d = let p = d.0.at 0 [] [] in ap (λ (c : Cluster). length c.replicas) p.change ∙ length-with (map shown s.replicas) k p.new
-as-many-left s t a b (ev.Restart k) m d = let p = d.0 0 [] [] in ap (λ (c : Cluster). length c.replicas) p.change ∙ length-with (map shown s.replicas) k p.new
+-- ---- where no memory was left
 
--- the log after an event for which no memory was left
-pub log-stays : (s t : StateView) (a b : OpenAttempts) (e : Event) → MayAct s e → AfterError s a e t b → t.tree.log ≡ s.tree.log
-log-stays s t a b (ev.Allocate k x need) m d = ap (λ (v : StateView). v.tree.log) d.state
-log-stays s t a b (ev.Again id) m d = ap (λ (v : StateView). v.tree.log) d.state
-log-stays s t a b (ev.Stage id) m d = ap (λ (v : StateView). v.tree.log) d.state
-log-stays s t a b (ev.Commit id) m d = ap (λ (v : StateView). v.tree.log) d.state
-log-stays s t a b (ev.Abandon id) m d = ap (λ (v : StateView). v.tree.log) d.state
-log-stays s t a b (ev.Apply k i) m d = absurd m
-log-stays s t a b (ev.Merge k sources) m d = ap (λ (v : StateView). v.tree.log) d.state
-log-stays s t a b (ev.Mutate k old upto) m d = ap (λ (v : StateView). v.tree.log) d.state
-log-stays s t a b (ev.Fetches k allowed) m d = absurd m
-log-stays s t a b (ev.CreateMutation command) m d = ap (λ (v : StateView). v.tree.log) d.state
-log-stays s t a b (ev.DropPartition p) m d = ap (λ (v : StateView). v.tree.log) d.state
-log-stays s t a b (ev.Kill k) m d = ap (λ (v : StateView). v.tree.log) d.state
-log-stays s t a b (ev.Pull k) m d = ap (λ (c : Cluster). c.table.log) (d.0.at 0 [] []).change
-log-stays s t a b (ev.Restart k) m d =
-    let p = d.0 0 [] [] in
-    ap (λ (c : Cluster). c.table.log) p.change ∙ ap (λ (u : Table). u.log) p.closes
+same-view : (s t : StateView) (a b : OpenAttempts) (events : List (Event × Reply)) → t ≡ s → AreSame a b → cluster_of t b.made b.open_ones events ≡ cluster_of s a.made a.open_ones events
+same-view s t a b events q e =
+    ap (λ (v : StateView). cluster_of v b.made b.open_ones events) q ∙ (ap (λ n. cluster_of s n b.open_ones events) e.made ∙ ap (λ (xs : List Attempt). cluster_of s a.made xs events) e.open_ones)
+
+pub stops : (s t : StateView) (a b : OpenAttempts) (events : List (Event × Reply)) (e : Event) → AfterError s a e t b → Stops (cluster_of s a.made a.open_ones events) e (cluster_of t b.made b.open_ones events)
+stops s t a b events (ev.Allocate k x need) d = same-view s t a b events d.state d.attempts
+stops s t a b events (ev.Again id) d = same-view s t a b events d.state d.attempts
+stops s t a b events (ev.Stage id) d = same-view s t a b events d.state d.attempts
+stops s t a b events (ev.Commit id) d = same-view s t a b events d.state d.attempts
+stops s t a b events (ev.Abandon id) d = same-view s t a b events d.state d.attempts
+stops s t a b events (ev.Apply k i) d = same-view s t a b events d.state d.attempts
+stops s t a b events (ev.Merge k sources) d = same-view s t a b events d.state d.attempts
+stops s t a b events (ev.Mutate k old upto) d = same-view s t a b events d.state d.attempts
+stops s t a b events (ev.Fetches k allowed) d = same-view s t a b events d.state d.attempts
+stops s t a b events (ev.CreateMutation command) d = same-view s t a b events d.state d.attempts
+stops s t a b events (ev.DropPartition p) d = same-view s t a b events d.state d.attempts
+stops s t a b events (ev.Kill k) d = same-view s t a b events d.state d.attempts
+stops s t a b events (ev.Pull k) d =
+    let p = d.0.at a.made a.open_ones events in
+    record { log = d.0.log; prefix = d.0.prefix; at = record { old = p.old; new = p.new; at = p.at; up = p.up; does = p.does; change = same-view t t a b events refl d.1 ∙ p.change } }
+stops s t a b events (ev.Restart k) d =
+    subst (λ (z : Cluster). Kills (cluster_of s a.made a.open_ones events) k rp.Done z) (sym (same-view t t a b events refl d.1)) (d.0 a.made a.open_ones events)
+
+-- what stays so of a cluster: its log, its schema, and how many replicas it has
+pub record Rests (s t : Cluster) : Type 0 where
+  pub log : t.table.log ≡ s.table.log
+  pub schema : t.table.schema ≡ s.table.schema
+  pub replicas : length t.replicas ≡ length s.replicas
+
+same-rests : (s t : Cluster) → t ≡ s → Rests s t
+same-rests s t q = record { log = ap (λ (z : Cluster). z.table.log) q; schema = ap (λ (z : Cluster). z.table.schema) q; replicas = ap (λ (z : Cluster). length z.replicas) q }
+
+pub rests : (s t : Cluster) (e : Event) → Stops s e t → Rests s t
+rests s t (ev.Allocate k x need) d = same-rests s t d
+rests s t (ev.Again id) d = same-rests s t d
+rests s t (ev.Stage id) d = same-rests s t d
+rests s t (ev.Commit id) d = same-rests s t d
+rests s t (ev.Abandon id) d = same-rests s t d
+rests s t (ev.Apply k i) d = same-rests s t d
+rests s t (ev.Merge k sources) d = same-rests s t d
+rests s t (ev.Mutate k old upto) d = same-rests s t d
+rests s t (ev.Fetches k allowed) d = same-rests s t d
+rests s t (ev.CreateMutation command) d = same-rests s t d
+rests s t (ev.DropPartition p) d = same-rests s t d
+rests s t (ev.Kill k) d = same-rests s t d
+rests s t (ev.Pull k) d = let q = d.at.change in record {
+  log = ap (λ (z : Cluster). z.table.log) q;
+  schema = ap (λ (z : Cluster). z.table.schema) q;
+  replicas = ap (λ (z : Cluster). length z.replicas) q ∙ length-with s.replicas k d.at.new;
+}
+rests s t (ev.Restart k) d = let q = d.change in record {
+  log = ap (λ (z : Cluster). z.table.log) q ∙ ap (λ (u : Table). u.log) d.closes;
+  schema = ap (λ (z : Cluster). z.table.schema) q ∙ ap (λ (u : Table). u.schema) d.closes;
+  replicas = ap (λ (z : Cluster). length z.replicas) q ∙ length-with s.replicas k d.new;
+}
 
 -- the event that is stored last is the newest
-pub stored-last : (olds room news : List (Event × Reply)) (e : Event) (r copied : Reply) → room ≡ olds → news ≡ room ++ (e, copied) ∷ [] → copied ≡ r → reverse news ≡ (e, r) ∷ reverse olds
-stored-last olds room news e r copied q n c =
-    ap reverse n ∙ (ap (λ (es : List (Event × Reply)). reverse (es ++ (e, copied) ∷ [])) q ∙ (reverse-append olds ((e, copied) ∷ []) ∙ ap (λ (z : Reply). (e, z) ∷ reverse olds) c))
+pub stored-last : (olds room news : List (Event × Reply)) (e : Event) (r : Reply) → room ≡ olds → news ≡ room ++ (e, r) ∷ [] → reverse news ≡ (e, r) ∷ reverse olds
+stored-last olds room news e r q n =
+    ap reverse n ∙ (ap (λ (es : List (Event × Reply)). reverse (es ++ (e, r) ∷ [])) q ∙ reverse-append olds ((e, r) ∷ []))

@@ -5,6 +5,8 @@ pub mod PullLemmas
 pub mod StageLemmas
 pub mod ChangeLemmas
 pub mod AssignLemmas
+pub mod ApplyLemmas
+pub mod AcceptedLemmas
 pub mod InsertLemmas
 pub mod CauseLemmas
 pub mod InsertActs

@@ -1,7 +1,7 @@
 -- A new cluster, put together from a new state.
 use Rattle.std.proofs.Common.{◌≡◌, suc, Bool, List, [], ◌∷◌, map, length, refl, sym, ap, subst, arith, ◌∙◌}
 use Rattle.rmt_values.specs.Rows.{Shape}
-use Rattle.rmt_model.specs.Words.{Has}
+use Rattle.rmt_model.specs.Words.{Has, Each}
 use Rattle.rmt_replica.specs.Replicas.{ReplicaView}
 use Rattle.rmt_replica_view.specs.Shown.{shown}
 use Rattle.rmt_events.specs.Clusters.{Attempt}
@@ -12,7 +12,7 @@ use Rattle.rmt_cluster.specs.States.{StateView, cluster_of}
 use Rattle.rmt_cluster.specs.NewStates.{IsNewState}
 use Rattle.rmt_cluster.specs.Attempts.{OpenAttempts}
 use Rattle.rmt_cluster.specs.NewClusters.{IsNewCluster}
-use Rattle.rmt_cluster.specs.Clusters.{IsCluster}
+use Rattle.rmt_cluster.specs.Clusters.{IsTaken, IsCluster}
 use Rattle.rmt_cluster.proofs.NewLemmas.{new-cluster, new-is-whole}
 
 -- nothing stands beside the state
@@ -25,6 +25,7 @@ new-invariant schema up s a events n m o e = record {
   whole = subst IsWhole (sym (nothing-beside s a events m o e)) (new-is-whole schema up s n);
   counted = omega (arith, m);
   here = λ x h. absurd (subst (λ (xs : List Attempt). Has xs x) o h);
+  taken = subst (λ (es : List (Event × Reply)). Each (λ x. IsTaken s.tree.schema (length s.replicas) x.0) es) (sym e) tt;
 }
 
 up-shown : (rs : List ReplicaView) → map (λ r. r.up) (map shown rs) ≡ map (λ r. r.up) rs

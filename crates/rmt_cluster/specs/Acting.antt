@@ -1,7 +1,12 @@
 -- What an event of an insert does to a state and the open attempts.
-use Rattle.std.specs.Prelude.{◌≡◌, ℕ, List, map}
+use Rattle.std.specs.Prelude.{◌≡◌, ℕ, List, map, IfSome}
+use Rattle.std.specs.declared.option.Option.TheVariants.{Some}
+use Rattle.rmt_entries.specs.declared.entry.Entry.{Entry}
 use Rattle.rmt_model.specs.Words.{Has}
+use Rattle.rmt_model.specs.Lawful.{entry_at}
+use Rattle.rmt_replica.specs.Replicas.{ReplicaView, IsStandingReplica}
 use Rattle.rmt_replica_view.specs.Shown.{shown}
+use Rattle.rmt_supply.specs.PartSources.{staged_for, IsAccepted}
 use Rattle.rmt_events.specs.Views.{Replica, Staged}
 use Rattle.rmt_events.specs.Clusters.{Attempt}
 use Rattle.rmt_events.specs.ReplicaCalls.{Unstages}
@@ -22,6 +27,10 @@ ActsWith s a event reply t b = (events : List (Event × Reply)) → Does (cluste
 pub record AreSame (a b : OpenAttempts) : Type 0 where
   pub made : b.made ≡ a.made
   pub open_ones : b.open_ones ≡ a.open_ones
+
+-- what is staged at a replica for an entry of the log is the block that it accepted
+abbrev pub KeepsAccepted : StateView → Type 0
+KeepsAccepted s = (r : ReplicaView) → Has s.replicas r → IsStandingReplica r → (i : ℕ) (e : Entry) → entry_at s.tree.log i ≡ Some e → IfSome (staged_for r e) (IsAccepted s.tree.schema e)
 
 -- each attempt is made at a replica of the table; what is staged under its number at a replica is its block
 pub record SuitAttempts (s : StateView) (a : OpenAttempts) : Type 0 where

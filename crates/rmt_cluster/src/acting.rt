@@ -1,6 +1,6 @@
 //! What an event does, apart from being stored.
 ghost use Rattle.std.specs.Prelude.{◌≡◌, ◌+◌, ◌<◌, ◌^◌, IfOk, OnErr};
-ghost use Rattle.rmt_cluster.specs.Acting.{ActsWith, SuitAttempts};
+ghost use Rattle.rmt_cluster.specs.Acting.{ActsWith, KeepsAccepted, SuitAttempts};
 ghost use Rattle.rmt_cluster.specs.Clusters.{MayAct, AfterError};
 
 use crate::attempts::Attempts;
@@ -19,6 +19,7 @@ pub(crate) fn act(
 ) -> Result<Reply, AllocError>
     requires may { MayAct state.old event.now }
     requires suit { SuitAttempts state.old attempts.old }
+    requires accepted { KeepsAccepted state.old }
     requires few { attempts.old.made + 1 < 2 ^ 32 }
     ensures ok { IfOk result (λ reply. ActsWith state.old attempts.old event.now reply state.new attempts.new) }
     ensures err { OnErr result (AfterError state.old attempts.old event.now state.new attempts.new) }
@@ -32,6 +33,7 @@ pub(crate) fn act(
         Event::Commit { attempt } => inserts::commit(alloc, state, attempts, *attempt),
         Event::Abandon { attempt } => inserts::abandon(alloc, state, attempts, *attempt),
         Event::Pull { replica } => state.pull(alloc, *replica),
+        Event::Apply { replica, entry } => state.apply(alloc, *replica, *entry),
         Event::Merge { replica, sources } => state.merge(alloc, *replica, sources.as_slice()),
         Event::Mutate { replica, old, upto } => state.mutate(alloc, *replica, old, *upto),
         Event::CreateMutation { command } => {
@@ -46,6 +48,6 @@ pub(crate) fn act(
             state.restart(alloc, *replica)?;
             Ok(Reply::Done)
         }
-        Event::Apply { .. } | Event::Fetches { .. } => unreachable!(),
+        Event::Fetches { .. } => unreachable!(),
     }
 }

@@ -1,9 +1,10 @@
 //! Why a call on the table did nothing, as an event is answered.
 ghost use Rattle.std.specs.Prelude.{◌≡◌};
-ghost use Rattle.rmt_cluster.specs.Causes.{allocate_cause, commit_cause, merge_cause, IsMergeReply, IsMutateReply, is_final as ends_attempt};
+ghost use Rattle.rmt_cluster.specs.Causes.{allocate_cause, commit_cause, merge_cause, IsMergeReply, IsMutateReply, IsApplyReply, what_came, is_final as ends_attempt};
 
 use rmt_entries::Entry;
-use rmt_events::{Reply, StepRefused};
+use rmt_events::{Applied, Reply, StepRefused};
+use rmt_replica::{Applied as Done, ApplyError};
 use rmt_row::Seen;
 use rmt_table::{AllocateError, CommitError, MergeError, MutateError};
 use std::alloc::AllocError;
@@ -112,5 +113,28 @@ pub(crate) fn mutate_reply(
             Ok(Reply::Refused(StepRefused::LimitReached { limit, value }))
         }
         Err(MutateError::Memory) => Err(AllocError),
+    }
+}
+
+/// What an entry came to at its replica, as an event is answered.
+fn what_it_came_to(done: Done) -> Applied
+    ensures { result ≡ what_came done }
+{
+    match done {
+        Done::Already => Applied::Already,
+        Done::Dropped => Applied::Dropped,
+        Done::Installed => Applied::Installed,
+    }
+}
+
+/// The reply to an entry that a replica looked at. At an error no memory was left.
+pub(crate) fn apply_reply(answer: Result<Done, ApplyError>) -> Result<Reply, AllocError>
+    ensures { IsApplyReply answer result }
+{
+    match answer {
+        Ok(done) => Ok(Reply::Applied(what_it_came_to(done))),
+        Err(ApplyError::Down) => Ok(Reply::Refused(StepRefused::Down)),
+        Err(ApplyError::NeedsPart(part)) => Ok(Reply::Refused(StepRefused::NeedsPart(part))),
+        Err(ApplyError::Memory) => Err(AllocError),
     }
 }

@@ -12,7 +12,7 @@ ghost use Rattle.rmt_events.specs.Whole.{IsWhole};
 ghost use Rattle.rmt_table.specs.TableTrees.{table_at};
 ghost use Rattle.rmt_replica_view.specs.Shown.{shown};
 ghost use Rattle.rmt_cluster.specs.NewClusters.{IsNewCluster};
-ghost use Rattle.rmt_cluster.specs.Clusters.{MayStep};
+ghost use Rattle.rmt_cluster.specs.Clusters.{MayStep, Stops};
 
 use crate::acting::act;
 use crate::attempts::Attempts;
@@ -95,7 +95,9 @@ impl Cluster {
     pub fn step(&mut self, alloc: Global, event: Event) -> Result<Reply, AllocError>
         requires may { MayStep self.old event }
         ensures ok { IfOk result (λ reply. Step self.old event reply self.new) }
-        ensures err { OnErr result (self.new.table.log ≡ self.old.table.log) }
+        ensures err { OnErr result (Stops self.old event self.new) }
+        ensures log { OnErr result (self.new.table.log ≡ self.old.table.log) }
+        ensures schema { self.new.table.schema ≡ self.old.table.schema }
         ensures replicas { length self.new.replicas ≡ length self.old.replicas }
         ensures whole { IsWhole self.old }
     {

@@ -2,6 +2,7 @@ ghost use Rattle.std.specs.Prelude.{◌≤◌};
 ghost use Rattle.rmt_cluster.specs.States.{IsState};
 ghost use Rattle.rmt_cluster.specs.Clusters.{numbers_given};
 
+mod apply;
 mod assign;
 mod changes;
 mod inserts;

@@ -20,7 +20,7 @@ use Rattle.rmt_part.specs.Lineages.{AcceptedView, PartValue, IsPart, IsOfLog}
 use Rattle.rmt_part.specs.CopiedPart.{copied}
 use Rattle.rmt_partset.specs.ActiveParts.{part_names}
 use Rattle.rmt_compact.specs.NewParts.{GetsBlock, IsOfBlock}
-use Rattle.rmt_replica.specs.Replicas.{ReplicaView}
+use Rattle.rmt_replica.specs.Replicas.{ReplicaView, IsStandingReplica}
 use Rattle.rmt_replica.specs.StagedBlocks.{staged_at}
 use Rattle.rmt_replica.specs.Answers as own
 use Rattle.rmt_replica.specs.declared.supply.Supply.{Supply}
@@ -53,7 +53,7 @@ pub record AreOfOneTable (replicas : List ReplicaView) (i : ℕ) : Type 0 where
   pub log : List Entry
   pub numbered : (j : ℕ) (r : ReplicaView) → slice_get replicas j ≡ Some r → r.number ≡ 1 + j
   pub copies : (r : ReplicaView) → Has replicas r → (r.schema ≡ schema) × IsPrefix r.log log
-  pub accepted : (r : ReplicaView) → Has replicas r → (e : Entry) → entry_at log i ≡ Some e → IfSome (staged_for r e) (IsAccepted schema e)
+  pub accepted : (r : ReplicaView) → Has replicas r → IsStandingReplica r → (e : Entry) → entry_at log i ≡ Some e → IfSome (staged_for r e) (IsAccepted schema e)
 
 -- a cluster of these replicas, and of this schema
 pub record IsClusterOf (schema : Shape) (replicas : List ReplicaView) (s : Cluster) : Type 0 where

@@ -1,10 +1,43 @@
-use Rattle.std.proofs.Common.{◌∙◌, List, sym, ap, subst}
+use Rattle.std.proofs.Common.{ℕ, length, ◌∙◌, List, sym, ap, subst}
 use Rattle.rmt_names.specs.Names.{Name}
 use Rattle.rmt_events.specs.declared.event.Event.{Event}
 use Rattle.rmt_events.specs.declared.event.Event.TheVariants as ev
+use Rattle.rmt_table.specs.TableTrees.{IsReplica}
+use Rattle.rmt_table_model.specs.Held.{Held}
 use Rattle.rmt_cluster.specs.Acting.{ActsWith}
+use Rattle.rmt_cluster.specs.Clusters.{IsNumber, MayAct}
 use Rattle.rmt_cluster.proofs.ChangeLemmas.{if-ok}
 use Rattle.rmt_cluster.proofs.acting.act.Goals as goal
+
+-- a number of a replica of the table
+is-here : (tree : Held) (k : ℕ) → IsNumber k (length tree.sessions) → IsReplica tree k
+is-here tree k n = record { first = n.first; last = n.last }
+
+pub allocate-requires-clause-here : goal.allocate-requires-clause-here
+allocate-requires-clause-here c = is-here c.args.state.now.tree c.in-Allocate.replica (subst (MayAct c.args.state.now) c.in-Allocate.is c.requires.may).0
+
+pub pull-requires-clause-here : goal.pull-requires-clause-here
+pull-requires-clause-here c = is-here c.args.state.now.tree c.in-Pull.replica (subst (MayAct c.args.state.now) c.in-Pull.is c.requires.may)
+
+pub apply-requires-clause-here : goal.apply-requires-clause-here
+apply-requires-clause-here c = is-here c.args.state.now.tree c.in-Apply.replica (subst (MayAct c.args.state.now) c.in-Apply.is c.requires.may)
+
+pub merge-requires-clause-here : goal.merge-requires-clause-here
+merge-requires-clause-here c = is-here c.args.state.now.tree c.in-Merge.replica (subst (MayAct c.args.state.now) c.in-Merge.is c.requires.may)
+
+pub mutate-requires-clause-here : goal.mutate-requires-clause-here
+mutate-requires-clause-here c = is-here c.args.state.now.tree c.in-Mutate.replica (subst (MayAct c.args.state.now) c.in-Mutate.is c.requires.may)
+
+pub kill-requires-clause-here : goal.kill-requires-clause-here
+kill-requires-clause-here c = is-here c.args.state.now.tree c.in-Kill.replica (subst (MayAct c.args.state.now) c.in-Kill.is c.requires.may)
+
+pub restart-requires-clause-here : goal.restart-requires-clause-here
+restart-requires-clause-here c = is-here c.args.state.now.tree c.in-Restart.replica (subst (MayAct c.args.state.now) c.in-Restart.is c.requires.may)
+
+pub returns-in-Apply-clause-ok : goal.returns-in-Apply-clause-ok
+returns-in-Apply-clause-ok c =
+    let a = c.args.attempts.now in
+    if-ok _ _ _ (λ r p. subst (λ (e : Event). ActsWith c.args.state.now a e r c.apply.new.self a) (sym c.in-Apply.is) (λ events. p a.made a.open_ones events)) c.apply.ensures.ok
 
 pub returns-in-DropPartition-clause-ok : goal.returns-in-DropPartition-clause-ok
 returns-in-DropPartition-clause-ok c =

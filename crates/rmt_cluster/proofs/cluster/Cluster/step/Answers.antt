@@ -4,9 +4,10 @@ use Rattle.rmt_events.specs.Steps.{Step}
 use Rattle.rmt_events.specs.declared.event.Event.{Event}
 use Rattle.rmt_events.specs.declared.reply.Reply.{Reply}
 use Rattle.rmt_cluster.specs.States.{cluster_of}
-use Rattle.rmt_cluster.specs.Clusters.{IsCluster, MayStep}
+use Rattle.rmt_cluster.specs.Clusters.{IsCluster, MayStep, Stops}
 use Rattle.rmt_cluster.proofs.StateLemmas.{at-err}
-use Rattle.rmt_cluster.proofs.ClusterLemmas.{may-act, suits, stepped, stopped, as-many, as-many-left, log-stays, stored-last}
+use Rattle.rmt_cluster.proofs.AcceptedLemmas.{keeps-accepted}
+use Rattle.rmt_cluster.proofs.ClusterLemmas.{may-act, suits, stepped, stopped, stops, rests, as-many, schema-stays, stored-last}
 use Rattle.rmt_cluster.proofs.cluster.Cluster.step.Goals as goal
 
 pub act-requires-clause-may : goal.act-requires-clause-may
@@ -19,26 +20,58 @@ act-requires-clause-suit c =
     let i = c.self.inside in
     suits i.state i.attempts (reverse i.events.items) c.sound.ensures.state c.self.invariant
 
+pub act-requires-clause-accepted : goal.act-requires-clause-accepted
+act-requires-clause-accepted c =
+    let i = c.self.inside in
+    keeps-accepted i.state i.attempts (reverse i.events.items) c.self.invariant
+
 pub invariant_of-self-in_err-reply : goal.invariant_of-self-in_err-reply
 invariant_of-self-in_err-reply c =
     let i = c.self.inside in
     let m = subst (λ (v : Cluster). MayStep v c.args.event) (sym c.self.view_is) c.requires.may in
     subst (λ (es : List (Event × Reply)). IsCluster c.act.new.state c.act.new.attempts (reverse es)) (sym c.in_ok-reserve.ensures.items)
-    (stopped i.state c.act.new.state i.attempts c.act.new.attempts (reverse i.events.items) c.args.event c.sound.ensures.state m c.self.invariant c.in_err-reply.ensures.err)
+    (stopped i.state c.act.new.state i.attempts c.act.new.attempts (reverse i.events.items) c.args.event m c.self.invariant c.in_err-reply.ensures.err)
 
 pub returns-in_err-reply-clause-err : goal.returns-in_err-reply-clause-err
 returns-in_err-reply-clause-err c =
     let i = c.self.inside in
-    let m = subst (λ (v : Cluster). MayStep v c.args.event) (sym c.self.view_is) c.requires.may in
-    let a = may-act i.state i.attempts.made i.attempts.open_ones (reverse i.events.items) c.args.event c.sound.ensures.state m in
-    at-err c.from_residual-in_err-reply.result _ (log-stays i.state c.act.new.state i.attempts c.act.new.attempts c.args.event a c.in_err-reply.ensures.err ∙ ap (λ (v : Cluster). v.table.log) c.self.view_is)
+    let t = c.act.new.state in
+    let b = c.act.new.attempts in
+    at-err c.from_residual-in_err-reply.result _
+    (subst (λ (v : Cluster). Stops v c.args.event (cluster_of t b.made b.open_ones (reverse c.reserve.new.self.items))) c.self.view_is
+    (subst (λ (es : List (Event × Reply)). Stops (cluster_of i.state i.attempts.made i.attempts.open_ones (reverse i.events.items)) c.args.event (cluster_of t b.made b.open_ones (reverse es))) (sym c.in_ok-reserve.ensures.items)
+    (stops i.state t i.attempts b (reverse i.events.items) c.args.event c.in_err-reply.ensures.err)))
+
+pub returns-in_err-reply-clause-log : goal.returns-in_err-reply-clause-log
+returns-in_err-reply-clause-log c =
+    let i = c.self.inside in
+    let s = cluster_of i.state i.attempts.made i.attempts.open_ones (reverse i.events.items) in
+    let t = cluster_of c.act.new.state c.act.new.attempts.made c.act.new.attempts.open_ones (reverse i.events.items) in
+    let r = rests s t c.args.event (stops i.state c.act.new.state i.attempts c.act.new.attempts (reverse i.events.items) c.args.event c.in_err-reply.ensures.err) in
+    at-err c.from_residual-in_err-reply.result _ (r.log ∙ ap (λ (v : Cluster). v.table.log) c.self.view_is)
+
+pub returns-in_err-reply-clause-schema : goal.returns-in_err-reply-clause-schema
+returns-in_err-reply-clause-schema c =
+    let i = c.self.inside in
+    let s = cluster_of i.state i.attempts.made i.attempts.open_ones (reverse i.events.items) in
+    let t = cluster_of c.act.new.state c.act.new.attempts.made c.act.new.attempts.open_ones (reverse i.events.items) in
+    let r = rests s t c.args.event (stops i.state c.act.new.state i.attempts c.act.new.attempts (reverse i.events.items) c.args.event c.in_err-reply.ensures.err) in
+    r.schema ∙ ap (λ (v : Cluster). v.table.schema) c.self.view_is
+
+pub returns-in_err-reply-clause-replicas : goal.returns-in_err-reply-clause-replicas
+returns-in_err-reply-clause-replicas c =
+    let i = c.self.inside in
+    let s = cluster_of i.state i.attempts.made i.attempts.open_ones (reverse i.events.items) in
+    let t = cluster_of c.act.new.state c.act.new.attempts.made c.act.new.attempts.open_ones (reverse i.events.items) in
+    let r = rests s t c.args.event (stops i.state c.act.new.state i.attempts c.act.new.attempts (reverse i.events.items) c.args.event c.in_err-reply.ensures.err) in
+    r.replicas ∙ ap (λ (v : Cluster). length v.replicas) c.self.view_is
 
 pub invariant_of-self-2 : goal.invariant_of-self-2
 invariant_of-self-2 c =
     let i = c.self.inside in
     let m = subst (λ (v : Cluster). MayStep v c.args.event) (sym c.self.view_is) c.requires.may in
-    subst (λ (es : List (Event × Reply)). IsCluster c.act.new.state c.act.new.attempts es) (sym (stored-last i.events.items c.reserve.new.self.items c.push.new.self.items c.args.event c.in_ok-reply.reply c.copy.result c.in_ok-reserve.ensures.items c.in_ok-push.ensures.items c.copy.ensures))
-    (stepped i.state c.act.new.state i.attempts c.act.new.attempts (reverse i.events.items) c.args.event c.in_ok-reply.reply c.sound.ensures.state m c.self.invariant c.in_ok-reply.ensures.ok)
+    subst (λ (es : List (Event × Reply)). IsCluster c.act.new.state c.act.new.attempts es) (sym (stored-last i.events.items c.reserve.new.self.items c.push.new.self.items c.args.event c.in_ok-reply.reply c.in_ok-reserve.ensures.items c.in_ok-push.ensures.items))
+    (stepped i.state c.act.new.state i.attempts c.act.new.attempts (reverse i.events.items) c.args.event c.in_ok-reply.reply m c.self.invariant c.in_ok-reply.ensures.ok)
 
 pub returns-clause-ok : goal.returns-clause-ok
 returns-clause-ok c =
@@ -48,15 +81,14 @@ returns-clause-ok c =
     subst (λ (v : Cluster). Step v c.args.event c.in_ok-reply.reply (cluster_of t b.made b.open_ones (reverse c.push.new.self.items))) c.self.view_is (record {
       after = cluster_of t b.made b.open_ones (reverse i.events.items);
       does = c.in_ok-reply.ensures.ok (reverse i.events.items);
-      stored = ap (λ (es : List (Event × Reply)). cluster_of t b.made b.open_ones es) (stored-last i.events.items c.reserve.new.self.items c.push.new.self.items c.args.event c.in_ok-reply.reply c.copy.result c.in_ok-reserve.ensures.items c.in_ok-push.ensures.items c.copy.ensures);
+      stored = ap (λ (es : List (Event × Reply)). cluster_of t b.made b.open_ones es) (stored-last i.events.items c.reserve.new.self.items c.push.new.self.items c.args.event c.in_ok-reply.reply c.in_ok-reserve.ensures.items c.in_ok-push.ensures.items);
     })
 
-pub returns-in_err-reply-clause-replicas : goal.returns-in_err-reply-clause-replicas
-returns-in_err-reply-clause-replicas c =
+pub returns-clause-schema : goal.returns-clause-schema
+returns-clause-schema c =
     let i = c.self.inside in
     let m = subst (λ (v : Cluster). MayStep v c.args.event) (sym c.self.view_is) c.requires.may in
-    let a = may-act i.state i.attempts.made i.attempts.open_ones (reverse i.events.items) c.args.event c.sound.ensures.state m in
-    as-many-left i.state c.act.new.state i.attempts c.act.new.attempts c.args.event a c.in_err-reply.ensures.err ∙ ap (λ (v : Cluster). length v.replicas) c.self.view_is
+    schema-stays i.state c.act.new.state i.attempts c.act.new.attempts (reverse i.events.items) c.args.event c.in_ok-reply.reply m c.in_ok-reply.ensures.ok ∙ ap (λ (v : Cluster). v.table.schema) c.self.view_is
 
 pub returns-clause-replicas : goal.returns-clause-replicas
 returns-clause-replicas c =

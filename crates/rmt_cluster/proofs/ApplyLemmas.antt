@@ -1,0 +1,177 @@
+-- An entry that a replica does, as a cluster sees it.
+use Rattle.std.proofs.Common.{◌≡◌, ◌⊎◌, ℕ, ◌+◌, ◌<◌, ◌≤◌, inl, inr, true, false, List, length, map, refl, sym, ap, subst, ◌∙◌, arith}
+use Rattle.std.specs.Prelude.{slice_get, slice_set, IfOk, OnErr, MatchOption}
+use Rattle.std.specs.Arc.{arc_value}
+use Rattle.std.specs.declared.alloc.AllocError.{AllocError}
+use Rattle.std.specs.declared.option.Option.{Option}
+use Rattle.std.specs.declared.option.Option.TheVariants.{Some, None}
+use Rattle.std.specs.declared.result.Result.{Result}
+use Rattle.std.specs.declared.result.Result.TheVariants.{Ok, Err}
+use Rattle.rmt_names.specs.Names.{Name, Covers}
+use Rattle.rmt_entries.specs.Entries.{result_name}
+use Rattle.rmt_entries.specs.declared.entry.Entry.{Entry}
+use Rattle.rmt_entries.specs.declared.entry.Entry.TheVariants as entries
+use Rattle.rmt_model.specs.Lawful.{entry_at, MakesAt}
+use Rattle.rmt_part.specs.Lineages.{PartValue}
+use Rattle.rmt_part.specs.CopiedPart.{copied}
+use Rattle.rmt_partset.specs.ActiveParts.{Replace, after}
+use Rattle.rmt_replica.specs.Replicas.{ReplicaView, IsStandingReplica}
+use Rattle.rmt_replica.specs.Supplies.{supplied}
+use Rattle.rmt_replica.specs.Answers as own
+use Rattle.rmt_replica.specs.declared.supply.Supply.{Supply}
+use Rattle.rmt_replica.specs.declared.supply.Supply.TheVariants.{Nothing, Built, Fetched}
+use Rattle.rmt_replica.specs.declared.applied.Applied.{Applied as Done}
+use Rattle.rmt_replica.specs.declared.applied.Applied.TheVariants as done
+use Rattle.rmt_replica.specs.declared.apply_error.ApplyError.{ApplyError}
+use Rattle.rmt_replica.specs.declared.apply_error.ApplyError.TheVariants as errors
+use Rattle.rmt_replica_view.specs.Shown.{shown}
+use Rattle.rmt_replica_view.proofs.StateViews.{already-same, dropped-same, waits-same}
+use Rattle.rmt_replica_view.proofs.CallViews.{settles-seen, drop-seen, part-seen}
+use Rattle.rmt_events.specs.Views.{Replica}
+use Rattle.rmt_events.specs.Clusters.{Attempt, Cluster}
+use Rattle.rmt_events.specs.ClusterChanges.{AtReplica}
+use Rattle.rmt_events.specs.ReplicaCalls.{Settles}
+use Rattle.rmt_events.specs.ApplyEvents.{IsSupply, AppliesTo, NoApply, LacksPart}
+use Rattle.rmt_events.specs.declared.event.Event.{Event}
+use Rattle.rmt_events.specs.declared.event.Event.TheVariants as ev
+use Rattle.rmt_events.specs.declared.reply.Reply.{Reply}
+use Rattle.rmt_events.specs.declared.reply.Reply.TheVariants as rp
+use Rattle.rmt_events.specs.declared.step_refused.StepRefused.TheVariants as rf
+use Rattle.rmt_events.specs.declared.applied.Applied.TheVariants as came
+use Rattle.rmt_supply.specs.PartSources.{IsClusterOf, Does, NeedsNone, IsBuilt, IsFetchedPart, Suits, IsMissing}
+use Rattle.rmt_cluster.specs.States.{StateView, Belongs, IsState, cluster_of, Acts}
+use Rattle.rmt_cluster.specs.Causes.{IsApplyReply, what_came}
+use Rattle.rmt_cluster.proofs.StateLemmas.{at-place, at-err}
+use Rattle.rmt_cluster.proofs.PullLemmas.{changed-at, down-in, same-state}
+use Rattle.rmt_cluster.proofs.AssignLemmas.{IsWorker, up-at, declined}
+
+-- ---- what is refused
+
+pub apply-down : (s : StateView) (k i j : ℕ) (x : ReplicaView) → IsWorker s k j x → x.up ≡ false → Acts s (ev.Apply k i) (rp.Refused rf.Down) s
+apply-down s k i j x w u made attempts events =
+    inr (declined s s.tree (λ c. NoApply c k i) rf.Down refl made attempts events (subst (λ m. NoApply (cluster_of s made attempts events) m i rf.Down) (sym w.numbered) (down-in s j x w.state w.there u made attempts events)))
+
+pub apply-past : (s : StateView) (k i j : ℕ) (x : ReplicaView) → IsWorker s k j x → x.up ≡ true → length x.log ≤ i → Acts s (ev.Apply k i) (rp.Refused rf.NotLive) s
+apply-past s k i j x w u l made attempts events = inr (declined s s.tree (λ c. NoApply c k i) rf.NotLive refl made attempts events (shown x, up-at s k j x w u made attempts events, l))
+
+-- the cluster of a state is one of its replicas
+cluster-of : (s : StateView) (k j : ℕ) (x : ReplicaView) → IsWorker s k j x → (made : ℕ) (attempts : List Attempt) (events : List (Event × Reply)) → IsClusterOf x.schema s.replicas (cluster_of s made attempts events)
+cluster-of s k j x w made attempts events = record { schema_is = sym (Belongs.copy (at-place s.tree 1 s.replicas j x w.state.numbered w.there)).schema; replicas_are = refl }
+
+pub apply-missing : (s : StateView) (k i j : ℕ) (x : ReplicaView) (a : Name) → IsWorker s k j x → x.up ≡ true → (e : Entry) → entry_at x.log i ≡ Some e → IsMissing s.replicas x i a → Acts s (ev.Apply k i) (rp.Refused (rf.NeedsPart a)) s
+apply-missing s k i j x a w u e q m made attempts events =
+    let n : x.number ≡ k = Belongs.numbered (at-place s.tree 1 s.replicas j x w.state.numbered w.there) ∙ sym w.numbered in
+    let z = cluster_of s made attempts events in
+    inr (declined s s.tree (λ c. NoApply c k i) (rf.NeedsPart a) refl made attempts events (
+      shown x,
+      e,
+      record { is = up-at s k j x w u made attempts events; waits = (waits-same x i).0 m.waits; at = q },
+      subst (λ v. LacksPart z v (shown x) e a) n (m.lacks z (cluster-of s k j x w made attempts events) e q),
+    ))
+
+-- ---- what is done
+
+-- the parts once an entry that makes a part is done by the one that was supplied
+replaced : (r : ReplicaView) (i : ℕ) (a : Name) (supply : Supply) (part : PartValue) (parts : List PartValue) → MakesAt r.log i a → supplied supply ≡ Some part → own.PartsAfter (entry_at r.log i) r i supply parts → parts ≡ after (Replace part) r.parts
+replaced r i a supply part parts m g h = go m.entry m.makes (subst (λ (o : Option Entry). own.PartsAfter o r i supply parts) m.stands h)
+  where
+    told : own.InstallsSupplied r supply parts → parts ≡ after (Replace part) r.parts
+    told t = subst (λ (o : Option PartValue). MatchOption o ⊥ (λ p. parts ≡ after (Replace p) r.parts)) g t
+
+    go : (e : Entry) → result_name e ≡ Some a → own.PartsAfter (Some e) r i supply parts → parts ≡ after (Replace part) r.parts
+    go (entries.Get p n digest source need) q t = told t
+    go (entries.Merge new sources count) q t = told t
+    go (entries.Mutate old new upto count mcount) q t = told t
+    go (entries.Mutation id numbers command) q t = absurd (cc)
+    go (entries.DropRange p n) q t = absurd (cc)
+
+-- the supplied part, as events say where it comes from
+supply-seen : (rs : List ReplicaView) (x : ReplicaView) (i : ℕ) (supply : Supply) (part : PartValue) (z : Cluster) → IsClusterOf x.schema rs z → Suits rs x i supply → supplied supply ≡ Some part → IsSupply z (shown x) i (copied part)
+supply-seen rs x i Nothing part z c u g = absurd (cc)
+supply-seen rs x i (Built p) part z c u g =
+    let e : arc_value p ≡ part = cc in
+    subst (λ (q : PartValue). IsSupply z (shown x) i (copied q)) e (elim (u.1 z c) [ inl h ↦ inl h | inr h ↦ inr (inl h) ])
+supply-seen rs x i (Fetched p) part z c u g =
+    let e : arc_value p ≡ part = cc in
+    subst (λ (q : PartValue). IsSupply z (shown x) i (copied q)) e (elim (u.1 z c) [ inl h ↦ inr (inr (inl h)) | inr h ↦ inr (inr (inr h)) ])
+
+-- what an entry came to at a replica that changed so
+came-to : (s : StateView) (k j : ℕ) (x y : ReplicaView) (i : ℕ) (supply : Supply) (d : Done) → IsWorker s k j x → IsStandingReplica x → Suits s.replicas x i supply → own.IsAnswer x i supply (Ok d) → own.IsChange x i supply (Ok d) y
+    → (made : ℕ) (attempts : List Attempt) (events : List (Event × Reply)) → AppliesTo (cluster_of s made attempts events) i (what_came d) (shown x) (shown y)
+came-to s k j x y i supply done.Already w t u a c made attempts events =
+    ((already-same x i).0 a.1, subst (λ (v : ReplicaView). Settles (shown x) i (shown v)) (sym c) (settles-seen x i t.waiting (inl a.1)))
+came-to s k j x y i supply done.Dropped w t u a c made attempts events =
+    (λ h. a.1 ((already-same x i).1 h), subst (λ (v : ReplicaView). Settles (shown x) i (shown v)) (sym c) (settles-seen x i t.waiting (inr a.2)))
+came-to s k j x y i supply done.Installed w t u a c made attempts events = go a.2
+  where
+    z : Cluster
+    z = cluster_of s made attempts events
+
+    go : own.CanBeDone x i supply → AppliesTo z i came.Installed (shown x) (shown y)
+    go (inl h) =
+        let parts = subst (λ (o : Option Entry). own.PartsAfter o x i supply y.parts) h.2 c.parts in
+        inl ((waits-same x i).0 a.1, drop-seen x i h.0 h.1 y t h.2 (c.others ∙ ap (λ (ps : List PartValue). record (own.settled x i) { parts = ps }) parts))
+    go (inr h) =
+        let v = h.2 in
+        let parts = replaced x i h.0 supply v.part y.parts h.1 v.given c.parts in
+        inr (record {
+          part = copied v.part;
+          supply = supply-seen s.replicas x i supply v.part z (cluster-of s k j x w made attempts events) u v.given;
+          does = part-seen x i h.0 v.part y t ((waits-same x i).0 a.1) h.1 v.covers (c.others ∙ ap (λ (ps : List PartValue). record (own.settled x i) { parts = ps }) parts);
+        })
+
+apply-acts : (s : StateView) (k j : ℕ) (x y : ReplicaView) (i : ℕ) (supply : Supply) (d : Done) → IsWorker s k j x → IsStandingReplica x → x.up ≡ true → i < length x.log → Suits s.replicas x i supply → own.IsAnswer x i supply (Ok d) → own.IsChange x i supply (Ok d) y
+    → Acts s (ev.Apply k i) (rp.Applied (what_came d)) (record s { replicas = slice_set s.replicas j y })
+apply-acts s k j x y i supply d w t u l f a c made attempts events =
+    let z = cluster_of s made attempts events in
+    let D : Replica → Replica → Type 0 = λ v o. (i < length v.log) × AppliesTo z i (what_came d) v o in
+    inl (record {
+      comes = what_came d;
+      at = subst (λ m. AtReplica z m D (cluster_of (record s { replicas = slice_set s.replicas j y }) made attempts events)) (sym w.numbered)
+          (changed-at s (record s { replicas = slice_set s.replicas j y }) j x y D w.state w.there u (l, came-to s k j x y i supply d w t f a c made attempts events) refl refl made attempts events);
+      answer = refl;
+    })
+
+-- ---- what can't come
+
+serves-made : (x : ReplicaView) (i : ℕ) (a : Name) (supply : Supply) (part : PartValue) → MakesAt x.log i a → supplied supply ≡ Some part → Does x i part → own.Serves x a supply
+serves-made x i a supply part m g d = record { part = part; given = g; covers = subst (Covers part.name) (one-name d.name d.makes) d.covers; within = d.within }
+  where
+    one-name : (b : Name) → MakesAt x.log i b → b ≡ a
+    one-name b n = some-name b a (sym n.makes ∙ (ap result_name (some-entry n.entry m.entry (sym n.stands ∙ m.stands)) ∙ m.makes))
+      where
+        some-entry : (d e : Entry) → ◌≡◌ {A = Option Entry} (Some d) (Some e) → d ≡ e
+        some-entry d e q = cc
+
+        some-name : (c e : Name) → ◌≡◌ {A = Option Name} (Some c) (Some e) → c ≡ e
+        some-name c e q = cc
+
+-- what does an entry serves the name that it makes
+serves : (rs : List ReplicaView) (x : ReplicaView) (i : ℕ) (a : Name) (supply : Supply) → own.Waits x i → MakesAt x.log i a → Suits rs x i supply → own.Serves x a supply
+serves rs x i a Nothing w m (inl (inl h)) = absurd (w.open_entry h)
+serves rs x i a Nothing w m (inl (inr h)) = absurd (w.not_dropped h)
+serves rs x i a Nothing w m (inr h) = absurd (no-part m.entry m.makes (some-entry m.entry (entries.DropRange h.0 h.1) (sym m.stands ∙ h.2)))
+  where
+    some-entry : (d e : Entry) → ◌≡◌ {A = Option Entry} (Some d) (Some e) → d ≡ e
+    some-entry d e q = cc
+
+    no-part : (e : Entry) → result_name e ≡ Some a → e ≡ entries.DropRange h.0 h.1 → ⊥
+    no-part e r q = absurd (let k = sym r ∙ ap result_name q in cc)
+serves rs x i a (Built p) w m u = serves-made x i a (Built p) (arc_value p) m refl u.0
+serves rs x i a (Fetched p) w m u = serves-made x i a (Fetched p) (arc_value p) m refl u.0
+
+-- ---- told by the replica's call
+
+pub apply-told : (s : StateView) (k j : ℕ) (x y : ReplicaView) (i : ℕ) (supply : Supply) (r : Result Done ApplyError) (q : Result Reply AllocError) → IsWorker s k j x → IsStandingReplica x → x.up ≡ true → i < length x.log → Suits s.replicas x i supply → own.IsAnswer x i supply r → own.IsChange x i supply r y
+    → IsApplyReply r q → IfOk q (λ reply. Acts s (ev.Apply k i) reply (record s { replicas = slice_set s.replicas j y }))
+apply-told s k j x y i supply (Ok d) q w t u l f a c e =
+    subst (λ (o : Result Reply AllocError). IfOk o (λ reply. Acts s (ev.Apply k i) reply (record s { replicas = slice_set s.replicas j y }))) (sym e) (apply-acts s k j x y i supply d w t u l f a c)
+apply-told s k j x y i supply (Err errors.Down) q w t u l f a c e = absurd (cc)
+apply-told s k j x y i supply (Err (errors.NeedsPart b)) q w t u l f a c e = absurd (a.3 (serves s.replicas x i b supply a.1 a.2 f))
+apply-told s k j x y i supply (Err errors.Memory) (Ok reply) w t u l f a c e = absurd (cc)
+apply-told s k j x y i supply (Err errors.Memory) (Err z) w t u l f a c e = tt
+
+pub apply-stopped : (s : StateView) (j : ℕ) (x y : ReplicaView) (i : ℕ) (supply : Supply) (r : Result Done ApplyError) (q : Result Reply AllocError) → slice_get s.replicas j ≡ Some x → own.IsChange x i supply r y → IsApplyReply r q
+    → OnErr q (◌≡◌ {A = StateView} (record s { replicas = slice_set s.replicas j y }) s)
+apply-stopped s j x y i supply (Ok d) q e c a = subst (λ (o : Result Reply AllocError). OnErr o (◌≡◌ {A = StateView} (record s { replicas = slice_set s.replicas j y }) s)) (sym a) tt
+apply-stopped s j x y i supply (Err z) q e c a = at-err q _ (same-state s.tree s.tree s.replicas j x y e c refl)

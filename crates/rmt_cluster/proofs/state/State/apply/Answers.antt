@@ -1,0 +1,1 @@
+use Rattle.rmt_cluster.proofs.state.State.apply.Goals as goal

@@ -1,0 +1,7 @@
+//! Background events that a generator draws, each from the state before it.
+#![tactic(auto)]
+
+mod generator;
+mod turn;
+
+pub use turn::turn;
