@@ -1,2 +1,2 @@
 pub mod OwnParts
-pub mod Holders
+pub mod HolderLemmas
