@@ -1,9 +1,12 @@
 //! The search for what does an entry.
-ghost use Rattle.std.specs.Prelude.{◌≡◌, ◌<◌, IfOk, length, slice_get};
+ghost use Rattle.std.specs.Prelude.{◌≡◌, ◌<◌, IfOk, IfSome, List, length, slice_get};
 ghost use Rattle.std.specs.Arc.{arc_value};
 ghost use Rattle.std.specs.declared.option.Option.TheVariants.{Some};
+ghost use Rattle.rmt_entries.specs.declared.entry.Entry.{Entry};
+ghost use Rattle.rmt_model.specs.Lawful.{entry_at};
 ghost use Rattle.rmt_replica.specs.Replicas.{ReplicaView};
-ghost use Rattle.rmt_supply.specs.PartSources.{AreOfOneTable, IsFoundFor};
+ghost use Rattle.rmt_replica.specs.Answers.{Waits, IsReady};
+ghost use Rattle.rmt_supply.specs.PartSources.{staged_for, IsAccepted, AreOfOneTable, Suits, IsFoundFor};
 
 use crate::found::Found;
 use crate::holders::fetched_part;
@@ -23,6 +26,11 @@ fn own_supply(
     i: usize,
     schema: &Arc<Schema, Global>,
 ) -> Result<Supply, AllocError>
+    requires schema { worker.now.schema ≡ arc_value schema.now }
+    requires waits { Waits worker.now i }
+    requires ready { (e : Entry) → entry_at worker.now.log i ≡ Some e → IsReady worker.now e × IfSome (staged_for worker.now e) (IsAccepted worker.now.schema e) }
+    requires place { i < length worker.now.log }
+    ensures { IfOk result (λ supply. (replicas : List ReplicaView) → Suits replicas worker.now i supply) }
 {
     let token = worker.copy().entry(i).unwrap();
     let part = match token.value() {
@@ -52,12 +60,13 @@ pub fn find(
     ensures { IfOk result (λ found. (x : ReplicaView) → slice_get replicas.now at ≡ Some x → IsFoundFor replicas.now x i found) }
 {
     let worker = &replicas[at];
+    let copy = worker.copy();
     let part = match worker.why(i) {
         Why::Covered | Why::Dropped => return Ok(Found::Ready(Supply::Nothing)),
         Why::Ready => return Ok(Found::Ready(own_supply(alloc, worker, i, schema)?)),
         Why::NeedsPart(part) => part,
     };
-    let Entry::Get { .. } = worker.copy().entry(i).unwrap().value() else {
+    let Entry::Get { .. } = copy.entry(i).unwrap().value() else {
         return Ok(Found::Missing(part));
     };
     match fetched_part(alloc, replicas, at, i, schema)? {
