@@ -1,2 +1,4 @@
 pub mod OwnParts
+pub mod StagedParts
 pub mod HolderLemmas
+pub mod SearchLemmas

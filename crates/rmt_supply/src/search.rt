@@ -33,13 +33,21 @@ fn own_supply(
     ensures { IfOk result (λ supply. (replicas : List ReplicaView) → Suits replicas worker.now i supply) }
 {
     let token = worker.copy().entry(i).unwrap();
-    let part = match token.value() {
-        Entry::Get { .. } => staged_part(alloc, worker, token, schema)?.unwrap(),
-        Entry::Merge { sources, .. } => merged_part(alloc, worker, i, sources.as_slice())?,
-        Entry::Mutate { old, .. } => mutated_part(alloc, worker, i, old)?,
-        Entry::Mutation { .. } | Entry::DropRange { .. } => return Ok(Supply::Nothing),
-    };
-    Ok(Supply::Built(part))
+    match token.value() {
+        Entry::Get { .. } => {
+            let part = staged_part(alloc, worker, token, schema)?.unwrap();
+            Ok(Supply::Built(part))
+        }
+        Entry::Merge { sources, .. } => {
+            let merged = merged_part(alloc, worker, i, sources.as_slice())?;
+            Ok(Supply::Built(merged))
+        }
+        Entry::Mutate { old, .. } => {
+            let mutated = mutated_part(alloc, worker, i, old)?;
+            Ok(Supply::Built(mutated))
+        }
+        Entry::Mutation { .. } | Entry::DropRange { .. } => Ok(Supply::Nothing),
+    }
 }
 
 /// Looks for what does the entry at a place of a replica's copy: nothing is needed for a drop, and where nothing is to do; else a
