@@ -1,6 +1,7 @@
 -- What was found for an entry.
-use Rattle.std.proofs.Common.{◌≡◌, ℕ, zero, suc, ◌≤◌, inl, inr, List, [], ◌∷◌, length, refl, sym, subst, ◌∙◌}
-use Rattle.std.specs.Prelude.{slice_get, MatchOption, IfSome}
+use Rattle.std.proofs.Common.{◌≡◌, ℕ, zero, suc, ◌<◌, ◌≤◌, inl, inr, List, [], ◌∷◌, length, refl, sym, subst, ◌∙◌, arith}
+use Rattle.std.specs.Prelude.{slice_get, MatchOption, IfSome, IsSome}
+use Rattle.std.specs.Option.{option_map}
 use Rattle.std.specs.declared.option.Option.{Option}
 use Rattle.std.specs.declared.option.Option.TheVariants.{Some, None}
 use Rattle.rmt_values.specs.Rows.{Shape}
@@ -130,3 +131,26 @@ accepted-here replicas i j r e a q t k =
     let c = a.copies r h in
     subst (λ (z : Shape). IfSome (staged_for r e) (IsAccepted z e)) (sym c.0)
     (a.accepted r h t e (subst (λ (l : List Entry). entry_at l i ≡ Some e) (sym c.1.is) (entry-behind c.1.gained r.log i e k)))
+
+-- what holds of the replica at a place holds of each that stands there
+pub at-one : (rs : List ReplicaView) (j : ℕ) (r : ReplicaView) (P : ReplicaView → Type 0) → slice_get rs j ≡ Some r → P r → (x : ReplicaView) → slice_get rs j ≡ Some x → P x
+at-one rs j r P e p x q = let s : r ≡ x = cc in subst P s p
+
+-- ---- an entry that is ready
+
+pub ready-entry : (replicas : List ReplicaView) (i j : ℕ) (r : ReplicaView) → AreOfOneTable replicas i → slice_get replicas j ≡ Some r → IsStandingReplica r → own.IsWhy r i whys.Ready → (e : Entry) → entry_at r.log i ≡ Some e → own.IsReady r e × IfSome (staged_for r e) (IsAccepted r.schema e)
+ready-entry replicas i j r a q t w e k = (subst (λ o. IfSome o (own.IsReady r)) k w.1, accepted-here replicas i j r e a q t k)
+
+-- the entry of a place within the copy is there
+pub entry-there : {A : Type 0} (o : Option A) (f : A → Token Entry) (copy : List Entry) (i : ℕ) → MatchOption o (length copy ≤ i) (λ t. entry_at copy i ≡ Some (f t).value) → i < length copy → IsSome o
+entry-there None f copy i m l = absurd (omega (arith, m, l))
+entry-there (Some x) f copy i m l = refl
+
+-- the same of an option that is seen otherwise
+pub mapped : {A B : Type 0} (o : Option A) (f : A → B) (N : Type 0) (P : B → Type 0) → MatchOption (option_map f o) N P → MatchOption o N (λ x. P (f x))
+mapped None f N P m = m
+mapped (Some x) f N P m = m
+
+pub no-part : {A B : Type 0} (o : Option A) (f : A → B) (N : Type 0) (P : B → Type 0) → MatchOption (option_map f o) N P → o ≡ None → N
+no-part None f N P m e = m
+no-part (Some x) f N P m e = absurd (cc)
