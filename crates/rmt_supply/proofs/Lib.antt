@@ -1,4 +1,3 @@
 pub mod OwnParts
 pub mod StagedParts
-pub mod HolderLemmas
 pub mod SearchLemmas
