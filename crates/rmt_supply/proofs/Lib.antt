@@ -1,2 +1,3 @@
 pub mod OwnParts
-pub mod Holders
+pub mod StagedParts
+pub mod BlockHolders

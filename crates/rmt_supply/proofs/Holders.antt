@@ -1,1 +1,0 @@
--- Who holds the block of a Get.
