@@ -1,3 +1,4 @@
 pub mod OwnParts
 pub mod StagedParts
+pub mod BlockHolders
 pub mod SearchLemmas

@@ -1,5 +1,5 @@
 -- The part of a block that is staged, as a cluster sees it, and as the Get of the block wants it.
-use Rattle.std.proofs.Common.{◌≡◌, ℕ, ◌<◌, List, [], ◌∷◌, length, map, refl, sym, ap, subst, ◌∙◌}
+use Rattle.std.proofs.Common.{◌≡◌, ℕ, ◌<◌, List, [], ◌∷◌, length, map, sym, ap, subst, ◌∙◌}
 use Rattle.std.specs.declared.option.Option.{Option}
 use Rattle.std.specs.declared.option.Option.TheVariants.{Some}
 use Rattle.rmt_values.specs.Rows.{Shape}
@@ -9,7 +9,7 @@ use Rattle.rmt_entries.specs.declared.entry.Entry.{Entry}
 use Rattle.rmt_entries.specs.declared.entry.Entry.TheVariants.{Get, Merge, Mutate, Mutation, DropRange}
 use Rattle.rmt_row.specs.Token.{Token}
 use Rattle.rmt_block.specs.Blocks.{BlockView}
-use Rattle.rmt_model.specs.Words.{Has, Each}
+use Rattle.rmt_model.specs.Words.{Each}
 use Rattle.rmt_model.specs.Lawful.{Lawful, entry_at}
 use Rattle.rmt_model.specs.CopiedParts.{Copied, IsCopied}
 use Rattle.rmt_model.proofs.Lists.{Each-at, Each-all}

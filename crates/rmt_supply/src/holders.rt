@@ -1,10 +1,11 @@
 //! What other replicas hold.
-ghost use Rattle.std.specs.Prelude.{◌≡◌, ◌<◌, IfOk, IfSome, length, slice_get};
+ghost use Rattle.std.specs.Prelude.{◌≡◌, ◌<◌, ◌≤◌, IfOk, IfSome, MatchOption, length, slice_get};
 ghost use Rattle.std.specs.Arc.{arc_value};
 ghost use Rattle.std.specs.Option.{option_map};
 ghost use Rattle.std.specs.declared.option.Option.TheVariants.{Some};
+ghost use Rattle.rmt_part.specs.Lineages.{PartValue};
 ghost use Rattle.rmt_replica.specs.Replicas.{ReplicaView};
-ghost use Rattle.rmt_supply.specs.PartSources.{staged_for, IsAccepted, AreOfOneTable, WaitsForBlock, IsGetFor, IsHeld, IsFetchedFor};
+ghost use Rattle.rmt_supply.specs.PartSources.{staged_for, IsAccepted, AreOfOneTable, WaitsForBlock, IsGetFor, HoldsPart, IsHeld, IsFetchedFor};
 
 use crate::staged::staged_part;
 use rmt_entries::Entry;
@@ -15,6 +16,26 @@ use rmt_row::Seen;
 use rmt_values::Schema;
 use std::alloc::{AllocError, Global};
 use std::sync::Arc;
+
+/// The active part of a holder that covers the name and was made at a place below `len`; none where no such part is active.
+fn part_within<'a>(
+    holder: &'a Replica,
+    name: &PartName,
+    len: usize,
+) -> Option<&'a Arc<Part, Global>>
+    requires { name.now.min ≤ name.now.max }
+    ensures { MatchOption result ((part : PartValue) → HoldsPart holder.now name.now len part → ⊥)
+        (λ part. HoldsPart holder.now name.now len (arc_value part.now)) }
+{
+    let _standing = holder.copy();
+    let Some(part) = holder.covering(name) else {
+        return None;
+    };
+    if part.made().place() >= len {
+        return None;
+    }
+    Some(part)
+}
 
 /// What a holder has for the Get of a token: its active part that covers the block's and was made at a place below `len`, else
 /// the part of the block that is staged there. None where it has neither. At an error no memory was left.
@@ -30,13 +51,10 @@ fn held(
     requires accepted { IfSome (staged_for holder.now get.now.value) (IsAccepted (arc_value schema.now) get.now.value) }
     ensures { IfOk result (λ part. IsHeld (arc_value schema.now) holder.now get.now name.now len (option_map arc_value part)) }
 {
-    if let Some(part) = holder.covering(name) {
-        if part.made().place() < len {
-            let shared = Arc::try_clone(part)?;
-            return Ok(Some(shared));
-        }
+    match part_within(holder, name, len) {
+        Some(part) => Ok(Some(Arc::try_clone(part)?)),
+        None => staged_part(alloc, holder, get, schema),
     }
-    staged_part(alloc, holder, get, schema)
 }
 
 /// The part for the Get at a place of a replica's copy, which waits and whose block isn't staged there, that its lowest-numbered
@@ -65,11 +83,13 @@ pub(crate) fn fetched_part(
         unreachable!()
     };
     let name = block_name(*partition, *number);
+    let len = copy.len();
     'holders: for (j, holder) in replicas.iter().enumerate() {
         if j == at || !holder.is_up() {
             continue;
         }
-        if let Some(part) = held(alloc, holder, get, &name, copy.len(), schema)? {
+        let _standing = holder.copy();
+        if let Some(part) = held(alloc, holder, get, &name, len, schema)? {
             return Ok(Some(part));
         }
     }

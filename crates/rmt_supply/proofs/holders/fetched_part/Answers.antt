@@ -1,0 +1,76 @@
+use Rattle.std.proofs.Common.{◌≡◌, arith, slice_get, ap, ◌∙◌, length}
+use Rattle.std.proofs.lemmas.Grind.{common_steps}
+use Rattle.std.proofs.lemmas.Option.{gets}
+use Rattle.std.specs.Arc.{arc_value}
+use Rattle.std.specs.declared.option.Option.TheVariants.{Some}
+use Rattle.rmt_supply.proofs.BlockHolders.{has-entry, reads-get, worker, accepted, one-more, holds-nothing, holds-part, nowhere, fetches}
+use Rattle.rmt_supply.proofs.holders.fetched_part.Goals as goal
+use Rattle.rmt_supply.proofs.holders.fetched_part.Goals.{then-j-at-via-then-j-at, then-j-at-via-else-j-at+then-not-is_up}
+
+pub unwrap-get-requires : goal.unwrap-get-requires
+unwrap-get-requires c =
+    let there : slice_get c.args.replicas.now c.args.at ≡ Some c.index-replicas-at.result = grind (arith, common_steps, gets) in
+    has-entry c.index-replicas-at.result c.args.i c.copy-copy.result.now.log c.entry.result _ (c.requires.waits c.index-replicas-at.result there).1 c.copy-copy.ensures.log c.entry.ensures.entry
+
+pub unreachable-requires : goal.unreachable-requires
+unreachable-requires c =
+    let there : slice_get c.args.replicas.now c.args.at ≡ Some c.index-replicas-at.result = grind (arith, common_steps, gets) in
+    reads-get c.index-replicas-at.result c.args.i c.copy-copy.result.now.log c.entry.result c.unwrap-get.result c.value.result.now (c.requires.waits c.index-replicas-at.result there).1
+    c.copy-copy.ensures.log c.entry.ensures.entry c.unwrap-get.ensures c.value.ensures c.in_default.not-Get
+
+pub held-requires : goal.held-requires
+held-requires c =
+    let x = c.index-replicas-at.result in
+    let there : slice_get c.args.replicas.now c.args.at ≡ Some c.index-replicas-at.result = grind (arith, common_steps, gets) in
+    let here : slice_get c.args.replicas.now c.holders.j ≡ Some c.index-replicas-j.result = grind (arith, common_steps, gets) in
+    let q = c.requires.waits x there in
+    let g = c.in-Get in
+    let w = worker c.args.replicas.now c.args.at c.args.i x c.copy-copy.result.now.log c.entry.result c.unwrap-get.result c.value.result.now g.partition g.number g.digest g.source g.need c.block_name-name.result
+    c.requires.table there c.copy-copy.ensures.standing q.1 c.copy-copy.ensures.log c.entry.ensures.entry c.entry.ensures.place c.unwrap-get.ensures c.value.ensures g.is c.block_name-name.ensures in
+    record {
+      get = w.get;
+      accepted = accepted c.args.replicas.now c.args.at c.holders.j c.args.i x c.index-replicas-j.result c.unwrap-get.result.now c.block_name-name.result (arc_value c.args.schema.now) w here c.copy-standing.ensures.standing q.0;
+    }
+
+pub holders-preserved-then-j-at : goal.holders-preserved-then-j-at
+holders-preserved-then-j-at c =
+    let here : slice_get c.args.replicas.now c.holders.j ≡ Some c.index-replicas-j.result = grind (arith, common_steps, gets) in
+    one-more c.args.replicas.now c.args.at c.holders.j c.unwrap-get.result.now c.block_name-name.result c.len-len.result c.index-replicas-j.result c.holders.invariant here
+    (λ o u. elim c.then-j-at.branch [
+      | then-j-at-via-then-j-at w ↦ absurd (o w.if-j-at.true)
+      | then-j-at-via-else-j-at+then-not-is_up w ↦ let f = w.if-not-is_up.true in let e = w.is_up.ensures in absurd (cc)
+    ])
+
+pub holders-preserved : goal.holders-preserved
+holders-preserved c =
+    let here : slice_get c.args.replicas.now c.holders.j ≡ Some c.index-replicas-j.result = grind (arith, common_steps, gets) in
+    one-more c.args.replicas.now c.args.at c.holders.j c.unwrap-get.result.now c.block_name-name.result c.len-len.result c.index-replicas-j.result c.holders.invariant here
+    (λ o u. (
+      c.copy-standing.ensures.standing,
+      holds-nothing c.in_ok-part.field-0 arc_value (arc_value c.args.schema.now) c.index-replicas-j.result c.unwrap-get.result.now c.block_name-name.result c.len-len.result c.in_default-2.is c.in_ok-part.ensures,
+    ))
+
+pub returns-in-Some : goal.returns-in-Some
+returns-in-Some c =
+    let x = c.index-replicas-at.result in
+    let y = c.index-replicas-j.result in
+    let there : slice_get c.args.replicas.now c.args.at ≡ Some c.index-replicas-at.result = grind (arith, common_steps, gets) in
+    let here : slice_get c.args.replicas.now c.holders.j ≡ Some c.index-replicas-j.result = grind (arith, common_steps, gets) in
+    let q = c.requires.waits x there in
+    let g = c.in-Get in
+    let w = worker c.args.replicas.now c.args.at c.args.i x c.copy-copy.result.now.log c.entry.result c.unwrap-get.result c.value.result.now g.partition g.number g.digest g.source g.need c.block_name-name.result
+    c.requires.table there c.copy-copy.ensures.standing q.1 c.copy-copy.ensures.log c.entry.ensures.entry c.entry.ensures.place c.unwrap-get.ensures c.value.ensures g.is c.block_name-name.ensures in
+    fetches c.args.replicas.now c.args.at c.holders.j c.args.i x y c.unwrap-get.result.now c.block_name-name.result c.len-len.result (arc_value c.args.schema.now) (arc_value c.in-Some.part) w
+    (record { stands = here; other = c.if-j-at.false; up = let f = c.if-not-is_up.false in let e = c.is_up.ensures in cc; standing = c.copy-standing.ensures.standing })
+    (c.len-len.ensures.len ∙ ap length c.copy-copy.ensures.log) q.0 c.holders.invariant
+    (holds-part c.in_ok-part.field-0 c.in-Some.part arc_value (arc_value c.args.schema.now) y c.unwrap-get.result.now c.block_name-name.result c.len-len.result c.in-Some.is c.in_ok-part.ensures)
+
+pub returns : goal.returns
+returns c =
+    let x = c.index-replicas-at.result in
+    let there : slice_get c.args.replicas.now c.args.at ≡ Some c.index-replicas-at.result = grind (arith, common_steps, gets) in
+    let q = c.requires.waits x there in
+    let g = c.in-Get in
+    let w = worker c.args.replicas.now c.args.at c.args.i x c.copy-copy.result.now.log c.entry.result c.unwrap-get.result c.value.result.now g.partition g.number g.digest g.source g.need c.block_name-name.result
+    c.requires.table there c.copy-copy.ensures.standing q.1 c.copy-copy.ensures.log c.entry.ensures.entry c.entry.ensures.place c.unwrap-get.ensures c.value.ensures g.is c.block_name-name.ensures in
+    nowhere c.args.replicas.now c.args.at c.holders.j c.args.i x c.unwrap-get.result.now c.block_name-name.result c.len-len.result w (c.len-len.ensures.len ∙ ap length c.copy-copy.ensures.log) c.holders-test.false c.holders.invariant
