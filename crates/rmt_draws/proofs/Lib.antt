@@ -1,1 +1,4 @@
-pub mod Draws
+pub mod PendingLemmas
+pub mod RunLemmas
+pub mod MutationLemmas
+pub mod TurnLemmas

@@ -2,6 +2,6 @@
 #![tactic(auto)]
 
 mod generator;
-mod turn;
+mod turns;
 
-pub use turn::turn;
+pub use turns::turn;

@@ -1,1 +1,0 @@
--- The turn that a generator draws.

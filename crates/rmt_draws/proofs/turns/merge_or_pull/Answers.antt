@@ -1,0 +1,28 @@
+use Rattle.std.proofs.Common.{ℕ, Global, ◌∙◌, sym, ap}
+use Rattle.std.specs.Option.{option_map}
+use Rattle.std.specs.Vec.{vec_items}
+use Rattle.std.specs.declared.option.Option.TheVariants.{Some, None}
+use Rattle.rmt_names.specs.declared.name.PartName.{PartName}
+use Rattle.rmt_pick.specs.Choices.{MergeLimits}
+use Rattle.rmt_events.specs.declared.event.Event.TheVariants as ev
+use Rattle.rmt_events.specs.Draws.{merge_or_pull}
+use Rattle.rmt_draws.proofs.RunLemmas.{chosen-found}
+use Rattle.rmt_draws.proofs.turns.merge_or_pull.Goals as goal
+
+pub returns-in_default : goal.returns-in_default
+returns-in_default c =
+    let ten = ap (λ (l : MergeLimits). l.most) c.new.ensures in
+    let found = sym (ap (option_map (vec_items {X = PartName} {Z = Global})) c.in_default.is) ∙ c.in_ok-found.ensures.run in
+    let told = chosen-found c.copy.result.now.log c.args.worker.now.log c.new.result.most None c.copy.ensures.log ten found in
+    ap ev.Pull c.number-replica.ensures ∙ ap (merge_or_pull c.args.worker.now.number) told
+
+pub returns : goal.returns
+returns c =
+    let names = c.in-Some.names.items in
+    let ten = ap (λ (l : MergeLimits). l.most) c.new.ensures in
+    let found = sym (ap (option_map (vec_items {X = PartName} {Z = Global})) c.in-Some.is) ∙ c.in_ok-found.ensures.run in
+    let told =
+    chosen-found c.copy.result.now.log c.args.worker.now.log c.new.result.most (Some names) c.copy.ensures.log ten found in
+    ap (λ (k : ℕ). ev.Merge k c.new-sources.result) c.number-replica.ensures
+    ∙ (ap (ev.Merge c.args.worker.now.number) c.new-sources.ensures
+    ∙ ap (merge_or_pull c.args.worker.now.number) told)

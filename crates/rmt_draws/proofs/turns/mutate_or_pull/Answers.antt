@@ -1,0 +1,32 @@
+use Rattle.std.proofs.Common.{ℕ, ◌∙◌, length, sym, ap, arith}
+use Rattle.std.specs.declared.option.Option.TheVariants.{Some, None}
+use Rattle.rmt_model.specs.Live.{live}
+use Rattle.rmt_events.specs.declared.event.Event.TheVariants as ev
+use Rattle.rmt_events.specs.Draws.{mutate_or_pull}
+use Rattle.rmt_draws.proofs.MutationLemmas.{next-found, next-below}
+use Rattle.rmt_draws.proofs.turns.mutate_or_pull.Goals as goal
+
+pub returns-in_default : goal.returns-in_default
+returns-in_default c =
+    let copy = c.copy-copy.result.now.log in
+    let e = c.copy-copy.ensures.log in
+    let found = sym c.in_default.is ∙ c.next_mutation.ensures in
+    let told = next-found copy c.args.worker.now.log c.len.result None e c.len.ensures.len found in
+    ap ev.Pull c.number-replica.ensures ∙ ap (mutate_or_pull c.args.worker.now.number) told
+
+pub overflow_cast-upto : goal.overflow_cast-upto
+overflow_cast-upto c =
+    let copy = c.copy-copy.result.now.log in
+    let found = sym c.next_mutation.ensures ∙ c.in-Some.is in
+    let b = next-below copy c.len.result (live copy) c.in-Some.found found in
+    let l = ap length c.copy-copy.ensures.log in
+    omega (arith, b, l)
+
+pub returns : goal.returns
+returns c =
+    let copy = c.copy-copy.result.now.log in
+    let e = c.copy-copy.ensures.log in
+    let m = c.in-Some.found in
+    let found = sym c.in-Some.is ∙ c.next_mutation.ensures in
+    let told = next-found copy c.args.worker.now.log c.len.result (Some m) e c.len.ensures.len found in
+    ap (λ (k : ℕ). ev.Mutate k m.0 m.1) c.number-replica.ensures ∙ ap (mutate_or_pull c.args.worker.now.number) told
