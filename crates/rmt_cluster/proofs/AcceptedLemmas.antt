@@ -36,7 +36,7 @@ use Rattle.rmt_cluster.specs.Clusters.{IsTaken, IsCluster}
 abbrev FitColumns : Shape → List Row → Type 0
 FitColumns schema rows = All (λ row. fits schema.columns row ≡ true) rows
 
-AreTaken : Shape → ℕ → List (Event × Reply) → Type 0
+abbrev AreTaken : Shape → ℕ → List (Event × Reply) → Type 0
 AreTaken schema count events = Each (λ x. IsTaken schema count x.0) events
 
 rows-of : (b c : Block) → ◌≡◌ {A = Option Block} (Some b) (Some c) → b.rows ≡ c.rows

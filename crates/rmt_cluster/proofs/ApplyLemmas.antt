@@ -1,6 +1,7 @@
 -- An entry that a replica does, as a cluster sees it.
-use Rattle.std.proofs.Common.{◌≡◌, ◌⊎◌, ℕ, ◌+◌, ◌<◌, ◌≤◌, inl, inr, true, false, List, length, map, refl, sym, ap, subst, ◌∙◌, arith}
-use Rattle.std.specs.Prelude.{slice_get, slice_set, IfOk, OnErr, MatchOption}
+use Rattle.std.proofs.Common.{◌≡◌, ℕ, ◌+◌, ◌<◌, ◌≤◌, inl, inr, Bool, true, false, cond, List, [], ◌∷◌, length, refl, sym, ap, subst, ◌∙◌, arith, nat_eq}
+use Rattle.std.proofs.lemmas.Bool.Decides.{nat_tests}
+use Rattle.std.specs.Prelude.{slice_get, slice_set, IfOk, IfSome, MatchOption}
 use Rattle.std.specs.Arc.{arc_value}
 use Rattle.std.specs.declared.alloc.AllocError.{AllocError}
 use Rattle.std.specs.declared.option.Option.{Option}
@@ -11,11 +12,14 @@ use Rattle.rmt_names.specs.Names.{Name, Covers}
 use Rattle.rmt_entries.specs.Entries.{result_name}
 use Rattle.rmt_entries.specs.declared.entry.Entry.{Entry}
 use Rattle.rmt_entries.specs.declared.entry.Entry.TheVariants as entries
+use Rattle.rmt_model.specs.Words.{Has}
 use Rattle.rmt_model.specs.Lawful.{entry_at, MakesAt}
+use Rattle.rmt_table_model.specs.Held.{Held}
+use Rattle.rmt_table.specs.TableTrees.{IsCopyOf}
 use Rattle.rmt_part.specs.Lineages.{PartValue}
 use Rattle.rmt_part.specs.CopiedPart.{copied}
 use Rattle.rmt_partset.specs.ActiveParts.{Replace, after}
-use Rattle.rmt_replica.specs.Replicas.{ReplicaView, IsStandingReplica}
+use Rattle.rmt_replica.specs.Replicas.{ReplicaView, IsStandingReplica, copy_of}
 use Rattle.rmt_replica.specs.Supplies.{supplied}
 use Rattle.rmt_replica.specs.Answers as own
 use Rattle.rmt_replica.specs.declared.supply.Supply.{Supply}
@@ -38,11 +42,15 @@ use Rattle.rmt_events.specs.declared.reply.Reply.{Reply}
 use Rattle.rmt_events.specs.declared.reply.Reply.TheVariants as rp
 use Rattle.rmt_events.specs.declared.step_refused.StepRefused.TheVariants as rf
 use Rattle.rmt_events.specs.declared.applied.Applied.TheVariants as came
-use Rattle.rmt_supply.specs.PartSources.{IsClusterOf, Does, NeedsNone, IsBuilt, IsFetchedPart, Suits, IsMissing}
-use Rattle.rmt_cluster.specs.States.{StateView, Belongs, IsState, cluster_of, Acts}
+use Rattle.rmt_supply.specs.declared.found.Found.{Found}
+use Rattle.rmt_supply.specs.declared.found.Found.TheVariants as found
+use Rattle.rmt_supply.specs.PartSources.{AreOfOneTable, IsClusterOf, Does, Suits, IsMissing, IsFoundFor}
+use Rattle.rmt_cluster.specs.States.{StateView, Belongs, AreNumbered, IsState, cluster_of, Acts}
+use Rattle.rmt_cluster.specs.Acting.{KeepsAccepted}
 use Rattle.rmt_cluster.specs.Causes.{IsApplyReply, what_came}
-use Rattle.rmt_cluster.proofs.StateLemmas.{at-place, at-err}
-use Rattle.rmt_cluster.proofs.PullLemmas.{changed-at, down-in, same-state}
+use Rattle.rmt_cluster.proofs.StateLemmas.{at-place}
+use Rattle.rmt_cluster.proofs.PullLemmas.{changed-at, down-in}
+use Rattle.rmt_cluster.proofs.StageLemmas.{KeepsCopy}
 use Rattle.rmt_cluster.proofs.AssignLemmas.{IsWorker, up-at, declined}
 
 -- ---- what is refused
@@ -160,6 +168,57 @@ serves rs x i a Nothing w m (inr h) = absurd (no-part m.entry m.makes (some-entr
 serves rs x i a (Built p) w m u = serves-made x i a (Built p) (arc_value p) m refl u.0
 serves rs x i a (Fetched p) w m u = serves-made x i a (Fetched p) (arc_value p) m refl u.0
 
+-- ---- what the search is given, and what the call is
+
+entry-within : (log : List Entry) (i : ℕ) → i < length log → (e : Entry) × (entry_at log i ≡ Some e)
+entry-within [] i l = absurd (omega (arith, l))
+entry-within (x ∷ log) i l = go (nat_eq i (length log)) refl (entry-within log i)
+  where
+    go : (b : Bool) → nat_eq i (length log) ≡ b → (i < length log → (e : Entry) × (entry_at log i ≡ Some e)) → (e : Entry) × (entry_at (x ∷ log) i ≡ Some e)
+    go true q f = (x, ap (λ (b : Bool). cond b (Some x) (entry_at log i)) q)
+    go false q f =
+        let k : i < length log = grind (arith, nat_tests) in
+        let r = f k in
+        (r.0, ap (λ (b : Bool). cond b (Some x) (entry_at log i)) q ∙ r.1)
+
+has-replica : (tree : Held) (k : ℕ) (rs : List ReplicaView) (r : ReplicaView) → AreNumbered tree k rs → Has rs r → IsCopyOf tree (copy_of r)
+has-replica tree k [] r n h = absurd h
+has-replica tree k (x ∷ rs) r n (inl e) = subst (λ (v : ReplicaView). IsCopyOf tree (copy_of v)) e n.0.copy
+has-replica tree k (x ∷ rs) r n (inr h) = has-replica tree (k + 1) rs r n.1 h
+
+-- the replicas of a state are of one table
+pub one-table : (s : StateView) (i : ℕ) → IsState s → KeepsAccepted s → AreOfOneTable s.replicas i
+one-table s i w a = record {
+  schema = s.tree.schema;
+  log = s.tree.log;
+  numbered = λ j r e. Belongs.numbered (at-place s.tree 1 s.replicas j r w.numbered e);
+  copies = λ r h. let c = has-replica s.tree 1 s.replicas r w.numbered h in (c.schema, c.prefix);
+  accepted = λ r h t e q. a r h t i e q;
+}
+
+pub suits-of-table : (rs : List ReplicaView) (x : ReplicaView) (i : ℕ) (supply : Supply) → Suits rs x i supply → IfSome (supplied supply) (own.IsOfTable x)
+suits-of-table rs x i Nothing u = tt
+suits-of-table rs x i (Built p) u = u.0.of_table
+suits-of-table rs x i (Fetched p) u = u.0.of_table
+
+same-copy : (x y z : ReplicaView) → z ≡ y → KeepsCopy x y → KeepsCopy x z
+same-copy x y z e k = subst (KeepsCopy x) (sym e) k
+
+pub change-keeps : (x y : ReplicaView) (i : ℕ) (supply : Supply) (r : Result Done ApplyError) → own.IsChange x i supply r y → KeepsCopy x y
+change-keeps x y i supply (Err e) c = same-copy x x y c (record { number = refl; schema = refl; log = refl })
+change-keeps x y i supply (Ok done.Already) c = same-copy x (own.settled x i) y c (record { number = refl; schema = refl; log = refl })
+change-keeps x y i supply (Ok done.Dropped) c = same-copy x (own.settled x i) y c (record { number = refl; schema = refl; log = refl })
+change-keeps x y i supply (Ok done.Installed) c = same-copy x (record (own.settled x i) { parts = y.parts }) y c.others (record { number = refl; schema = refl; log = refl })
+
+pub missing-found : (rs qs : List ReplicaView) (x : ReplicaView) (i : ℕ) (a : Name) (f : Found) → qs ≡ rs → IsFoundFor qs x i f → f ≡ found.Missing a → IsMissing rs x i a
+missing-found rs qs x i a f e h q = subst (λ (l : List ReplicaView). IsMissing l x i a) e (subst (λ (g : Found). IsFoundFor qs x i g) q h)
+
+pub ready-found : (rs qs : List ReplicaView) (x : ReplicaView) (i : ℕ) (supply : Supply) (f : Found) → qs ≡ rs → IsFoundFor qs x i f → f ≡ found.Ready supply → Suits rs x i supply
+ready-found rs qs x i supply f e h q = subst (λ (l : List ReplicaView). Suits l x i supply) e (subst (λ (g : Found). IsFoundFor qs x i g) q h)
+
+pub apply-lacks : (s : StateView) (k i j : ℕ) (x : ReplicaView) (a : Name) → IsWorker s k j x → x.up ≡ true → i < length x.log → IsMissing s.replicas x i a → Acts s (ev.Apply k i) (rp.Refused (rf.NeedsPart a)) s
+apply-lacks s k i j x a w u l m = let e = entry-within x.log i l in apply-missing s k i j x a w u e.0 e.1 m
+
 -- ---- told by the replica's call
 
 pub apply-told : (s : StateView) (k j : ℕ) (x y : ReplicaView) (i : ℕ) (supply : Supply) (r : Result Done ApplyError) (q : Result Reply AllocError) → IsWorker s k j x → IsStandingReplica x → x.up ≡ true → i < length x.log → Suits s.replicas x i supply → own.IsAnswer x i supply r → own.IsChange x i supply r y
@@ -170,8 +229,3 @@ apply-told s k j x y i supply (Err errors.Down) q w t u l f a c e = absurd (cc)
 apply-told s k j x y i supply (Err (errors.NeedsPart b)) q w t u l f a c e = absurd (a.3 (serves s.replicas x i b supply a.1 a.2 f))
 apply-told s k j x y i supply (Err errors.Memory) (Ok reply) w t u l f a c e = absurd (cc)
 apply-told s k j x y i supply (Err errors.Memory) (Err z) w t u l f a c e = tt
-
-pub apply-stopped : (s : StateView) (j : ℕ) (x y : ReplicaView) (i : ℕ) (supply : Supply) (r : Result Done ApplyError) (q : Result Reply AllocError) → slice_get s.replicas j ≡ Some x → own.IsChange x i supply r y → IsApplyReply r q
-    → OnErr q (◌≡◌ {A = StateView} (record s { replicas = slice_set s.replicas j y }) s)
-apply-stopped s j x y i supply (Ok d) q e c a = subst (λ (o : Result Reply AllocError). OnErr o (◌≡◌ {A = StateView} (record s { replicas = slice_set s.replicas j y }) s)) (sym a) tt
-apply-stopped s j x y i supply (Err z) q e c a = at-err q _ (same-state s.tree s.tree s.replicas j x y e c refl)

@@ -39,14 +39,14 @@ pub record IsWorker (s : StateView) (k i : ℕ) (x : ReplicaView) : Type 0 where
   pub numbered : k ≡ 1 + i
   pub there : slice_get s.replicas i ≡ Some x
 
-up-at : (s : StateView) (k i : ℕ) (x : ReplicaView) → IsWorker s k i x → x.up ≡ true → (made : ℕ) (attempts : List Attempt) (events : List (Event × Reply)) → IsUp (cluster_of s made attempts events) k (shown x)
+pub up-at : (s : StateView) (k i : ℕ) (x : ReplicaView) → IsWorker s k i x → x.up ≡ true → (made : ℕ) (attempts : List Attempt) (events : List (Event × Reply)) → IsUp (cluster_of s made attempts events) k (shown x)
 up-at s k i x w u made attempts events = subst (λ m. IsUp (cluster_of s made attempts events) m (shown x)) (sym w.numbered) (record { at = numbered-at s i x made attempts events w.state w.there; up = u })
 
 caught-up : (s : StateView) (k i : ℕ) (x : ReplicaView) (Meets : List Entry → Type 0) → IsWorker s k i x → x.up ≡ true → Meets x.log → length x.log ≡ length s.tree.log → (made : ℕ) (attempts : List Attempt) (events : List (Event × Reply)) → IsCaughtUp (cluster_of s made attempts events) k Meets
 caught-up s k i x Meets w u m l made attempts events = record { replica = shown x; is = up-at s k i x w u made attempts events; meets = m; whole = l }
 
 -- an event is refused, and the table stays
-declined : (s : StateView) (new : Held) (Cause : Cluster → StepRefused → Type 0) (why : StepRefused) → new ≡ s.tree → (made : ℕ) (attempts : List Attempt) (events : List (Event × Reply)) → Cause (cluster_of s made attempts events) why
+pub declined : (s : StateView) (new : Held) (Cause : Cluster → StepRefused → Type 0) (why : StepRefused) → new ≡ s.tree → (made : ℕ) (attempts : List Attempt) (events : List (Event × Reply)) → Cause (cluster_of s made attempts events) why
     → Declines (cluster_of s made attempts events) (Cause (cluster_of s made attempts events)) (rp.Refused why) (cluster_of (record s { tree = new }) made attempts events)
 declined s new Cause why e made attempts events c = record { why = why; cause = c; answer = refl; unchanged = ap (λ (h : Held). cluster_of (record s { tree = h }) made attempts events) e }
 

@@ -270,23 +270,23 @@ same-view s t a b events q e =
     ap (λ (v : StateView). cluster_of v b.made b.open_ones events) q ∙ (ap (λ n. cluster_of s n b.open_ones events) e.made ∙ ap (λ (xs : List Attempt). cluster_of s a.made xs events) e.open_ones)
 
 pub stops : (s t : StateView) (a b : OpenAttempts) (events : List (Event × Reply)) (e : Event) → AfterError s a e t b → Stops (cluster_of s a.made a.open_ones events) e (cluster_of t b.made b.open_ones events)
-stops s t a b events (ev.Allocate k x need) d = same-view s t a b events d.state d.attempts
-stops s t a b events (ev.Again id) d = same-view s t a b events d.state d.attempts
-stops s t a b events (ev.Stage id) d = same-view s t a b events d.state d.attempts
-stops s t a b events (ev.Commit id) d = same-view s t a b events d.state d.attempts
-stops s t a b events (ev.Abandon id) d = same-view s t a b events d.state d.attempts
-stops s t a b events (ev.Apply k i) d = same-view s t a b events d.state d.attempts
-stops s t a b events (ev.Merge k sources) d = same-view s t a b events d.state d.attempts
-stops s t a b events (ev.Mutate k old upto) d = same-view s t a b events d.state d.attempts
-stops s t a b events (ev.Fetches k allowed) d = same-view s t a b events d.state d.attempts
-stops s t a b events (ev.CreateMutation command) d = same-view s t a b events d.state d.attempts
-stops s t a b events (ev.DropPartition p) d = same-view s t a b events d.state d.attempts
-stops s t a b events (ev.Kill k) d = same-view s t a b events d.state d.attempts
+stops s t a b events (ev.Allocate k x need) d = inl (same-view s t a b events d.state d.attempts)
+stops s t a b events (ev.Again id) d = inl (same-view s t a b events d.state d.attempts)
+stops s t a b events (ev.Stage id) d = inl (same-view s t a b events d.state d.attempts)
+stops s t a b events (ev.Commit id) d = inl (same-view s t a b events d.state d.attempts)
+stops s t a b events (ev.Abandon id) d = inl (same-view s t a b events d.state d.attempts)
+stops s t a b events (ev.Apply k i) d = inl (same-view s t a b events d.state d.attempts)
+stops s t a b events (ev.Merge k sources) d = inl (same-view s t a b events d.state d.attempts)
+stops s t a b events (ev.Mutate k old upto) d = inl (same-view s t a b events d.state d.attempts)
+stops s t a b events (ev.Fetches k allowed) d = inl (same-view s t a b events d.state d.attempts)
+stops s t a b events (ev.CreateMutation command) d = inl (same-view s t a b events d.state d.attempts)
+stops s t a b events (ev.DropPartition p) d = inl (same-view s t a b events d.state d.attempts)
+stops s t a b events (ev.Kill k) d = inl (same-view s t a b events d.state d.attempts)
 stops s t a b events (ev.Pull k) d =
     let p = d.0.at a.made a.open_ones events in
-    record { log = d.0.log; prefix = d.0.prefix; at = record { old = p.old; new = p.new; at = p.at; up = p.up; does = p.does; change = same-view t t a b events refl d.1 ∙ p.change } }
+    inr (record { log = d.0.log; prefix = d.0.prefix; at = record { old = p.old; new = p.new; at = p.at; up = p.up; does = p.does; change = same-view t t a b events refl d.1 ∙ p.change } })
 stops s t a b events (ev.Restart k) d =
-    subst (λ (z : Cluster). Kills (cluster_of s a.made a.open_ones events) k rp.Done z) (sym (same-view t t a b events refl d.1)) (d.0 a.made a.open_ones events)
+    inr (subst (λ (z : Cluster). Kills (cluster_of s a.made a.open_ones events) k rp.Done z) (sym (same-view t t a b events refl d.1)) (d.0 a.made a.open_ones events))
 
 -- what stays so of a cluster: its log, its schema, and how many replicas it has
 pub record Rests (s t : Cluster) : Type 0 where
@@ -298,24 +298,25 @@ same-rests : (s t : Cluster) → t ≡ s → Rests s t
 same-rests s t q = record { log = ap (λ (z : Cluster). z.table.log) q; schema = ap (λ (z : Cluster). z.table.schema) q; replicas = ap (λ (z : Cluster). length z.replicas) q }
 
 pub rests : (s t : Cluster) (e : Event) → Stops s e t → Rests s t
-rests s t (ev.Allocate k x need) d = same-rests s t d
-rests s t (ev.Again id) d = same-rests s t d
-rests s t (ev.Stage id) d = same-rests s t d
-rests s t (ev.Commit id) d = same-rests s t d
-rests s t (ev.Abandon id) d = same-rests s t d
-rests s t (ev.Apply k i) d = same-rests s t d
-rests s t (ev.Merge k sources) d = same-rests s t d
-rests s t (ev.Mutate k old upto) d = same-rests s t d
-rests s t (ev.Fetches k allowed) d = same-rests s t d
-rests s t (ev.CreateMutation command) d = same-rests s t d
-rests s t (ev.DropPartition p) d = same-rests s t d
-rests s t (ev.Kill k) d = same-rests s t d
-rests s t (ev.Pull k) d = let q = d.at.change in record {
+rests s t e (inl q) = same-rests s t q
+rests s t (ev.Allocate k x need) (inr d) = absurd d
+rests s t (ev.Again id) (inr d) = absurd d
+rests s t (ev.Stage id) (inr d) = absurd d
+rests s t (ev.Commit id) (inr d) = absurd d
+rests s t (ev.Abandon id) (inr d) = absurd d
+rests s t (ev.Apply k i) (inr d) = absurd d
+rests s t (ev.Merge k sources) (inr d) = absurd d
+rests s t (ev.Mutate k old upto) (inr d) = absurd d
+rests s t (ev.Fetches k allowed) (inr d) = absurd d
+rests s t (ev.CreateMutation command) (inr d) = absurd d
+rests s t (ev.DropPartition p) (inr d) = absurd d
+rests s t (ev.Kill k) (inr d) = absurd d
+rests s t (ev.Pull k) (inr d) = let q = d.at.change in record {
   log = ap (λ (z : Cluster). z.table.log) q;
   schema = ap (λ (z : Cluster). z.table.schema) q;
   replicas = ap (λ (z : Cluster). length z.replicas) q ∙ length-with s.replicas k d.at.new;
 }
-rests s t (ev.Restart k) d = let q = d.change in record {
+rests s t (ev.Restart k) (inr d) = let q = d.change in record {
   log = ap (λ (z : Cluster). z.table.log) q ∙ ap (λ (u : Table). u.log) d.closes;
   schema = ap (λ (z : Cluster). z.table.schema) q ∙ ap (λ (u : Table). u.schema) d.closes;
   replicas = ap (λ (z : Cluster). length z.replicas) q ∙ length-with s.replicas k d.new;

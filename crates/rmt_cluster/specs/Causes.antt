@@ -79,9 +79,13 @@ what_came done.Already = came.Already
 what_came done.Dropped = came.Dropped
 what_came done.Installed = came.Installed
 
+-- why an entry wasn't done
+abbrev pub apply_cause : ApplyError → Option StepRefused
+apply_cause apply.Down = Some rf.Down
+apply_cause (apply.NeedsPart part) = Some (rf.NeedsPart part)
+apply_cause apply.Memory = None
+
 -- the reply to an entry that a replica looked at; none where no memory was left
 abbrev pub IsApplyReply : Result Done ApplyError → Result Reply AllocError → Type 0
 IsApplyReply (Ok d) reply = reply ≡ Ok (rp.Applied (what_came d))
-IsApplyReply (Err apply.Down) reply = reply ≡ Ok (rp.Refused rf.Down)
-IsApplyReply (Err (apply.NeedsPart part)) reply = reply ≡ Ok (rp.Refused (rf.NeedsPart part))
-IsApplyReply (Err apply.Memory) reply = IsErr reply
+IsApplyReply (Err error) reply = MatchOption (apply_cause error) (IsErr reply) (λ why. reply ≡ Ok (rp.Refused why))

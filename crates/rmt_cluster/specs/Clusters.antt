@@ -1,6 +1,6 @@
 -- A cluster: what always holds of it, and which events it takes.
 -- No public source: this program's own.
-use Rattle.std.specs.Prelude.{◌≡◌, ℕ, ◌+◌, ◌≤◌, true, List, [], ◌∷◌, length}
+use Rattle.std.specs.Prelude.{◌≡◌, ◌⊎◌, ℕ, ◌+◌, ◌≤◌, true, List, [], ◌∷◌, length}
 use Rattle.std.specs.List.{All}
 use Rattle.std.specs.Arc.{arc_value}
 use Rattle.std.specs.declared.option.Option.{Option}
@@ -70,12 +70,16 @@ pub record PullsPart (s : Cluster) (k : ℕ) (t : Cluster) : Type 0 where
   pub prefix : IsPrefix log s.table.log
   pub at : AtReplica s k (PullsTo log) t
 
--- what an event leaves for which no memory was left: a pull has copied some of the log, a replica that was to restart is
--- killed, and else nothing changed
+-- what an event has changed that wanted memory in its midst: a pull has copied some of the log, and a replica that was to
+-- restart is killed
+abbrev pub StopsMidway : Cluster → Event → Cluster → Type 0
+StopsMidway s (ev.Pull k) t = PullsPart s k t
+StopsMidway s (ev.Restart k) t = Kills s k rp.Done t
+StopsMidway s event t = ⊥
+
+-- what an event leaves for which no memory was left: nothing changed, or it stopped midway
 abbrev pub Stops : Cluster → Event → Cluster → Type 0
-Stops s (ev.Pull k) t = PullsPart s k t
-Stops s (ev.Restart k) t = Kills s k rp.Done t
-Stops s event t = t ≡ s
+Stops s event t = (t ≡ s) ⊎ StopsMidway s event t
 
 -- ---- what only private functions cite
 

@@ -1,6 +1,6 @@
 //! Why a call on the table did nothing, as an event is answered.
 ghost use Rattle.std.specs.Prelude.{◌≡◌};
-ghost use Rattle.rmt_cluster.specs.Causes.{allocate_cause, commit_cause, merge_cause, IsMergeReply, IsMutateReply, IsApplyReply, what_came, is_final as ends_attempt};
+ghost use Rattle.rmt_cluster.specs.Causes.{allocate_cause, commit_cause, merge_cause, IsMergeReply, IsMutateReply, IsApplyReply, apply_cause, what_came, is_final as ends_attempt};
 
 use rmt_entries::Entry;
 use rmt_events::{Applied, Reply, StepRefused};
@@ -127,14 +127,27 @@ fn what_it_came_to(done: Done) -> Applied
     }
 }
 
+/// Why an entry wasn't done; `None` where no memory was left.
+fn no_apply(error: &ApplyError) -> Option<StepRefused>
+    ensures { result ≡ apply_cause error.now }
+{
+    match error {
+        ApplyError::Down => Some(StepRefused::Down),
+        ApplyError::NeedsPart(part) => Some(StepRefused::NeedsPart(*part)),
+        ApplyError::Memory => None,
+    }
+}
+
 /// The reply to an entry that a replica looked at. At an error no memory was left.
 pub(crate) fn apply_reply(answer: Result<Done, ApplyError>) -> Result<Reply, AllocError>
     ensures { IsApplyReply answer result }
 {
-    match answer {
-        Ok(done) => Ok(Reply::Applied(what_it_came_to(done))),
-        Err(ApplyError::Down) => Ok(Reply::Refused(StepRefused::Down)),
-        Err(ApplyError::NeedsPart(part)) => Ok(Reply::Refused(StepRefused::NeedsPart(part))),
-        Err(ApplyError::Memory) => Err(AllocError),
+    let error = match answer {
+        Ok(done) => return Ok(Reply::Applied(what_it_came_to(done))),
+        Err(error) => error,
+    };
+    match no_apply(&error) {
+        Some(why) => Ok(Reply::Refused(why)),
+        None => Err(AllocError),
     }
 }

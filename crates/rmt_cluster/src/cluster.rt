@@ -104,7 +104,8 @@ impl Cluster {
         self.events.reserve(1)?;
         self.state.sound();
         let reply = act(alloc, &mut self.state, &mut self.attempts, &event)?;
-        self.events.push((event, reply))?;
+        let stored = reply;
+        self.events.push((event, stored))?;
         Ok(reply)
     }
 }

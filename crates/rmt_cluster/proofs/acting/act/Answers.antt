@@ -16,23 +16,23 @@ is-here tree k n = record { first = n.first; last = n.last }
 pub allocate-requires-clause-here : goal.allocate-requires-clause-here
 allocate-requires-clause-here c = is-here c.args.state.now.tree c.in-Allocate.replica (subst (MayAct c.args.state.now) c.in-Allocate.is c.requires.may).0
 
-pub pull-requires-clause-here : goal.pull-requires-clause-here
-pull-requires-clause-here c = is-here c.args.state.now.tree c.in-Pull.replica (subst (MayAct c.args.state.now) c.in-Pull.is c.requires.may)
+pub pull-requires : goal.pull-requires
+pull-requires c = record { here = is-here c.args.state.now.tree c.in-Pull.replica (subst (MayAct c.args.state.now) c.in-Pull.is c.requires.may) }
 
 pub apply-requires-clause-here : goal.apply-requires-clause-here
 apply-requires-clause-here c = is-here c.args.state.now.tree c.in-Apply.replica (subst (MayAct c.args.state.now) c.in-Apply.is c.requires.may)
 
-pub merge-requires-clause-here : goal.merge-requires-clause-here
-merge-requires-clause-here c = is-here c.args.state.now.tree c.in-Merge.replica (subst (MayAct c.args.state.now) c.in-Merge.is c.requires.may)
+pub merge-requires : goal.merge-requires
+merge-requires c = record { here = is-here c.args.state.now.tree c.in-Merge.replica (subst (MayAct c.args.state.now) c.in-Merge.is c.requires.may) }
 
-pub mutate-requires-clause-here : goal.mutate-requires-clause-here
-mutate-requires-clause-here c = is-here c.args.state.now.tree c.in-Mutate.replica (subst (MayAct c.args.state.now) c.in-Mutate.is c.requires.may)
+pub mutate-requires : goal.mutate-requires
+mutate-requires c = record { here = is-here c.args.state.now.tree c.in-Mutate.replica (subst (MayAct c.args.state.now) c.in-Mutate.is c.requires.may) }
 
-pub kill-requires-clause-here : goal.kill-requires-clause-here
-kill-requires-clause-here c = is-here c.args.state.now.tree c.in-Kill.replica (subst (MayAct c.args.state.now) c.in-Kill.is c.requires.may)
+pub kill-requires : goal.kill-requires
+kill-requires c = record { here = is-here c.args.state.now.tree c.in-Kill.replica (subst (MayAct c.args.state.now) c.in-Kill.is c.requires.may) }
 
-pub restart-requires-clause-here : goal.restart-requires-clause-here
-restart-requires-clause-here c = is-here c.args.state.now.tree c.in-Restart.replica (subst (MayAct c.args.state.now) c.in-Restart.is c.requires.may)
+pub restart-requires : goal.restart-requires
+restart-requires c = record { here = is-here c.args.state.now.tree c.in-Restart.replica (subst (MayAct c.args.state.now) c.in-Restart.is c.requires.may) }
 
 pub returns-in-Apply-clause-ok : goal.returns-in-Apply-clause-ok
 returns-in-Apply-clause-ok c =

@@ -1,4 +1,4 @@
-use Rattle.std.proofs.Common.{◌∙◌, List, reverse, length, sym, ap, subst}
+use Rattle.std.proofs.Common.{◌∙◌, inl, List, reverse, length, sym, ap, subst}
 use Rattle.rmt_events.specs.Clusters.{Cluster}
 use Rattle.rmt_events.specs.Steps.{Step}
 use Rattle.rmt_events.specs.declared.event.Event.{Event}
@@ -41,6 +41,11 @@ returns-in_err-reply-clause-err c =
     (subst (λ (v : Cluster). Stops v c.args.event (cluster_of t b.made b.open_ones (reverse c.reserve.new.self.items))) c.self.view_is
     (subst (λ (es : List (Event × Reply)). Stops (cluster_of i.state i.attempts.made i.attempts.open_ones (reverse i.events.items)) c.args.event (cluster_of t b.made b.open_ones (reverse es))) (sym c.in_ok-reserve.ensures.items)
     (stops i.state t i.attempts b (reverse i.events.items) c.args.event c.in_err-reply.ensures.err)))
+
+pub returns-in_err-reserve-clause-err : goal.returns-in_err-reserve-clause-err
+returns-in_err-reserve-clause-err c =
+    let i = c.self.inside in
+    at-err c.from_residual.result _ (inl (ap (λ (es : List (Event × Reply)). cluster_of i.state i.attempts.made i.attempts.open_ones (reverse es)) c.in_err-reserve.ensures.items ∙ c.self.view_is))
 
 pub returns-in_err-reply-clause-log : goal.returns-in_err-reply-clause-log
 returns-in_err-reply-clause-log c =
