@@ -1,12 +1,11 @@
 -- What is staged for an entry of the log is the block that it accepted.
-use Rattle.std.proofs.Common.{◌≡◌, ◌⊎◌, ℕ, inl, inr, Bool, true, false, cond, List, [], ◌∷◌, length, map, refl, sym, ap, subst, ◌∙◌, nat_eq}
+use Rattle.std.proofs.Common.{◌≡◌, ℕ, inl, inr, Bool, true, false, cond, List, [], ◌∷◌, length, map, refl, sym, ap, subst, ◌∙◌, nat_eq}
 use Rattle.std.specs.Prelude.{IfSome}
 use Rattle.std.specs.List.{All}
 use Rattle.std.specs.Arc.{arc_value}
 use Rattle.std.specs.declared.option.Option.{Option}
 use Rattle.std.specs.declared.option.Option.TheVariants.{Some, None}
 use Rattle.rmt_values.specs.Rows.{Shape, fits}
-use Rattle.rmt_entries.specs.declared.entry.Entry.{Entry}
 use Rattle.rmt_entries.specs.declared.entry.Entry.TheVariants as entries
 use Rattle.rmt_block.specs.Blocks.{BlockView}
 use Rattle.rmt_model.specs.Words.{Has, Each}
@@ -17,14 +16,14 @@ use Rattle.rmt_replica.specs.Replicas.{ReplicaView, IsStandingReplica}
 use Rattle.rmt_replica.specs.StagedBlocks.{staged_at}
 use Rattle.rmt_replica_view.specs.Shown.{shown}
 use Rattle.rmt_replica_view.proofs.StagedOrder.{found}
-use Rattle.rmt_events.specs.Views.{Block, Staged, Replica}
+use Rattle.rmt_events.specs.Views.{Block}
 use Rattle.rmt_events.specs.Clusters.{Cluster, block_of, committed_at, without_kinds}
-use Rattle.rmt_events.specs.Whole.{Follows, IsRightlyStaged, IsCommitted, IsWhole}
+use Rattle.rmt_events.specs.Whole.{Follows, IsRightlyStaged, IsCommitted}
 use Rattle.rmt_events.specs.declared.event.Event.{Event}
 use Rattle.rmt_events.specs.declared.event.Event.TheVariants as ev
 use Rattle.rmt_events.specs.declared.reply.Reply.{Reply}
 use Rattle.rmt_events.specs.declared.reply.Reply.TheVariants as rp
-use Rattle.rmt_supply.specs.PartSources.{staged_for, IsAccepted}
+use Rattle.rmt_supply.specs.PartSources.{IsAccepted}
 use Rattle.rmt_cluster.specs.States.{StateView, cluster_of}
 use Rattle.rmt_cluster.specs.Attempts.{OpenAttempts}
 use Rattle.rmt_cluster.specs.Acting.{KeepsAccepted}

@@ -1,11 +1,11 @@
 -- An entry that a replica does, as a cluster sees it.
 use Rattle.std.proofs.Common.{◌≡◌, ℕ, ◌+◌, ◌<◌, ◌≤◌, inl, inr, Bool, true, false, cond, List, [], ◌∷◌, length, refl, sym, ap, subst, ◌∙◌, arith, nat_eq}
 use Rattle.std.proofs.lemmas.Bool.Decides.{nat_tests}
-use Rattle.std.specs.Prelude.{slice_get, slice_set, IfOk, IfSome, MatchOption}
+use Rattle.std.specs.Prelude.{slice_set, IfOk, IfSome, MatchOption}
 use Rattle.std.specs.Arc.{arc_value}
 use Rattle.std.specs.declared.alloc.AllocError.{AllocError}
 use Rattle.std.specs.declared.option.Option.{Option}
-use Rattle.std.specs.declared.option.Option.TheVariants.{Some, None}
+use Rattle.std.specs.declared.option.Option.TheVariants.{Some}
 use Rattle.std.specs.declared.result.Result.{Result}
 use Rattle.std.specs.declared.result.Result.TheVariants.{Ok, Err}
 use Rattle.rmt_names.specs.Names.{Name, Covers}
@@ -29,7 +29,7 @@ use Rattle.rmt_replica.specs.declared.applied.Applied.TheVariants as done
 use Rattle.rmt_replica.specs.declared.apply_error.ApplyError.{ApplyError}
 use Rattle.rmt_replica.specs.declared.apply_error.ApplyError.TheVariants as errors
 use Rattle.rmt_replica_view.specs.Shown.{shown}
-use Rattle.rmt_replica_view.proofs.StateViews.{already-same, dropped-same, waits-same}
+use Rattle.rmt_replica_view.proofs.StateViews.{already-same, waits-same}
 use Rattle.rmt_replica_view.proofs.CallViews.{settles-seen, drop-seen, part-seen}
 use Rattle.rmt_events.specs.Views.{Replica}
 use Rattle.rmt_events.specs.Clusters.{Attempt, Cluster}

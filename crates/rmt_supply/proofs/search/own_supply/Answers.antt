@@ -1,4 +1,4 @@
-use Rattle.std.proofs.Common.{◌∙◌, refl, sym, ap, subst}
+use Rattle.std.proofs.Common.{◌∙◌, sym, subst}
 use Rattle.std.specs.Arc.{arc_value}
 use Rattle.rmt_values.specs.Rows.{Shape}
 use Rattle.rmt_supply.specs.PartSources.{IsOfStaged}

@@ -1,4 +1,4 @@
-use Rattle.std.proofs.Common.{◌≡◌, ◌-◌, ◌<◌, ◌∙◌, List, length, arith, refl, sym, ap, subst, slice_set, true}
+use Rattle.std.proofs.Common.{◌≡◌, ◌-◌, ◌<◌, ◌∙◌, List, length, arith, sym, ap, subst, slice_set, true}
 use Rattle.std.specs.Prelude.{slice_get, IfOk}
 use Rattle.std.specs.Arc.{arc_value}
 use Rattle.std.specs.declared.option.Option.TheVariants.{Some}
@@ -14,7 +14,6 @@ use Rattle.rmt_cluster.specs.States.{StateView, Belongs, Acts}
 use Rattle.rmt_cluster.specs.Acting.{KeepsAccepted}
 use Rattle.rmt_cluster.proofs.StateLemmas.{at-place}
 use Rattle.rmt_cluster.proofs.StageLemmas.{state-kept}
-use Rattle.rmt_cluster.proofs.AssignLemmas.{IsWorker}
 use Rattle.rmt_cluster.proofs.ApplyLemmas.{apply-down, apply-past, apply-lacks, apply-told, one-table, suits-of-table, change-keeps, missing-found, ready-found}
 use Rattle.rmt_cluster.proofs.state.State.apply.Goals as goal
 
@@ -72,7 +71,7 @@ returns-in-Missing-clause-ok c =
     let l = c.len.ensures.len ∙ ap length c.copy.ensures.log in
     let t = c.if-i-len.false in
     let m = missing-found i.replicas.items c.deref.result.now x c.args.entry c.in-Missing.part c.in_ok-supply.field-0 c.deref.ensures.value
-        (c.in_ok-supply.ensures x (subst (λ (rs : List ReplicaView). slice_get rs j ≡ Some x) (sym c.deref.ensures.value) there)) c.in-Missing.is in
+    (c.in_ok-supply.ensures x (subst (λ (rs : List ReplicaView). slice_get rs j ≡ Some x) (sym c.deref.ensures.value) there)) c.in-Missing.is in
     subst (λ (v : StateView). Acts v (ev.Apply c.args.replica c.args.entry) (rp.Refused (rf.NeedsPart c.in-Missing.part)) v) c.self.view_is
     (apply-lacks (record { tree = i.tree; replicas = i.replicas.items }) c.args.replica c.args.entry j x c.in-Missing.part (record { state = c.self.invariant; numbered = omega (arith, f, e); there = there }) (sym c.is_up.ensures ∙ c.if-not-is_up.false) (omega (arith, l, t)) m)
 
@@ -83,7 +82,7 @@ apply-requires-clause-of_table c =
     let y = c.index_mut.result.now in
     let there : slice_get i.replicas.items j ≡ Some y = grind (arith, common_steps, gets) in
     suits-of-table i.replicas.items y c.args.entry c.in-Ready.supply (ready-found i.replicas.items c.deref.result.now y c.args.entry c.in-Ready.supply c.in_ok-supply.field-0 c.deref.ensures.value
-        (c.in_ok-supply.ensures y (subst (λ (rs : List ReplicaView). slice_get rs j ≡ Some y) (sym c.deref.ensures.value) there)) c.in-Ready.is)
+    (c.in_ok-supply.ensures y (subst (λ (rs : List ReplicaView). slice_get rs j ≡ Some y) (sym c.deref.ensures.value) there)) c.in-Ready.is)
 
 pub invariant_of-self : goal.invariant_of-self
 invariant_of-self c =
@@ -108,10 +107,10 @@ returns-clause-ok c =
     let s : StateView = record { tree = i.tree; replicas = i.replicas.items } in
     let z : StateView = record { tree = i.tree; replicas = slice_set i.replicas.items j c.apply.new.self } in
     let u = ready-found i.replicas.items c.deref.result.now y c.args.entry c.in-Ready.supply c.in_ok-supply.field-0 c.deref.ensures.value
-        (c.in_ok-supply.ensures y (subst (λ (rs : List ReplicaView). slice_get rs j ≡ Some y) (sym c.deref.ensures.value) again)) c.in-Ready.is in
+    (c.in_ok-supply.ensures y (subst (λ (rs : List ReplicaView). slice_get rs j ≡ Some y) (sym c.deref.ensures.value) again)) c.in-Ready.is in
     subst (λ (v : StateView). IfOk c.apply_reply.result (λ reply. Acts v (ev.Apply c.args.replica c.args.entry) reply z)) c.self.view_is
     (apply-told s c.args.replica j y c.apply.new.self c.args.entry c.in-Ready.supply c.apply.result c.apply_reply.result (record { state = c.self.invariant; numbered = omega (arith, f, e); there = again })
-        (at-one i.replicas.items j x IsStandingReplica there c.copy.ensures.standing y again)
-        (at-one i.replicas.items j x (λ r. r.up ≡ true) there (sym c.is_up.ensures ∙ c.if-not-is_up.false) y again)
-        (at-one i.replicas.items j x (λ r. c.args.entry < length r.log) there (omega (arith, l, t)) y again)
-        u c.apply.ensures.answer c.apply.ensures.change c.apply_reply.ensures)
+    (at-one i.replicas.items j x IsStandingReplica there c.copy.ensures.standing y again)
+    (at-one i.replicas.items j x (λ r. r.up ≡ true) there (sym c.is_up.ensures ∙ c.if-not-is_up.false) y again)
+    (at-one i.replicas.items j x (λ r. c.args.entry < length r.log) there (omega (arith, l, t)) y again)
+    u c.apply.ensures.answer c.apply.ensures.change c.apply_reply.ensures)
