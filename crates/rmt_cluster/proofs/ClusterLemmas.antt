@@ -209,6 +209,7 @@ stepped s t a b events e r m c d =
     let taken : AreTakenBy s ((e, r) ∷ events) = (subst (λ n. IsTaken s.tree.schema n e) (length-shown s.replicas) m, c.taken) in
     record {
       whole = whole-step (cluster_of s a.made a.open_ones events) (cluster_of t b.made b.open_ones ((e, r) ∷ events)) e r c.whole (record { after = cluster_of t b.made b.open_ones events; does = d events; stored = refl });
+      some = let n = c.some in let o = sizes s t a b events e l in omega (arith, n, o);
       counted = let n = l.counts in let o = c.counted in omega (arith, n, o);
       here = kept-here s t a b events e m c.here l;
       taken = kept-taken s t ((e, r) ∷ events) taken l.schema (sizes s t a b events e l);
@@ -218,6 +219,7 @@ same-cluster : (s t : StateView) (a b : OpenAttempts) (events : List (Event × R
 same-cluster s t a b events c e q =
     subst (λ (v : StateView). IsCluster v b events) (sym q) (record {
       whole = subst (λ (xs : List Attempt). IsWhole (cluster_of s b.made xs events)) (sym e.open_ones) (subst (λ n. IsWhole (cluster_of s n a.open_ones events)) (sym e.made) c.whole);
+      some = c.some;
       counted = let m = e.made in let o = c.counted in omega (arith, m, o);
       here = λ x h. c.here x (subst (λ (xs : List Attempt). Has xs x) e.open_ones h);
       taken = c.taken;
@@ -242,6 +244,7 @@ stopped s t a b events (ev.Pull k) m c d =
     let l = part-leaves (cluster_of s a.made a.open_ones events) (ev.Pull k) (cluster_of t a.made a.open_ones events) (table_at s.tree) (with_replica (map shown s.replicas) k p.new) a.open_ones p.change (omega arith) refl (length-with (map shown s.replicas) k p.new) (λ x h. old (cluster_of s a.made a.open_ones events) (ev.Pull k) x h) in
     same-cluster t t a b events (record {
       whole = whole-copies (cluster_of s a.made a.open_ones events) (cluster_of t a.made a.open_ones events) k d.0.log c.whole d.0.prefix (record { old = p.old; new = p.new; at = record { is_in = p.at.is_in; number = p.at.number }; up = p.up; does = (p.does.longer, p.does.pulls); change = p.change });
+      some = let n = c.some in let o = sizes s t a a events (ev.Pull k) l in omega (arith, n, o);
       counted = subst (λ (u : Table). a.made ≤ numbers_given u.next) (sym (ap (λ (z : Cluster). z.table) p.change)) c.counted;
       here = kept-here s t a a events (ev.Pull k) m c.here l;
       taken = kept-taken s t events c.taken l.schema (sizes s t a a events (ev.Pull k) l);
@@ -251,6 +254,7 @@ stopped s t a b events (ev.Restart k) m c d =
     let l = leaves (cluster_of s a.made a.open_ones events) (cluster_of t a.made a.open_ones events) (ev.Kill k) rp.Done m p in
     same-cluster t t a b events (record {
       whole = whole-kills (cluster_of s a.made a.open_ones events) (cluster_of t a.made a.open_ones events) k rp.Done c.whole p;
+      some = let n = c.some in let o = sizes s t a a events (ev.Kill k) l in omega (arith, n, o);
       counted = let n = l.counts in let o = c.counted in omega (arith, n, o);
       here = kept-here s t a a events (ev.Kill k) m c.here l;
       taken = kept-taken s t events c.taken l.schema (sizes s t a a events (ev.Kill k) l);

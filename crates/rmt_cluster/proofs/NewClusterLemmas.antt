@@ -1,5 +1,5 @@
 -- A new cluster, put together from a new state.
-use Rattle.std.proofs.Common.{◌≡◌, suc, Bool, List, [], ◌∷◌, map, length, refl, sym, ap, subst, arith, ◌∙◌}
+use Rattle.std.proofs.Common.{◌≡◌, suc, ◌≤◌, Bool, List, [], ◌∷◌, map, length, refl, sym, ap, subst, arith, ◌∙◌}
 use Rattle.rmt_values.specs.Rows.{Shape}
 use Rattle.rmt_model.specs.Words.{Has, Each}
 use Rattle.rmt_replica.specs.Replicas.{ReplicaView}
@@ -20,9 +20,17 @@ nothing-beside : (s : StateView) (a : OpenAttempts) (events : List (Event × Rep
 nothing-beside s a events m o e =
     ap (λ n. cluster_of s n a.open_ones events) m ∙ (ap (λ (xs : List Attempt). cluster_of s 0 xs events) o ∙ ap (λ (es : List (Event × Reply)). cluster_of s 0 [] es) e)
 
-pub new-invariant : (schema : Shape) (up : List Bool) (s : StateView) (a : OpenAttempts) (events : List (Event × Reply)) → IsNewState schema up s → a.made ≡ 0 → a.open_ones ≡ [] → events ≡ [] → IsCluster s a events
-new-invariant schema up s a events n m o e = record {
+length-mapped : {A B : Type 0} (f : A → B) (xs : List A) → length (map f xs) ≡ length xs
+length-mapped f [] = refl
+length-mapped f (x ∷ xs) = ap suc (length-mapped f xs)
+
+pub new-many : (schema : Shape) (up : List Bool) (s : StateView) → IsNewState schema up s → length (map shown s.replicas) ≡ length up
+new-many schema up s n = length-mapped shown s.replicas ∙ (sym (length-mapped (λ (r : ReplicaView). r.up) s.replicas) ∙ ap length n.up_ones)
+
+pub new-invariant : (schema : Shape) (up : List Bool) (s : StateView) (a : OpenAttempts) (events : List (Event × Reply)) → IsNewState schema up s → 1 ≤ length up → a.made ≡ 0 → a.open_ones ≡ [] → events ≡ [] → IsCluster s a events
+new-invariant schema up s a events n l m o e = record {
   whole = subst IsWhole (sym (nothing-beside s a events m o e)) (new-is-whole schema up s n);
+  some = let k = sym (length-mapped shown s.replicas) ∙ new-many schema up s n in omega (arith, k, l);
   counted = omega (arith, m);
   here = λ x h. absurd (subst (λ (xs : List Attempt). Has xs x) o h);
   taken = subst (λ (es : List (Event × Reply)). Each (λ x. IsTaken s.tree.schema (length s.replicas) x.0) es) (sym e) tt;
@@ -38,10 +46,3 @@ new-is-new schema up s a events n m o e = record {
   replicas = n.replicas;
   up_ones = up-shown s.replicas ∙ n.up_ones;
 }
-
-length-mapped : {A B : Type 0} (f : A → B) (xs : List A) → length (map f xs) ≡ length xs
-length-mapped f [] = refl
-length-mapped f (x ∷ xs) = ap suc (length-mapped f xs)
-
-pub new-many : (schema : Shape) (up : List Bool) (s : StateView) → IsNewState schema up s → length (map shown s.replicas) ≡ length up
-new-many schema up s n = length-mapped shown s.replicas ∙ (sym (length-mapped (λ (r : ReplicaView). r.up) s.replicas) ∙ ap length n.up_ones)

@@ -55,9 +55,11 @@ IsTaken schema count (ev.Fetches k allowed) = ⊥
 abbrev pub MayStep : Cluster → Event → Type 0
 MayStep s event = IsTaken s.table.schema (length s.replicas) event
 
--- the cluster is whole; each attempt took a number, and was made at one of its replicas; each event was one that it takes
+-- the cluster is whole, and has a replica; each attempt took a number, and was made at one of its replicas; each event was one
+-- that it takes
 pub record IsCluster (s : StateView) (a : OpenAttempts) (events : List (Event × Reply)) : Type 0 where
   pub whole : IsWhole (cluster_of s a.made a.open_ones events)
+  pub some : 1 ≤ length s.replicas
   pub counted : a.made ≤ numbers_given s.tree.next
   pub here : (x : Attempt) → Has a.open_ones x → IsNumber x.replica (length s.replicas)
   pub taken : Each (λ x. IsTaken s.tree.schema (length s.replicas) x.0) events

@@ -1,4 +1,4 @@
-ghost use Rattle.std.specs.Prelude.{◌≤◌};
+ghost use Rattle.std.specs.Prelude.{◌≡◌, ◌≤◌};
 ghost use Rattle.rmt_cluster.specs.States.{IsState};
 ghost use Rattle.rmt_cluster.specs.Clusters.{numbers_given};
 
@@ -38,6 +38,20 @@ impl Model for State {
 }
 
 impl State {
+    /// The table.
+    pub fn tree(&self) -> &TableTree
+        ensures { result.now ≡ self.now.tree }
+    {
+        &self.tree
+    }
+
+    /// The replicas, in the order of their numbers.
+    pub fn replicas(&self) -> &[Replica]
+        ensures { result.now ≡ self.now.replicas }
+    {
+        &self.replicas
+    }
+
     /// Tells what always holds of it: its replicas are those of its table, and the table's partitions have given no more
     /// numbers than their limits allow. It does nothing.
     pub(crate) fn sound(&self)

@@ -15,7 +15,7 @@ use std::alloc::{AllocError, Global};
 impl State {
     /// A merge of neighbours among the live parts of a replica's copy enters the log. At an error no memory was left, and nothing
     /// changed.
-    pub fn merge(
+    pub(crate) fn merge(
         &mut self,
         alloc: Global,
         replica: ReplicaId,
@@ -40,7 +40,7 @@ impl State {
 
     /// The mutation of a live part of a replica's copy, up to the mutation at a place, enters the log. At an error no memory was
     /// left, and nothing changed.
-    pub fn mutate(
+    pub(crate) fn mutate(
         &mut self,
         alloc: Global,
         replica: ReplicaId,

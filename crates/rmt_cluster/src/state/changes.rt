@@ -14,7 +14,7 @@ use std::alloc::{AllocError, Global};
 
 impl State {
     /// A command takes a number in each partition. At an error no memory was left, and nothing changed.
-    pub fn create_mutation(
+    pub(crate) fn create_mutation(
         &mut self,
         alloc: Global,
         command: CheckedMutation,
@@ -35,7 +35,7 @@ impl State {
     }
 
     /// The blocks of a partition are dropped. At an error no memory was left, and nothing changed.
-    pub fn drop_partition(
+    pub(crate) fn drop_partition(
         &mut self,
         alloc: Global,
         partition: PartitionId,

@@ -24,7 +24,7 @@ fn reply_to(pulled: Result<u32, ReplicaError>) -> Result<Reply, AllocError>
 
 impl State {
     /// A replica copies the rest of the log. At an error no memory was left, and the replica may have copied some of it.
-    pub fn pull(&mut self, alloc: Global, replica: ReplicaId) -> Result<Reply, AllocError>
+    pub(crate) fn pull(&mut self, alloc: Global, replica: ReplicaId) -> Result<Reply, AllocError>
         requires here { IsReplica self.old.tree replica }
         ensures ok { IfOk result (λ reply. Acts self.old (ev.Pull replica) reply self.new) }
         ensures err { OnErr result (PullsSome self.old replica self.new) }

@@ -11,7 +11,7 @@ use std::alloc::{AllocError, Global};
 
 impl State {
     /// A replica's session ends, where it is open, and the replica is down. It takes no memory.
-    pub fn kill(&mut self, replica: ReplicaId)
+    pub(crate) fn kill(&mut self, replica: ReplicaId)
         requires here { IsReplica self.old.tree replica }
         ensures { Acts self.old (ev.Kill replica) rp.Done self.new }
     {
@@ -21,7 +21,7 @@ impl State {
 
     /// A replica's session ends, where it is open, and another one begins; the replica is up, and looks at each copied entry
     /// again. At an error no memory was left, and the replica was killed.
-    pub fn restart(&mut self, alloc: Global, replica: ReplicaId) -> Result<(), AllocError>
+    pub(crate) fn restart(&mut self, alloc: Global, replica: ReplicaId) -> Result<(), AllocError>
         requires here { IsReplica self.old.tree replica }
         ensures ok { OnOk result (Acts self.old (ev.Restart replica) rp.Done self.new) }
         ensures err { OnErr result (Acts self.old (ev.Kill replica) rp.Done self.new) }
