@@ -13,3 +13,4 @@ pub mod InsertActs
 pub mod NewLemmas
 pub mod NewClusterLemmas
 pub mod ClusterLemmas
+pub mod SyncLemmas

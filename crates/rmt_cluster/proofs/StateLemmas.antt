@@ -19,7 +19,7 @@ use Rattle.rmt_events.specs.Clusters.{Attempt, with_replica}
 use Rattle.rmt_events.specs.ClusterChanges.{IsNumbered}
 use Rattle.rmt_events.specs.declared.event.Event.{Event}
 use Rattle.rmt_events.specs.declared.reply.Reply.{Reply}
-use Rattle.rmt_cluster.specs.States.{StateView, Belongs, AreNumbered, IsState, cluster_of}
+use Rattle.rmt_cluster.specs.States.{StateView, Belongs, AreNumbered, IsWorkerAt, IsState, cluster_of}
 
 -- ---- logs
 
@@ -96,6 +96,15 @@ has-shown (r ∷ rs) (suc i) x e = inr (has-shown rs i x e)
 
 pub numbered-at : (s : StateView) (i : ℕ) (x : ReplicaView) (made : ℕ) (attempts : List Attempt) (events : List (Event × Reply)) → IsState s → slice_get s.replicas i ≡ Some x → IsNumbered (cluster_of s made attempts events) (1 + i) (shown x)
 numbered-at s i x made attempts events w e = record { is_in = has-shown s.replicas i x e; number = Belongs.numbered (at-place s.tree 1 s.replicas i x w.numbered e) }
+
+-- the replica of a number
+pub worker-shown : (s : StateView) (k : ℕ) (r : ReplicaView) (made : ℕ) (attempts : List Attempt) (events : List (Event × Reply)) → IsWorkerAt s k r → IsNumbered (cluster_of s made attempts events) k (shown r)
+worker-shown s k r made attempts events w = record { is_in = Has-mapped s.replicas w.is_in; number = w.numbered }
+  where
+    Has-mapped : (rs : List ReplicaView) → Has rs r → Has (map shown rs) (shown r)
+    Has-mapped [] h = absurd h
+    Has-mapped (x ∷ rs) (inl e) = inl (ap shown e)
+    Has-mapped (x ∷ rs) (inr h) = inr (Has-mapped rs h)
 
 -- to set a place is to set the replica of its number
 set-shown : (tree : Held) (k : ℕ) (rs : List ReplicaView) (i : ℕ) (x y : ReplicaView) → AreNumbered tree k rs → slice_get rs i ≡ Some x → map shown (slice_set rs i y) ≡ with_replica (map shown rs) (k + i) (shown y)

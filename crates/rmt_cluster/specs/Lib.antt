@@ -8,3 +8,4 @@ pub mod Causes
 pub mod Acting
 pub mod NewClusters
 pub mod Clusters
+pub mod Syncs

@@ -3,6 +3,7 @@
 -- this program's own.
 use Rattle.std.specs.Prelude.{◌≡◌, ℕ, ◌+◌, List, [], ◌∷◌, length, map}
 use Rattle.std.specs.declared.option.Option.{Option}
+use Rattle.rmt_model.specs.Words.{Has}
 use Rattle.rmt_table_model.specs.Held.{Held}
 use Rattle.rmt_table.specs.TableTrees.{table_at, IsCopyOf}
 use Rattle.rmt_replica.specs.Replicas.{ReplicaView, copy_of}
@@ -29,6 +30,11 @@ pub record Belongs (tree : Held) (number : ℕ) (r : ReplicaView) : Type 0 where
 abbrev pub AreNumbered : Held → ℕ → List ReplicaView → Type 0
 AreNumbered tree k [] = Unit {0}
 AreNumbered tree k (r ∷ rest) = Belongs tree k r × AreNumbered tree (k + 1) rest
+
+-- the replica of a number
+pub record IsWorkerAt (s : StateView) (k : ℕ) (r : ReplicaView) : Type 0 where
+  pub is_in : Has s.replicas r
+  pub numbered : r.number ≡ k
 
 -- the replicas are those of the table, numbered from 1
 pub record IsState (s : StateView) : Type 0 where

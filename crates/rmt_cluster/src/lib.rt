@@ -9,6 +9,8 @@ mod cluster;
 mod commands;
 mod inserts;
 mod state;
+mod sync_error;
 
 pub use cluster::Cluster;
 pub use state::State;
+pub use sync_error::SyncError;

@@ -1,0 +1,140 @@
+//! A replica is brought to the whole log.
+ghost use Rattle.std.specs.Prelude.{◌≡◌, ◌<◌, false, length, IfSome, MatchResult};
+ghost use Rattle.std.specs.declared.option.Option.TheVariants.{Some, None};
+ghost use Rattle.rmt_entries.specs.declared.entry.Entry.{Entry as Source};
+ghost use Rattle.rmt_model.specs.Lawful.{entry_at};
+ghost use Rattle.rmt_replica_view.specs.Shown.{shown};
+ghost use Rattle.rmt_cluster.specs.Clusters.{IsNumber};
+ghost use Rattle.rmt_cluster.specs.Syncs.{SyncsTo, HasDone, PullsFor, DoesNext, IsNext, IsNextEntry, missing, pulled, source_of as source_told};
+
+use crate::cluster::Cluster;
+use crate::sync_error::SyncError;
+use rmt_entries::Entry;
+use rmt_events::{Event, Reply, StepRefused};
+use rmt_names::PartName;
+use rmt_replica::Replica;
+use rmt_values::ReplicaId;
+use std::alloc::{AllocError, Global};
+
+/// The first place from one on that isn't done in a replica's copy; none where all are.
+fn next_pending(worker: &Replica, from: usize) -> Option<usize>
+    ensures { IsNext (shown worker.now) from result }
+{
+    let len = worker.copy().len();
+    'places: for i in from..len {
+        if !worker.done(i) {
+            return Some(i);
+        }
+    }
+    None
+}
+
+/// The source of the Get at a place of a replica's copy; 0 for other entries.
+fn source_of(worker: &Replica, i: usize) -> ReplicaId
+    ensures { (e : Source) → entry_at worker.now.log i ≡ Some e → result ≡ source_told e }
+{
+    let copy = worker.copy();
+    let Some(token) = copy.entry(i) else {
+        return 0;
+    };
+    match token.value() {
+        Entry::Get { source, .. } => *source,
+        _ => 0,
+    }
+}
+
+/// Whether a reply says that the log was pulled.
+fn was_pulled(reply: &Result<Reply, AllocError>) -> bool
+    ensures { MatchResult reply.now (λ r. result ≡ pulled r) (λ e. result ≡ false) }
+{
+    match reply {
+        Ok(Reply::Pulled(_)) => true,
+        _ => false,
+    }
+}
+
+/// The part that a reply says is missing; none where it says otherwise.
+fn missing_part(reply: &Result<Reply, AllocError>) -> Option<PartName>
+    ensures { MatchResult reply.now (λ r. result ≡ missing r) (λ e. result ≡ None) }
+{
+    match reply {
+        Ok(Reply::Refused(StepRefused::NeedsPart(part))) => Some(*part),
+        _ => None,
+    }
+}
+
+impl Cluster {
+    /// The first event of a sync: a replica pulls the rest of the log.
+    fn pull_all(&mut self, alloc: Global, replica: ReplicaId) -> Result<(), SyncError>
+        requires here { IsNumber replica (length self.old.replicas) }
+        ensures pulls { PullsFor self.old replica result self.new }
+        ensures schema { self.new.table.schema ≡ self.old.table.schema }
+        ensures replicas { length self.new.replicas ≡ length self.old.replicas }
+    {
+        let reply = self.step(alloc, Event::Pull { replica });
+        if reply.is_err() {
+            return Err(SyncError::Memory);
+        }
+        if !was_pulled(&reply) {
+            return Err(SyncError::ReplicaDown);
+        }
+        Ok(())
+    }
+
+    /// The first place that isn't done at a replica that has the whole log, and has done all below a place; none where it has
+    /// done all. It takes no step for what was done from the start on.
+    fn next_entry(&self, replica: ReplicaId, from: usize) -> Option<usize>
+        requires here { IsNumber replica (length self.now.replicas) }
+        requires done { HasDone self.now replica from }
+        ensures next { IsNextEntry self.now replica from result }
+        ensures few { IfSome result (λ i. i < 65536) }
+    {
+        self.state.sound();
+        let worker = self.state.worker(replica);
+        next_pending(worker, from.max(worker.first_pending()))
+    }
+
+    /// The next event of a sync: a replica that has the whole log, and has done all before an entry, does that one.
+    fn do_next(&mut self, alloc: Global, replica: ReplicaId, i: usize) -> Result<(), SyncError>
+        requires here { IsNumber replica (length self.old.replicas) }
+        requires ready { HasDone self.old replica i }
+        requires place { i < length self.old.table.log }
+        ensures does { DoesNext self.old replica i result self.new }
+        ensures log { self.new.table.log ≡ self.old.table.log }
+        ensures schema { self.new.table.schema ≡ self.old.table.schema }
+        ensures replicas { length self.new.replicas ≡ length self.old.replicas }
+    {
+        self.state.sound();
+        let source = source_of(self.state.worker(replica), i);
+        let entry = i as u32;
+        let reply = self.step(alloc, Event::Apply { replica, entry });
+        if reply.is_err() {
+            return Err(SyncError::Memory);
+        }
+        match missing_part(&reply) {
+            None => Ok(()),
+            Some(part) => Err(SyncError::NoSource {
+                part,
+                replica: source,
+            }),
+        }
+    }
+
+    /// Brings a replica to the whole log: it pulls, and does every entry that isn't done, in order.
+    ///
+    /// At an error what was done so far stays. Out of memory in the midst of a pull, some of the log was pulled.
+    pub fn sync(&mut self, alloc: Global, replica: ReplicaId) -> Result<(), SyncError>
+        requires here { IsNumber replica (length self.old.replicas) }
+        ensures syncs { SyncsTo self.old replica result self.new }
+        ensures schema { self.new.table.schema ≡ self.old.table.schema }
+        ensures replicas { length self.new.replicas ≡ length self.old.replicas }
+    {
+        self.pull_all(alloc, replica)?;
+        let mut from = 0;
+        'entries: while let Some(i) = self.next_entry(replica, from) {
+            self.do_next(alloc, replica, i)?;
+            from = i + 1;
+        }
+        Ok(())
+    }
+}
