@@ -23,7 +23,7 @@ use Rattle.rmt_table.specs.declared.change_error.ChangeError.{ChangeError}
 use Rattle.rmt_table.specs.declared.merge_error.MergeError.{MergeError}
 use Rattle.rmt_table.specs.declared.mutate_error.MutateError.{MutateError}
 use Rattle.rmt_table.specs.TableTrees.{table_at, IsCopyOf, AfterNoCommit, IsUnlocked, IsDrop, IsMergeOf, IsMutateOf}
-use Rattle.rmt_table_tests.specs.TwoCopies.{TwoCopies, AreCopied, GoesOn}
+use Rattle.rmt_table_tests.specs.TwoCopies.{AreCopied, GoesOn}
 
 -- ---- copies
 

@@ -1,12 +1,10 @@
 -- A table of two replicas, with a copy of its log at each.
 -- No public source: this program's own.
-use Rattle.std.specs.Prelude.{◌≡◌, ℕ, ◌<◌, ◌≤◌, List, length}
-use Rattle.std.specs.declared.option.Option.{Option}
+use Rattle.std.specs.Prelude.{◌≡◌, ℕ, ◌≤◌, length}
 use Rattle.std.specs.declared.option.Option.TheVariants.{Some}
 use Rattle.rmt_values.specs.declared.kind.Kind.TheVariants.{UInt64}
 use Rattle.rmt_values.specs.Rows.{kind_at}
 use Rattle.rmt_history.specs.Copies.{History}
-use Rattle.rmt_model.specs.Words.{Has}
 use Rattle.rmt_model.specs.Lawful.{IsPrefix}
 use Rattle.rmt_table_model.specs.Held.{Held}
 use Rattle.rmt_table.specs.TableTrees.{IsCopyOf}
@@ -34,9 +32,3 @@ pub record GoesOn (old new : Held) : Type 0 where
   pub schema : new.schema ≡ old.schema
   pub replicas : length new.sessions ≡ length old.sessions
   pub log : IsPrefix old.log new.log
-
--- one of the pairs is of the partition, with a number above the other
-pub record HasAbove (pairs : List (Option ℕ × ℕ)) (p : Option ℕ) (other : ℕ) : Type 0 where
-  pub number : ℕ
-  pub is_in : Has pairs (p, number)
-  pub above : other < number

@@ -2,6 +2,8 @@
 #![tactic(auto)]
 
 #[cfg(test)]
+mod blocks;
+#[cfg(test)]
 mod chosen;
 #[cfg(test)]
 mod copies;
@@ -10,7 +12,7 @@ mod drops;
 #[cfg(test)]
 mod expected;
 #[cfg(test)]
-mod few;
+mod filling;
 #[cfg(test)]
 mod inserts;
 #[cfg(test)]
@@ -20,7 +22,11 @@ mod merges;
 #[cfg(test)]
 mod mutations;
 #[cfg(test)]
+mod parts;
+#[cfg(test)]
 mod played;
+#[cfg(test)]
+mod refusals;
 #[cfg(test)]
 mod schemas;
 #[cfg(test)]

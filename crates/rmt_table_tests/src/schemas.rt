@@ -1,4 +1,4 @@
-//! The schemas of the tests' tables.
+//! The tables of the tests, and their schemas.
 use rmt_values::{Column, Kind, Name, Schema};
 use std::alloc::Global;
 use std::sync::Arc;
@@ -22,13 +22,23 @@ fn schema_of(
     }
 }
 
-/// A table that isn't divided, with this window.
-pub(crate) fn whole(alloc: Global, window: u32) -> Result<Arc<Schema, Global>, Fail> {
-    schema_of(alloc, None, window)
+/// A table of the tests, with this window.
+#[derive(Clone, Copy)]
+pub(crate) enum Table {
+    /// It isn't divided.
+    Whole(u32),
+    /// It has a partition for each number in its column.
+    Divided(u32),
 }
 
-/// A table with a partition for each number in its column.
-pub(crate) fn divided(alloc: Global, window: u32) -> Result<Arc<Schema, Global>, Fail> {
-    let column = Name::from_slice(alloc, b"c")?;
-    schema_of(alloc, Some((column, 1)), window)
+impl Table {
+    pub fn schema(self, alloc: Global) -> Result<Arc<Schema, Global>, Fail> {
+        match self {
+            Table::Whole(window) => schema_of(alloc, None, window),
+            Table::Divided(window) => {
+                let column = Name::from_slice(alloc, b"c")?;
+                schema_of(alloc, Some((column, 1)), window)
+            }
+        }
+    }
 }

@@ -1,14 +1,15 @@
-//! What a test does at a table, and what it expects.
+//! What a test does at a table, and what it expects. All of it is plain data, which constants hold.
 ghost use Rattle.rmt_table_tests.specs.TwoCopies.{IsOneOfTwo};
 
-use crate::few::Few;
-use rmt_block::BlockId;
-use rmt_names::{PartName, PartitionId};
-use rmt_table::{AllocateError, ChangeError, CommitError, MergeError, MutateError};
+use crate::blocks::Block;
+use crate::filling::Filling;
+use crate::parts::Part;
+use crate::refusals::Refusal;
+use rmt_names::PartitionId;
 use rmt_values::ReplicaId;
 
 /// One of the two replicas.
-#[derive(Clone, Copy, Debug, PartialEq, Eq)]
+#[derive(Clone, Copy, PartialEq)]
 pub(crate) enum Side {
     First,
     Second,
@@ -26,25 +27,25 @@ impl Side {
 }
 
 /// The entry of a merge: its place, its new part, and how many blocks are in that.
-#[derive(Clone, Copy, Debug, PartialEq, Eq)]
+#[derive(Clone, Copy)]
 pub(crate) struct Merged {
     pub place: usize,
-    pub new: PartName,
+    pub new: Part,
     pub count: u32,
 }
 
-/// The entry of a part's mutation: its place, the new part, how many blocks are in that, and how many mutations there are up
-/// to that one.
-#[derive(Clone, Copy, Debug, PartialEq, Eq)]
+/// The entry of a part's mutation: its place, the new part, how many blocks are in that, and how many mutations there
+/// are up to that one.
+#[derive(Clone, Copy)]
 pub(crate) struct Mutated {
     pub place: usize,
-    pub new: PartName,
+    pub new: Part,
     pub count: u32,
     pub mcount: u32,
 }
 
 /// The entry of a drop: its place and its number.
-#[derive(Clone, Copy, Debug, PartialEq, Eq)]
+#[derive(Clone, Copy)]
 pub(crate) struct Dropped {
     pub place: usize,
     pub number: u32,
@@ -55,7 +56,29 @@ pub(crate) struct Dropped {
 pub(crate) struct Created {
     pub place: usize,
     pub id: u32,
-    pub numbers: Few<(PartitionId, u32)>,
+    pub numbers: &'static [(PartitionId, u32)],
+}
+
+/// An entry of the log.
+#[derive(Clone, Copy)]
+pub(crate) enum Logged {
+    /// The replica that has a block, the number of the block, and the block.
+    Get(Side, u32, Block),
+    /// A part, the parts that become it, and how many blocks it has.
+    Merge(Part, &'static [Part], u32),
+    /// A mutation: its id and its numbers.
+    Mutation(u32, &'static [(PartitionId, u32)]),
+    /// A part is brought up to the mutation at a place. It has so many blocks, and there are so many mutations up to
+    /// that one.
+    Mutate {
+        old: Part,
+        new: Part,
+        upto: u32,
+        count: u32,
+        mcount: u32,
+    },
+    /// The drop of a partition, and its number.
+    DropRange(PartitionId, u32),
 }
 
 /// A call, and what it answers. Locks are counted from 0, in the order in which they were given.
@@ -68,25 +91,29 @@ pub(crate) enum Step {
     /// Whether a replica has a session.
     IsOpen(Side, bool),
     /// The number of a block, under a lock of the replica.
-    Allocate(Side, BlockId, Result<u32, AllocateError>),
+    Allocate(Side, Block, Result<u32, Refusal>),
     /// The place of the entry of a lock's block, which has so many values.
-    Commit(usize, u64, Result<usize, CommitError>),
+    Commit(usize, u64, Result<usize, Refusal>),
     /// Whether a lock was there, which is given up.
     Abandon(usize, bool),
     /// The number of a block that is accepted at once.
-    Insert(Side, BlockId, u32),
+    Insert(Side, Block, u32),
     /// The entry of a partition's drop; none where the partition doesn't exist.
-    Drop(PartitionId, Result<Option<Dropped>, ChangeError>),
+    Drop(PartitionId, Result<Option<Dropped>, Refusal>),
     /// The entry of a mutation.
-    Create(Result<Created, ChangeError>),
+    Create(Result<Created, Refusal>),
     /// The length of the log, which a replica pulls.
     Pull(Side, u32),
     /// The entry of the merge of these parts of a replica's copy.
-    Merge(Side, Few<PartName>, Result<Merged, MergeError>),
+    Merge(Side, &'static [Part], Result<Merged, Refusal>),
     /// The entry of the mutation of a part of a replica's copy, up to the mutation at a place.
-    Mutate(Side, PartName, u32, Result<Mutated, MutateError>),
+    Mutate(Side, Part, u32, Result<Mutated, Refusal>),
     /// The live parts of a replica's copy.
-    Live(Side, Few<PartName>),
+    Live(Side, &'static [Part]),
+    /// The entries of a replica's copy, the oldest first.
+    Entries(Side, &'static [Logged]),
     /// The length of the log, and how many values the accepted blocks have.
     Counts(u32, u64),
+    /// Calls that are all accepted.
+    Fill(Filling),
 }

@@ -1,5 +1,6 @@
 //! A table of two replicas, and a copy of its log at each.
-ghost use Rattle.std.specs.Prelude.{IfOk};
+ghost use Rattle.std.specs.Prelude.{◌≡◌, [], length, IfOk};
+ghost use Rattle.std.specs.Arc.{arc_value};
 ghost use Rattle.rmt_table_tests.specs.TwoCopies.{IsOneOfTwo};
 
 use crate::chosen::{merge_at, mutate_at};
@@ -41,21 +42,31 @@ impl Model for TwoReplicas {
     ghost invariant = { λ t. AreCopied (record { table = t.table; first = t.first; second = t.second }) };
 }
 
+/// A table of two replicas without entries, which both have a session.
+fn open_table(alloc: Global, schema: Arc<Schema, Global>) -> Result<TableTree, AllocError>
+    ensures schema { IfOk result (λ table. table.schema ≡ arc_value schema) }
+    ensures replicas { IfOk result (λ table. length table.sessions ≡ 2) }
+    ensures empty { IfOk result (λ table. table.log ≡ []) }
+{
+    let mut table = TableTree::new(alloc, schema, 2)?;
+    table.open(alloc, 1)?;
+    table.open(alloc, 2)?;
+    Ok(table)
+}
+
 impl TwoReplicas {
     /// A table without entries. Both replicas have a session.
     pub fn new(alloc: Global, schema: Arc<Schema, Global>) -> Result<TwoReplicas, Fail> {
         if schema.kind(0) != Some(Kind::UInt64) {
             return Err("the first column isn't of numbers".into());
         }
-        let first = LogCopy::new(alloc, Arc::try_clone(&schema)?);
-        let second = LogCopy::new(alloc, Arc::try_clone(&schema)?);
-        let mut table = TableTree::new(alloc, schema, 2)?;
-        table.open(alloc, 1)?;
-        table.open(alloc, 2)?;
+        let of_first = Arc::try_clone(&schema)?;
+        let of_second = Arc::try_clone(&schema)?;
+        let table = open_table(alloc, schema)?;
         Ok(TwoReplicas {
             table,
-            first,
-            second,
+            first: LogCopy::new(alloc, of_first),
+            second: LogCopy::new(alloc, of_second),
         })
     }
 

@@ -1,88 +1,97 @@
 //! That answers other than the expected ones are found.
-use crate::expected::id;
-use crate::few::Few;
-use crate::played::Played;
-use crate::schemas::whole;
+use crate::blocks::{A, B, C, D, E};
+use crate::parts::{ALL_0_0_0, ALL_0_1_1, ALL_1_1_0, ALL_2_2_0, ALL_2_2_0_6, ALL_3_3_0};
+use crate::played::first_to_agree;
+use crate::refusals::Refusal::{Duplicate, LockGone, LogMoved, NoSession};
+use crate::schemas::Table::Whole;
+use crate::steps::Logged::Get;
 use crate::steps::Side::{First, Second};
 use crate::steps::Step::{
-    Abandon, Allocate, Commit, Counts, Create, Drop, Insert, IsOpen, Live, Merge, Mutate, Pull,
+    Abandon, Allocate, Commit, Counts, Create, Drop, Entries, Insert, IsOpen, Live, Merge, Mutate,
+    Pull,
 };
-use crate::steps::{Created, Dropped, Merged, Mutated};
-use rmt_names::{PartName, block_name};
-use rmt_table::{AllocateError, CommitError, MergeError, MutateError};
+use crate::steps::{Created, Dropped, Merged, Mutated, Step};
 use std::test::Fail;
+
+const OTHER_NUMBER: Created = Created {
+    place: 4,
+    id: 0,
+    numbers: &[(None, 6)],
+};
+
+const OTHER_ID: Created = Created {
+    place: 5,
+    id: 0,
+    numbers: &[(None, 6)],
+};
+
+const MERGED: Merged = Merged {
+    place: 6,
+    new: ALL_0_1_1,
+    count: 3,
+};
+
+const MUTATED: Mutated = Mutated {
+    place: 7,
+    new: ALL_2_2_0_6,
+    count: 1,
+    mcount: 1,
+};
+
+const DROPPED: Dropped = Dropped {
+    place: 8,
+    number: 8,
+};
+
+/// Calls at one table, each with an answer that isn't its own.
+const WRONG: &[Step] = &[
+    Allocate(First, A, Ok(1)),
+    Commit(0, 1, Ok(1)),
+    Allocate(First, A, Err(Duplicate(ALL_1_1_0))),
+    Allocate(First, B, Err(NoSession)),
+    Commit(1, 1, Err(LockGone { number: 1 })),
+    Commit(1, 1, Err(LockGone { number: 2 })),
+    Insert(Second, C, 3),
+    Insert(Second, D, 2),
+    Allocate(First, E, Ok(5)),
+    Abandon(2, false),
+    Counts(3, 4),
+    Counts(4, 5),
+    IsOpen(First, false),
+    Pull(First, 3),
+    Live(First, &[ALL_0_0_0]),
+    Entries(
+        First,
+        &[Get(First, 0, A), Get(First, 1, B), Get(Second, 2, C)],
+    ),
+    Entries(
+        First,
+        &[
+            Get(First, 0, A),
+            Get(First, 1, B),
+            Get(Second, 2, C),
+            Get(First, 3, D),
+        ],
+    ),
+    Create(Ok(OTHER_NUMBER)),
+    Create(Ok(OTHER_ID)),
+    Pull(First, 5),
+    Merge(First, &[ALL_0_0_0, ALL_1_1_0], Ok(MERGED)),
+    Merge(
+        First,
+        &[ALL_2_2_0, ALL_3_3_0],
+        Err(LogMoved { seen: 6, found: 8 }),
+    ),
+    Pull(First, 6),
+    Mutate(First, ALL_2_2_0, 5, Ok(MUTATED)),
+    Mutate(First, ALL_3_3_0, 5, Err(LogMoved { seen: 7, found: 9 })),
+    Drop(None, Ok(Some(DROPPED))),
+    Drop(None, Ok(None)),
+];
 
 /// Each of these calls answers something else than what is told here, in one point.
 #[test]
 fn a_wrong_answer_is_found(rt: HostRuntime) -> Result<(), Fail> {
-    let alloc = rt.alloc();
-    let (zero, one) = (block_name(None, 0), block_name(None, 1));
-    let (two, three) = (block_name(None, 2), block_name(None, 3));
-    let other_number = Created {
-        place: 4,
-        id: 0,
-        numbers: Few::One([(None, 6)]),
-    };
-    let other_id = Created {
-        place: 5,
-        id: 0,
-        numbers: Few::One([(None, 6)]),
-    };
-    let merged = Merged {
-        place: 6,
-        new: PartName::new(None, 0, 1, 1, 0),
-        count: 3,
-    };
-    let mutated = Mutated {
-        place: 7,
-        new: PartName::new(None, 2, 2, 0, 6),
-        count: 1,
-        mcount: 1,
-    };
-    let dropped = Dropped {
-        place: 8,
-        number: 8,
-    };
-    let wrong = [
-        Allocate(First, id(1), Ok(1)),
-        Commit(0, 1, Ok(1)),
-        Allocate(First, id(1), Err(AllocateError::Duplicate(one))),
-        Allocate(First, id(2), Err(AllocateError::NoSession)),
-        Commit(1, 1, Err(CommitError::LockGone { number: 1 })),
-        Commit(1, 1, Err(CommitError::LockGone { number: 2 })),
-        Insert(Second, id(3), 3),
-        Insert(Second, id(4), 2),
-        Allocate(First, id(5), Ok(5)),
-        Abandon(2, false),
-        Counts(3, 4),
-        Counts(4, 5),
-        IsOpen(First, false),
-        Pull(First, 3),
-        Live(First, Few::One([zero])),
-        Create(Ok(other_number)),
-        Create(Ok(other_id)),
-        Pull(First, 5),
-        Merge(First, Few::Two([zero, one]), Ok(merged)),
-        Merge(
-            First,
-            Few::Two([two, three]),
-            Err(MergeError::LogMoved { seen: 6, found: 8 }),
-        ),
-        Pull(First, 6),
-        Mutate(First, two, 5, Ok(mutated)),
-        Mutate(
-            First,
-            three,
-            5,
-            Err(MutateError::LogMoved { seen: 7, found: 9 }),
-        ),
-        Drop(None, Ok(Some(dropped))),
-        Drop(None, Ok(None)),
-    ];
-    let mut played = Played::new(alloc, whole(alloc, 100)?)?;
-    for (place, step) in wrong.iter().enumerate() {
-        let found = played.first_to_differ(alloc, &[*step])?;
-        assert_eq!(rt; found, Some(0), "at {place}");
-    }
+    assert_eq!(rt; first_to_agree(rt.alloc(), Whole(100), WRONG)?, None);
     Ok(())
 }
