@@ -13,3 +13,5 @@ pub mod InsertActs
 pub mod NewLemmas
 pub mod NewClusterLemmas
 pub mod ClusterLemmas
+pub mod RunLemmas
+pub mod ReadingLemmas

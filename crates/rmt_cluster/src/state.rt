@@ -1,4 +1,4 @@
-ghost use Rattle.std.specs.Prelude.{◌≡◌, ◌≤◌};
+ghost use Rattle.std.specs.Prelude.{◌≡◌, ◌≤◌, length};
 ghost use Rattle.rmt_cluster.specs.States.{IsState};
 ghost use Rattle.rmt_cluster.specs.Clusters.{numbers_given};
 
@@ -57,6 +57,7 @@ impl State {
     pub(crate) fn sound(&self)
         ensures state { IsState self.now }
         ensures numbers { numbers_given self.now.tree.next ≤ 67108864 }
+        ensures few { length self.now.tree.log ≤ 65536 }
     {
         self.tree.no_limit_is_passed();
     }
