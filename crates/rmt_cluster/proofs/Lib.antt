@@ -14,3 +14,5 @@ pub mod NewLemmas
 pub mod NewClusterLemmas
 pub mod ClusterLemmas
 pub mod SyncLemmas
+pub mod RunLemmas
+pub mod ReadingLemmas

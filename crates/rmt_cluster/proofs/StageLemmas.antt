@@ -70,7 +70,7 @@ later tree k (y ∷ rs) r n (inl q) l = let a = n.0.numbered in let b = ap (λ (
 later tree k (y ∷ rs) r n (inr h) l = later tree (k + 1) rs r n.1 h (omega (arith, l))
 
 -- a replica of the number of a place is the one there
-one-numbered : (tree : Held) (k : ℕ) (rs : List ReplicaView) (i : ℕ) (x : ReplicaView) (r : Replica) → AreNumbered tree k rs → slice_get rs i ≡ Some x → Has (map shown rs) r → r.number ≡ k + i → r ≡ shown x
+pub one-numbered : (tree : Held) (k : ℕ) (rs : List ReplicaView) (i : ℕ) (x : ReplicaView) (r : Replica) → AreNumbered tree k rs → slice_get rs i ≡ Some x → Has (map shown rs) r → r.number ≡ k + i → r ≡ shown x
 one-numbered tree k [] i x r n e h m = absurd h
 one-numbered tree k (y ∷ rs) zero x r n e (inl q) m = sym q ∙ ap shown (some-same y x e)
 one-numbered tree k (y ∷ rs) zero x r n e (inr h) m = absurd (later tree (k + 1) rs r n.1 h (let q : r.number ≡ k = omega (arith, m) in omega (arith, q)))

@@ -1,4 +1,5 @@
 pub use Rattle.rmt_events.specs.Steps
+pub use Rattle.rmt_events.specs.Draws
 pub use Rattle.rmt_table.specs.TableTrees
 pub mod States
 pub mod NewStates
@@ -9,3 +10,5 @@ pub mod Acting
 pub mod NewClusters
 pub mod Clusters
 pub mod Syncs
+pub mod Runs
+pub mod Readings

@@ -14,6 +14,8 @@ ghost use Rattle.rmt_replica_view.specs.Shown.{shown};
 ghost use Rattle.rmt_cluster.specs.NewClusters.{IsNewCluster};
 ghost use Rattle.rmt_cluster.specs.Clusters.{MayStep, Stops};
 
+mod reading;
+mod running;
 mod syncing;
 
 use crate::acting::act;

@@ -1,0 +1,33 @@
+//! What a query reads at a replica.
+ghost use Rattle.std.specs.Prelude.{◌≡◌, ◌↔◌, IfOk, length};
+ghost use Rattle.std.specs.declared.result.Result.TheVariants.{Err};
+ghost use Rattle.rmt_replica.specs.declared.replica_error.ReplicaError.TheVariants as errors;
+ghost use Rattle.rmt_events.specs.Views.{Replica};
+ghost use Rattle.rmt_events.specs.ClusterChanges.{IsNumbered, IsDown};
+ghost use Rattle.rmt_events.specs.Shown.{names_and_rows};
+ghost use Rattle.rmt_cluster.specs.Clusters.{IsNumber};
+ghost use Rattle.rmt_cluster.specs.Readings.{named_rows};
+
+use crate::cluster::Cluster;
+use rmt_partset::Snapshot;
+use rmt_replica::ReplicaError;
+use rmt_values::ReplicaId;
+use std::alloc::Global;
+
+impl Cluster {
+    /// The active parts of a replica at this moment, as a query reads them. It shares their rows.
+    ///
+    /// # Errors
+    ///
+    /// Down where the replica is down, or out of memory.
+    pub fn snapshot(&self, alloc: Global, replica: ReplicaId) -> Result<Snapshot, ReplicaError>
+        requires here { IsNumber replica (length self.now.replicas) }
+        ensures ok { IfOk result (λ read. (x : Replica) → IsNumbered self.now replica x
+            → names_and_rows x.parts ≡ named_rows read) }
+        ensures down { (result ≡ Err errors.Down) ↔ IsDown self.now replica }
+    {
+        self.state.sound();
+        let at = usize::from(replica) - 1;
+        self.state.replicas()[at].snapshot(alloc)
+    }
+}

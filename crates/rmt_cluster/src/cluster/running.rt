@@ -1,0 +1,58 @@
+//! Background events that a generator draws.
+ghost use Rattle.std.specs.Prelude.{◌≡◌, ◌<◌, ◌^◌, IfOk, OnOk, OnErr, length};
+ghost use Rattle.rmt_events.specs.Draws.{turn as turn_in};
+ghost use Rattle.rmt_cluster.specs.Clusters.{MayStep, Stops};
+ghost use Rattle.rmt_cluster.specs.Runs.{RunsAll, RunsSome, TakesTurn};
+
+use crate::cluster::Cluster;
+use rmt_draws::turn;
+use rmt_events::Event;
+use std::alloc::{AllocError, Global};
+
+impl Cluster {
+    /// So many background events, each drawn from the state before it, at a replica that is drawn too. An event that is refused
+    /// counts as a turn. At an error no memory was left: some of the turns were made, and the next one stopped.
+    pub fn run(&mut self, alloc: Global, seed: u32, turns: u32) -> Result<(), AllocError>
+        requires seed { seed < 2 ^ 31 }
+        ensures ok { OnOk result (RunsAll self.old seed turns self.new) }
+        ensures err { OnErr result (RunsSome self.old seed turns self.new) }
+        ensures schema { self.new.table.schema ≡ self.old.table.schema }
+        ensures replicas { length self.new.replicas ≡ length self.old.replicas }
+    {
+        let mut state = seed;
+        'turns: for _turn in 0..turns {
+            state = self.take_turn(alloc, state)?;
+        }
+        Ok(())
+    }
+
+    /// One background event, from a state of the generator. The generator's state after it comes back. At an error no memory
+    /// was left, and the event stopped.
+    fn take_turn(&mut self, alloc: Global, state: u32) -> Result<u32, AllocError>
+        requires state { state < 2 ^ 31 }
+        ensures ok { IfOk result (λ next. TakesTurn self.old state self.new next) }
+        ensures below { IfOk result (λ next. next < 2 ^ 31) }
+        ensures err { OnErr result (Stops self.old (turn_in self.old state).event self.new) }
+        ensures schema { self.new.table.schema ≡ self.old.table.schema }
+        ensures replicas { length self.new.replicas ≡ length self.old.replicas }
+    {
+        let (event, next) = self.draw(alloc, state)?;
+        match self.step(alloc, event) {
+            Ok(_) => Ok(next),
+            Err(error) => Err(error),
+        }
+    }
+
+    /// The event of the turn from a state of the generator, which the cluster takes, and the generator's state after it. At an
+    /// error no memory was left.
+    fn draw(&self, alloc: Global, state: u32) -> Result<(Event, u32), AllocError>
+        requires state { state < 2 ^ 31 }
+        ensures event { IfOk result (λ t. t.0 ≡ (turn_in self.now state).event) }
+        ensures may { IfOk result (λ t. MayStep self.now t.0) }
+        ensures state { IfOk result (λ t. t.1 ≡ (turn_in self.now state).state) }
+        ensures below { IfOk result (λ t. t.1 < 2 ^ 31) }
+    {
+        self.state.sound();
+        turn(alloc, self.state.replicas(), state)
+    }
+}
