@@ -1,4 +1,4 @@
-ghost use Rattle.std.specs.Prelude.{◌≡◌, ◌≤◌, IfOk, OnErr, length, map};
+ghost use Rattle.std.specs.Prelude.{◌≡◌, ◌≤◌, IfOk, OnErr, length, map, reverse};
 ghost use Rattle.std.specs.Arc.{arc_value};
 ghost use Rattle.rmt_values.specs.Order.{SameBag};
 ghost use Rattle.rmt_model.specs.Words.{Has};
@@ -79,6 +79,13 @@ impl Cluster {
         ensures replicas { map shown result.now.replicas ≡ self.now.replicas }
     {
         &self.state
+    }
+
+    /// The events so far, each with its reply, the oldest first.
+    pub fn events(&self) -> &[(Event, Reply)]
+        ensures { reverse result.now ≡ self.now.events }
+    {
+        &self.events
     }
 
     /// What holds of every cluster, whatever its events were: replicas that are drained to one length have parts of equal names
