@@ -1,0 +1,2 @@
+pub use Rattle.rmt_bytes.specs.Encoding
+pub mod SmallCommands
