@@ -1,4 +1,4 @@
-ghost use Rattle.std.specs.Prelude.{◌≡◌, ◌≤◌, IfOk, OnErr, length, map, reverse};
+ghost use Rattle.std.specs.Prelude.{◌≡◌, ◌≤◌, ℕ, IfOk, OnErr, length, map, reverse};
 ghost use Rattle.std.specs.Arc.{arc_value};
 ghost use Rattle.rmt_values.specs.Order.{SameBag};
 ghost use Rattle.rmt_model.specs.Words.{Has};
@@ -8,11 +8,11 @@ ghost use Rattle.rmt_events.specs.ReplicaCalls.{IsDrained};
 ghost use Rattle.rmt_events.specs.Clusters.{accepted, rows_at};
 ghost use Rattle.rmt_events.specs.Shown.{names_and_rows, read_rows};
 ghost use Rattle.rmt_events.specs.Steps.{Step};
-ghost use Rattle.rmt_events.specs.Whole.{IsWhole};
+ghost use Rattle.rmt_events.specs.Whole.{HasReplica, IsWhole};
 ghost use Rattle.rmt_table.specs.TableTrees.{table_at};
 ghost use Rattle.rmt_replica_view.specs.Shown.{shown};
 ghost use Rattle.rmt_cluster.specs.NewClusters.{IsNewCluster};
-ghost use Rattle.rmt_cluster.specs.Clusters.{MayStep, Stops};
+ghost use Rattle.rmt_cluster.specs.Clusters.{IsNumber, MayStep, Stops};
 
 mod reading;
 mod running;
@@ -99,6 +99,13 @@ impl Cluster {
     {
         // What the type keeps is known where a field is read.
         let _events = &self.events;
+    }
+
+    /// The replicas are numbered from 1 up to their count. It does nothing.
+    pub fn replicas_are_numbered(&self)
+        ensures { (k : ℕ) → IsNumber k (length self.now.replicas) → HasReplica self.now.replicas k }
+    {
+        self.state.sound();
     }
 
     /// Does one event, and stores it with its reply. At an error no memory was left: no entry was added to the log, and the

@@ -1,6 +1,7 @@
 ghost use Rattle.std.specs.Prelude.{◌≡◌, ◌↔◌, ◌≤◌, [], length, IfOk, IsTrue};
 ghost use Rattle.std.specs.Arc.{arc_value};
 ghost use Rattle.rmt_model.specs.Words.{Has};
+ghost use Rattle.rmt_model.specs.Lawful.{mutation_count};
 ghost use Rattle.rmt_tree.specs.Trees.{empty_tree};
 ghost use Rattle.rmt_tree.specs.Ops.{after_all};
 ghost use Rattle.rmt_events.specs.Starts.{new_table};
@@ -126,6 +127,13 @@ impl TableTree {
         ensures { result ≡ length self.now.log }
     {
         self.log.len() as u32
+    }
+
+    /// How many mutations the log has. It takes no memory.
+    pub fn mutations(&self) -> u32
+        ensures { result ≡ mutation_count self.now.log }
+    {
+        self.mutations
     }
 
     /// How many values the accepted blocks have. It takes no memory.

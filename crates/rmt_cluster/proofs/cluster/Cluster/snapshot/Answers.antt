@@ -6,7 +6,7 @@ use Rattle.rmt_cluster.proofs.ReadingLemmas.{IsOnly, only-one, reads, reads-down
 use Rattle.rmt_cluster.proofs.cluster.Cluster.snapshot.Goals as goal
 
 -- the replica that is read is the one of the number
-asked : (c : goal.After-snapshot) → IsOnly c.args.self.now c.args.replica c.index-replicas-at.result
+asked : (c : goal.After-snapshot) → IsOnly c.args.self.now c.self.inside.state.tree.schema c.args.replica c.index-replicas-at.result
 asked c =
     let state = c.self.inside.state in
     let rs = c.replicas.result.now in
@@ -18,8 +18,9 @@ asked c =
 
 pub returns-clause-ok : goal.returns-clause-ok
 returns-clause-ok c =
-    reads c.snapshot.result c.args.self.now c.args.replica c.index-replicas-at.result (asked c) c.snapshot.ensures.ok
+    reads c.snapshot.result c.args.self.now c.self.inside.state.tree.schema c.args.replica c.index-replicas-at.result (asked c)
+    c.copy-standing.ensures.standing (ap (λ (v : Cluster). v.table.schema) c.self.view_is) c.snapshot.ensures.ok
 
 pub returns-clause-down : goal.returns-clause-down
 returns-clause-down c =
-    reads-down c.snapshot.result c.args.self.now c.args.replica c.index-replicas-at.result (asked c) c.snapshot.ensures.down
+    reads-down c.snapshot.result c.args.self.now c.self.inside.state.tree.schema c.args.replica c.index-replicas-at.result (asked c) c.snapshot.ensures.down
