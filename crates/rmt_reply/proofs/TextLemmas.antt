@@ -1,7 +1,8 @@
 -- Texts one after the other, however they are grouped; what became of blocks is a text of its own.
 use Rattle.std.proofs.Common.{◌≡◌, ℕ, List, [], ◌∷◌, ◌++◌, Option, Some, None, append_assoc, refl}
 use Rattle.std.specs.List.{flat_map}
-use Rattle.rmt_reply.specs.Printed.{cut_text, ended, inserted_text, piece_text, two}
+use Rattle.rmt_names.specs.Names.{Name}
+use Rattle.rmt_reply.specs.Printed.{cut_text, ended, inserted_text, optimized_line, optimized_text, piece_text, two}
 use Rattle.rmt_reply.specs.declared.piece.Piece.{Piece}
 use Rattle.rmt_reply.specs.declared.piece.Piece.TheVariants as pieces
 use Rattle.rmt_reply.specs.declared.refusal.Refusal.{Refusal}
@@ -25,3 +26,11 @@ inserted-some (pieces.Part a ∷ all) None some = refl
 inserted-some (pieces.Part a ∷ all) (Some refusal) some = refl
 inserted-some (pieces.Duplicate a ∷ all) None some = refl
 inserted-some (pieces.Duplicate a ∷ all) (Some refusal) some = refl
+
+-- where there is a part or a refusal, the parts and the refusal are all
+pub optimized-some : (all : List Name) (refused : Option Refusal) → (all ≡ [] → refused ≡ None → ⊥)
+    → optimized_text all refused ≡ flat_map optimized_line all ++ cut_text refused
+optimized-some [] None some = absurd (some refl refl)
+optimized-some [] (Some refusal) some = refl
+optimized-some (a ∷ all) None some = refl
+optimized-some (a ∷ all) (Some refusal) some = refl

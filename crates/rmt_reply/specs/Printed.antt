@@ -1,6 +1,6 @@
 -- Replies as they are printed. Each line ends with LF; numbers are decimals without leading zeros, unless said.
 -- The replies are this program's own; records are as the crate csv writes them with its defaults.
-use Rattle.std.specs.Prelude.{ℕ, ◌+◌, List, [], ◌∷◌, ◌++◌, length, map, codes}
+use Rattle.std.specs.Prelude.{ℕ, ◌+◌, ◌-◌, List, [], ◌∷◌, ◌++◌, length, map, replicate, codes}
 use Rattle.std.specs.List.{flat_map}
 use Rattle.std.specs.declared.option.Option.{Option}
 use Rattle.std.specs.declared.option.Option.TheVariants.{Some, None}
@@ -11,7 +11,7 @@ use Rattle.rmt_values.specs.declared.cell.Cell.TheVariants as cells
 use Rattle.rmt_values.specs.declared.limit.Limit.{Limit}
 use Rattle.rmt_values.specs.declared.limit.Limit.TheVariants as limits
 use Rattle.rmt_names.specs.Names.{Name}
-use Rattle.rmt_names.specs.Texts.{text_of}
+use Rattle.rmt_names.specs.Texts.{text_of, partition_text}
 use Rattle.rmt_reply.specs.declared.line.Line.{Line}
 use Rattle.rmt_reply.specs.declared.line.Line.TheVariants as lines
 use Rattle.rmt_reply.specs.declared.piece.Piece.{Piece}
@@ -136,6 +136,22 @@ granules_text all =
     flat_map granules_line all
     ++ ended (codes "granules total " ++ ratio_text (sum_of (map (λ g. g.1) all)) (sum_of (map (λ g. g.2) all)))
 
+-- a mutation's id: ten digits, with leading zeros
+abbrev pub id_text : ℕ → List ℕ
+id_text id = replicate (10 - length (decimal id)) 48 ++ decimal id
+
+-- the drop of a partition's blocks below a number
+abbrev pub dropped_text : Option ℕ → ℕ → List ℕ
+dropped_text p below = ended ((codes "dropped " ++ partition_text p) ++ (codes " below " ++ decimal below))
+
+-- the one part of a partition
+abbrev pub optimized_line : Name → List ℕ
+optimized_line a = ended (codes "optimized " ++ text_of a)
+
+-- the one part of each partition, and the refusal that cut the statement short
+abbrev pub optimized_text : List Name → Option Refusal → List ℕ
+optimized_text names refused = or_nothing (flat_map optimized_line names) refused
+
 -- a reply as it is printed
 abbrev pub printed : Line → List ℕ
 printed lines.Okay = ended (codes "ok")
@@ -143,6 +159,11 @@ printed (lines.Inserted pieces refused) = inserted_text pieces refused
 printed (lines.Rows rows) = answer_text rows
 printed (lines.Read parts rows) = parts_text parts ++ answer_text rows
 printed (lines.Granules all) = granules_text all
+printed (lines.Mutation id) = ended (codes "mutation " ++ id_text id)
+printed (lines.Dropped p below) = dropped_text p below
+printed (lines.Optimized names refused) = optimized_text names refused
+printed (lines.Done id) = ended (codes "done " ++ id_text id)
+printed (lines.Ran turns) = ended (codes "ran " ++ decimal turns)
 printed (lines.Parts names) = parts_text names
 printed (lines.Refused refusal) = refused_text refusal
 

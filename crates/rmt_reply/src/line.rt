@@ -2,7 +2,7 @@ use crate::granules::Granules;
 use crate::piece::Piece;
 use crate::refusal::Refusal;
 use rmt_list::List;
-use rmt_names::PartName;
+use rmt_names::{PartName, PartitionId};
 use rmt_query::Tuple;
 
 /// The reply of a statement.
@@ -24,6 +24,22 @@ pub enum Line {
     },
     /// How many granules of each part a query reads.
     Granules(Granules),
+    /// The id of the mutation that was made.
+    Mutation(u32),
+    /// The blocks of the partition below this number were dropped; 0 where there is no such partition.
+    Dropped {
+        partition: PartitionId,
+        below: u32,
+    },
+    /// The one part of each partition, and the refusal that cut the statement short.
+    Optimized {
+        names: List<PartName>,
+        refused: Option<Refusal>,
+    },
+    /// The id of the mutation that is done.
+    Done(u32),
+    /// How many background events were made.
+    Ran(u32),
     /// Names of parts.
     Parts(List<PartName>),
     /// It was refused.

@@ -1,8 +1,9 @@
 //! Replies as they are printed.
 ghost use Rattle.std.specs.Prelude.{◌≡◌, ◌++◌, IfOk, OnOk};
 ghost use Rattle.std.specs.List.{flat_map};
-ghost use Rattle.rmt_reply.specs.Printed.{answer_text, cut_text, inserted_text, or_nothing, parts_text, piece_text, printed, printed_all};
+ghost use Rattle.rmt_reply.specs.Printed.{answer_text, inserted_text, or_nothing, parts_text, piece_text, printed, printed_all};
 
+use crate::commands::{push_cut, push_dropped, push_mutation, push_optimized, push_ran};
 use crate::counts::push_counted_granules;
 use crate::line::Line;
 use crate::piece::Piece;
@@ -35,16 +36,6 @@ fn push_pieces(alloc: Global, out: &mut Vec<u8>, pieces: &[Piece]) -> Result<(),
 {
     'pieces: for one in pieces {
         push_piece(alloc, out, one)?;
-    }
-    Ok(())
-}
-
-/// Adds the refusal that cut a statement short, where there is one.
-fn push_cut(alloc: Global, out: &mut Vec<u8>, cause: &Option<Refusal>) -> Result<(), AllocError>
-    ensures { OnOk result (out.new.items ≡ out.old.items ++ cut_text cause.now) }
-{
-    if let Some(cause) = cause {
-        push_refused(alloc, out, cause)?;
     }
     Ok(())
 }
@@ -107,6 +98,11 @@ fn push_line(alloc: Global, out: &mut Vec<u8>, line: &Line) -> Result<(), AllocE
         Line::Rows(rows) => push_answer(alloc, out, rows)?,
         Line::Read { parts, rows } => push_read(alloc, out, parts, rows)?,
         Line::Granules(granules) => push_counted_granules(alloc, out, granules)?,
+        Line::Mutation(id) => push_mutation(alloc, out, b"mutation ", *id)?,
+        Line::Dropped { partition, below } => push_dropped(alloc, out, *partition, *below)?,
+        Line::Optimized { names, refused } => push_optimized(alloc, out, names, refused)?,
+        Line::Done(id) => push_mutation(alloc, out, b"done ", *id)?,
+        Line::Ran(turns) => push_ran(alloc, out, *turns)?,
         Line::Parts(names) => push_names_line(alloc, out, names)?,
         Line::Refused(cause) => push_refused(alloc, out, cause)?,
     }
