@@ -1,0 +1,48 @@
+-- The attempt to insert one block: its events' replies, and what holds between them. No public clause cites this module.
+use Rattle.std.specs.Prelude.{◌≡◌, ℕ}
+use Rattle.std.specs.declared.option.Option.TheVariants.{Some, None}
+use Rattle.rmt_entries.specs.declared.entry.Entry.TheVariants.{Get}
+use Rattle.rmt_model.specs.Words.{Has}
+use Rattle.rmt_model.specs.Lawful.{entry_at}
+use Rattle.rmt_events.specs.Views.{Block, Replica}
+use Rattle.rmt_events.specs.TableCalls.{IsLocked, kept_part}
+use Rattle.rmt_events.specs.ReplicaCalls.{IsStaged}
+use Rattle.rmt_events.specs.Clusters.{Attempt, Cluster}
+use Rattle.rmt_events.specs.ClusterChanges.{IsNumbered}
+use Rattle.rmt_events.specs.declared.reply.Reply.{Reply}
+use Rattle.rmt_events.specs.declared.reply.Reply.TheVariants as rp
+use Rattle.rmt_events.specs.declared.step_refused.StepRefused.TheVariants as rf
+
+-- an Allocate where every replica is up is answered a number, a duplicate or a limit
+abbrev pub IsAllocateReply : Reply → Type 0
+IsAllocateReply (rp.Attempt id n) = Unit {0}
+IsAllocateReply (rp.Refused (rf.Duplicate a)) = Unit {0}
+IsAllocateReply (rp.Refused (rf.LimitReached limit value)) = Unit {0}
+IsAllocateReply reply = ⊥
+
+-- the Commit of a block that is ready is answered an entry's place or a limit
+abbrev pub IsCommitReply : Reply → Type 0
+IsCommitReply (rp.Entry place) = Unit {0}
+IsCommitReply (rp.Refused (rf.LimitReached limit value)) = Unit {0}
+IsCommitReply reply = ⊥
+
+-- the attempt to insert a block at a replica, under a number
+abbrev pub attempt_of : ℕ → ℕ → Block → ℕ → Attempt
+attempt_of id r b n = record { id = id; replica = r; block = b; number = n; need = 0 }
+
+-- it is open, and holds its number; the block's id isn't kept
+pub record IsOpen (s : Cluster) (id r : ℕ) (b : Block) (n : ℕ) : Type 0 where
+  pub there : Has s.attempts (attempt_of id r b n)
+  pub locked : IsLocked s.table.locks b.partition n
+  pub unkept : kept_part s.table.window b.partition b.digest ≡ None
+
+-- the block is staged at the replica under the number
+pub record IsStagedAt (s : Cluster) (r : ℕ) (b : Block) (n : ℕ) : Type 0 where
+  pub replica : Replica
+  pub at : IsNumbered s r replica
+  pub staged : IsStaged replica b.partition n b
+
+-- the entry at this place is the Get of the block, which is staged at its replica still
+pub record IsAccepted (s : Cluster) (place r : ℕ) (b : Block) (n : ℕ) : Type 0 where
+  pub entry : entry_at s.table.log place ≡ Some (Get b.partition n b.digest r 0)
+  pub staged : IsStagedAt s r b n

@@ -1,0 +1,24 @@
+-- Background work: what RUN does to a table.
+-- ClickHouse documentation, MergeTree, "Data storage": parts are merged in the background; ALTER, "Mutations": parts are mutated
+-- in the background.
+use Rattle.std.specs.Prelude.{◌≡◌, List, ◌++◌}
+use Rattle.rmt_entries.specs.declared.entry.Entry.{Entry}
+use Rattle.rmt_entries.specs.declared.entry.Entry.TheVariants.{Get, Merge, Mutate, Mutation, DropRange}
+use Rattle.rmt_model.specs.Words.{Each}
+use Rattle.rmt_model.specs.Lawful.{Lawful}
+use Rattle.rmt_statement_model.specs.TableStates.{TableState}
+
+-- the entry is one of background work: it merges or mutates parts
+abbrev pub IsOfWorker : Entry → Type 0
+IsOfWorker (Merge name sources count) = Unit {0}
+IsOfWorker (Mutate old name upto count mcount) = Unit {0}
+IsOfWorker (Get p n digest source need) = ⊥
+IsOfWorker (Mutation id numbers command) = ⊥
+IsOfWorker (DropRange p n) = ⊥
+
+-- the log gains such entries alone, and is lawful still; nothing else changes
+pub record Works (t u : TableState) : Type 0 where
+  pub gained : List Entry
+  pub workers : Each IsOfWorker gained
+  pub lawful : Lawful t.schema (gained ++ t.log)
+  pub change : u ≡ record t { log = gained ++ t.log }

@@ -1,0 +1,11 @@
+pub use Rattle.rmt_events.specs.Steps
+pub mod TableStates
+pub mod Inserts
+pub mod Reads
+pub mod Mutations
+pub mod Drops
+pub mod BackgroundWork
+pub mod Optimizes
+pub mod Waits
+pub mod Shows
+pub mod Attempts

@@ -1,0 +1,54 @@
+-- A cluster shows the state of a table: it has the same log, numbers and blocks, and what is known at a replica holds there.
+-- No public source: this program's own.
+use Rattle.std.specs.Prelude.{◌≡◌, ℕ, ◌≤◌, Bool, true, false, [], length}
+use Rattle.rmt_model.specs.Words.{Has, Each}
+use Rattle.rmt_model.specs.Fair.{AreFair}
+use Rattle.rmt_model.specs.CopiedParts.{names_of}
+use Rattle.rmt_events.specs.Views.{Replica}
+use Rattle.rmt_events.specs.Clusters.{Cluster, accepted}
+use Rattle.rmt_events.specs.ClusterChanges.{IsNumbered}
+use Rattle.rmt_events.specs.ReplicaCalls.{IsDrained}
+use Rattle.rmt_statement_model.specs.TableStates.{TableState}
+
+-- what is known at a replica is within its copy of the log, and its parts are fair for it
+pub record Knows (x : Replica) (known : ℕ → Bool) : Type 0 where
+  pub within : (i : ℕ) → length x.log ≤ i → known i ≡ false
+  pub fair : AreFair x.log known (names_of x.parts)
+
+-- each replica knows what is known there
+abbrev pub EachKnows : Cluster → (ℕ → ℕ → Bool) → Type 0
+EachKnows s known = (x : Replica) → Has s.replicas x → Knows x (known x.number)
+
+-- the cluster has the table in this state
+pub record Shows (s : Cluster) (t : TableState) : Type 0 where
+  pub schema : t.schema ≡ s.table.schema
+  pub log : t.log ≡ s.table.log
+  pub next : t.next ≡ s.table.next
+  pub blocks : t.blocks ≡ accepted s
+  pub knows : EachKnows s t.known
+
+-- every replica is up
+abbrev pub AllUp : Cluster → Type 0
+AllUp s = Each (λ x. x.up ≡ true) s.replicas
+
+-- the replica of a number has the whole log, and has done all of it
+pub record IsUpToDate (s : Cluster) (k : ℕ) : Type 0 where
+  pub replica : Replica
+  pub at : IsNumbered s k replica
+  pub whole : replica.log ≡ s.table.log
+  pub drained : IsDrained replica
+
+-- the cluster shows a state of which this holds
+pub record Leads (s : Cluster) (Holds : TableState → Type 0) : Type 0 where
+  pub state : TableState
+  pub holds : Holds state
+  pub shows : Shows s state
+
+-- no insert holds a number
+abbrev pub HoldsNone : Cluster → Type 0
+HoldsNone s = s.table.locks ≡ []
+
+-- every replica is up, and no insert is under way
+pub record IsIdle (s : Cluster) : Type 0 where
+  pub up : AllUp s
+  pub free : HoldsNone s

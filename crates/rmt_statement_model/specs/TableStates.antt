@@ -1,0 +1,58 @@
+-- The state of a table that statements change: its log, the blocks that were accepted, the next block numbers, and which
+-- entries of the log are known at each replica.
+-- ClickHouse documentation, Data Replication: a block that a replica accepts becomes an entry of the table's log; another
+-- replica has it once it has done that entry.
+use Rattle.std.specs.Prelude.{ℕ, ◌&&◌, ◌||◌, Bool, false, nat_eq, nat_lt, List, [], ◌∷◌, length}
+use Rattle.std.specs.declared.option.Option.{Option}
+use Rattle.rmt_values.specs.Rows.{Shape}
+use Rattle.rmt_names.specs.Names.{Name}
+use Rattle.rmt_entries.specs.declared.entry.Entry.{Entry}
+use Rattle.rmt_granules.specs.Granules.{PartView}
+use Rattle.rmt_granules.specs.MadePart.{data_of}
+use Rattle.rmt_model.specs.Content.{Row, content, rows}
+use Rattle.rmt_model.specs.Window.{kept}
+use Rattle.rmt_events.specs.Views.{Block}
+use Rattle.rmt_events.specs.TableCalls.{kept_part}
+use Rattle.rmt_events.specs.Clusters.{Accepted, rows_at}
+
+-- a table: its schema, its log and the accepted blocks, both newest first, the next number of each partition that exists,
+-- and for each replica, by its number, the places of the log that are known there
+pub record TableState : Type 0 where
+  pub schema : Shape
+  pub log : List Entry
+  pub blocks : List Accepted
+  pub next : List (Option ℕ × ℕ)
+  pub known : ℕ → ℕ → Bool
+
+-- a table without rows
+abbrev pub empty_table : Shape → TableState
+empty_table schema = record { schema = schema; log = []; blocks = []; next = []; known = λ r i. false }
+
+-- with one more place known at a replica
+abbrev pub learned : (ℕ → ℕ → Bool) → ℕ → ℕ → ℕ → ℕ → Bool
+learned known r i s j = (nat_eq s r && nat_eq j i) || known s j
+
+-- with every place below a length known at a replica
+abbrev pub learned_to : (ℕ → ℕ → Bool) → ℕ → ℕ → ℕ → ℕ → Bool
+learned_to known r len s j = (nat_eq s r && nat_lt j len) || known s j
+
+-- the table with one more entry, whose place is known at a replica
+abbrev pub gains_at : ℕ → Entry → TableState → TableState
+gains_at r e t = record t { log = e ∷ t.log; known = learned t.known r (length t.log) }
+
+-- the table, every place of its log known at a replica
+abbrev pub synced : ℕ → TableState → TableState
+synced r t = record t { known = learned_to t.known r (length t.log) }
+
+-- the part that a block's id is kept with, among those of the last accepted blocks
+abbrev pub kept_with : TableState → Block → Option Name
+kept_with t b = kept_part (kept t.schema.window t.log) b.partition b.digest
+
+-- the rows of the accepted blocks, each counted once, with every mutation applied to the blocks of lower number, and without
+-- the blocks that a drop takes away
+abbrev pub plain_rows : TableState → List Row
+plain_rows t = rows t.log (rows_at t.blocks)
+
+-- the part of this name: the content of the name, in granules
+abbrev pub data_at : TableState → Name → PartView
+data_at t a = data_of t.schema (content t.schema t.log (rows_at t.blocks) a)

@@ -1,0 +1,55 @@
+-- WAIT MUTATION: every live part is brought to a mutation.
+-- ClickHouse documentation, ALTER, "Mutations" (`mutations_sync`): a query can wait until a mutation is done. That it does the work
+-- itself is this program's own.
+use Rattle.std.specs.Prelude.{◌≡◌, ℕ, ◌≤◌, List, ◌++◌}
+use Rattle.std.specs.declared.option.Option.{Option}
+use Rattle.std.specs.declared.option.Option.TheVariants.{Some}
+use Rattle.rmt_values.specs.declared.checked_mutation.CheckedMutation.{CheckedMutation}
+use Rattle.rmt_values.specs.declared.limit.Limit.{Limit}
+use Rattle.rmt_names.specs.Names.{Name, data_version}
+use Rattle.rmt_entries.specs.declared.entry.Entry.{Entry}
+use Rattle.rmt_entries.specs.declared.entry.Entry.TheVariants.{Get, Merge, Mutate, Mutation, DropRange}
+use Rattle.rmt_model.specs.Words.{Has, Each}
+use Rattle.rmt_model.specs.Live.{live}
+use Rattle.rmt_model.specs.Lawful.{Lawful, entry_at}
+use Rattle.rmt_limits.specs.EntryLimits.{worker_limit}
+use Rattle.rmt_reply.specs.declared.refusal.Refusal.{Refusal}
+use Rattle.rmt_reply.specs.declared.refusal.Refusal.TheVariants.{LimitReached}
+use Rattle.rmt_statement_model.specs.TableStates.{TableState, synced}
+
+-- no mutation with an id up to this one has a number above the data version of a live name
+abbrev pub NonePending : List Entry → ℕ → Type 0
+NonePending log id =
+    (k n : ℕ) (numbers : List (Option ℕ × ℕ)) (command : CheckedMutation) (a : Name) → Has log (Mutation k numbers command) → k ≤ id → Has (live log) a → Has numbers (a.partition, n) → n ≤ data_version a
+
+-- the entry mutates a part, up to the mutation at a place that isn't past this one
+abbrev pub MutatesUpTo : ℕ → Entry → Type 0
+MutatesUpTo place (Mutate old name upto count mcount) = upto ≤ place
+MutatesUpTo place (Merge name sources count) = ⊥
+MutatesUpTo place (Get p n digest source need) = ⊥
+MutatesUpTo place (Mutation id numbers command) = ⊥
+MutatesUpTo place (DropRange p n) = ⊥
+
+-- parts are mutated up to the mutation of an id, the replica brought up to date before and after
+pub record MutatesParts (t : TableState) (r id : ℕ) (u : TableState) : Type 0 where
+  pub numbers : List (Option ℕ × ℕ)
+  pub command : CheckedMutation
+  pub place : ℕ
+  pub at : entry_at t.log place ≡ Some (Mutation id numbers command)
+  pub gained : List Entry
+  pub mutates : Each (MutatesUpTo place) gained
+  pub lawful : Lawful t.schema (gained ++ t.log)
+  pub change : u ≡ synced r (record t { log = gained ++ t.log })
+
+-- no part waits for the mutation, or for one before it
+pub record WaitsFor (t : TableState) (r id : ℕ) (u : TableState) : Type 0 where
+  pub mutates : MutatesParts t r id u
+  pub carried : NonePending u.log id
+
+-- one more entry would pass a limit; what was mutated stays so
+pub record LacksEntries (t : TableState) (r id : ℕ) (refusal : Refusal) (u : TableState) : Type 0 where
+  pub mutates : MutatesParts t r id u
+  pub limit : Limit
+  pub value : ℕ
+  pub reached : worker_limit u.log ≡ Some (limit, value)
+  pub reply : refusal ≡ LimitReached limit value
