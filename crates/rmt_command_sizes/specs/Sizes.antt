@@ -1,0 +1,24 @@
+-- Sizes of commands as statements write them.
+-- No public source: that a filter in a log entry nests at most 512 deep is this program's own.
+use Rattle.std.specs.Prelude.{ℕ, ◌+◌, ◌^◌, ◌&&◌, Bool, max, nat_le, nat_lt, length}
+use Rattle.rmt_values.specs.declared.filter.Filter.{Filter}
+use Rattle.rmt_values.specs.declared.filter.Filter.TheOpen.{Filter-F, Test, Both, Either, Not}
+use Rattle.rmt_values.specs.declared.filter.Filter.TheFolds.{fold-Filter}
+use Rattle.rmt_values.specs.declared.mutation.Mutation.{Mutation}
+use Rattle.rmt_values.specs.declared.mutation.Mutation.TheVariants as commands
+
+-- how deep one level nests, from the depths of the filters in it
+abbrev pub level_nesting : Filter-F ℕ → ℕ
+level_nesting (Test name cmp literal) = 1
+level_nesting (Both f g) = max f g + 1
+level_nesting (Either f g) = max f g + 1
+level_nesting (Not f) = f + 1
+
+-- how deep a filter nests: a single comparison has depth 1
+abbrev pub nesting : Filter → ℕ
+nesting filter = fold-Filter ℕ level_nesting filter
+
+-- the command is small: its filter nests at most 512 deep, and an UPDATE sets at least one column and fewer than 2^16
+abbrev pub is_small_command : Mutation → Bool
+is_small_command (commands.Update sets filter) = (nat_le 1 (length sets) && nat_lt (length sets) (2 ^ 16)) && nat_le (nesting filter) 512
+is_small_command (commands.Delete filter) = nat_le (nesting filter) 512

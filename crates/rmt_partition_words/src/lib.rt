@@ -1,0 +1,7 @@
+//! Which partition a statement names.
+#![tactic(auto)]
+
+mod numbers;
+mod words;
+
+pub use words::partition_of;
