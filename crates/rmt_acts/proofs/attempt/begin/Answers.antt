@@ -1,0 +1,14 @@
+use Rattle.std.proofs.Common.{ap}
+use Rattle.rmt_events.specs.Clusters.{without_kinds}
+use Rattle.rmt_acts.proofs.AttemptActs.{allocate-answers, begins-by}
+use Rattle.rmt_acts.proofs.attempt.begin.Goals as goal
+
+pub begun_by-requires : goal.begun_by-requires
+begun_by-requires c =
+    allocate-answers c.args.cluster.now c.step.new.self c.args.replica c.in_ok-block.block c.in_ok-reply.reply c.step.ensures.whole c.requires.idle.up
+    (c.replicas_are_numbered.ensures c.args.replica c.requires.here) c.in_ok-reply.ensures.ok
+
+pub returns-clause-begins : goal.returns-clause-begins
+returns-clause-begins c =
+    begins-by c.args.cluster.now c.step.new.self c.args.replica c.in_ok-block.block (without_kinds c.args.block) c.in_ok-reply.reply c.begun_by.result (ap without_kinds c.in_ok-block.ensures.ok)
+    c.step.ensures.whole c.requires.idle.free c.in_ok-reply.ensures.ok c.begun_by.ensures

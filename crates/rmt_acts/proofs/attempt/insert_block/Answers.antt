@@ -1,0 +1,38 @@
+use Rattle.std.proofs.Common.{◌≡◌, subst, sym}
+use Rattle.rmt_names.specs.Names.{Name, block_name}
+use Rattle.rmt_events.specs.Views.{Block}
+use Rattle.rmt_events.specs.Clusters.{without_kinds}
+use Rattle.rmt_reply.specs.declared.piece.Piece.TheVariants as pieces
+use Rattle.rmt_statement_model.specs.Shows.{Leads}
+use Rattle.rmt_acts.specs.Inserting.{Begins, Commits, ComesTo}
+use Rattle.rmt_acts.specs.declared.begun.Begun.{Begun}
+use Rattle.rmt_acts.specs.declared.committed.Committed.{Committed}
+use Rattle.rmt_acts.specs.declared.outcome.Outcome.TheVariants as outcomes
+use Rattle.rmt_acts.proofs.InsertActs.{accepts, repeats, lacks-number, lacks-room}
+use Rattle.rmt_acts.proofs.attempt.insert_block.Goals as goal
+
+pub returns-in-Duplicate-clause-inserts : goal.returns-in-Duplicate-clause-inserts
+returns-in-Duplicate-clause-inserts c =
+    repeats c.args.cluster.now c.begin.new.cluster c.args.replica (without_kinds c.args.block) c.in-Duplicate.part
+    (subst (λ (x : Begun). Begins c.args.cluster.now c.args.replica (without_kinds c.args.block) x c.begin.new.cluster) c.in-Duplicate.is c.in_ok-begun.ensures.begins)
+
+pub returns-in-Full-clause-inserts : goal.returns-in-Full-clause-inserts
+returns-in-Full-clause-inserts c =
+    lacks-number c.args.cluster.now c.begin.new.cluster c.args.replica (without_kinds c.args.block) c.in-Full.limit c.in-Full.value
+    (subst (λ (x : Begun). Begins c.args.cluster.now c.args.replica (without_kinds c.args.block) x c.begin.new.cluster) c.in-Full.is c.in_ok-begun.ensures.begins)
+
+pub returns-in_ok-do_get-in-Entry-clause-inserts :
+    goal.returns-in_ok-do_get-in-Entry-clause-inserts
+returns-in_ok-do_get-in-Entry-clause-inserts c t h =
+    let b : Block = without_kinds c.args.block in
+    let named : c.block_name.result ≡ block_name b.partition c.in-Attempt.number = cc (c.block_name.ensures, c.partition-partition.ensures) in
+    subst (λ (a : Name). Leads c.do_get.new.cluster (ComesTo t c.args.replica b (outcomes.Inserted (pieces.Part a)))) (sym named)
+    (accepts c.args.cluster.now c.begin.new.cluster c.commit.new.cluster c.do_get.new.cluster c.args.replica b c.in-Attempt.attempt c.in-Attempt.number c.in-Entry.entry
+    (subst (λ (x : Begun). Begins c.args.cluster.now c.args.replica b x c.begin.new.cluster) c.in-Attempt.is c.in_ok-begun.ensures.begins)
+    (subst (λ (x : Committed). Commits c.begin.new.cluster c.in-Attempt.attempt x c.commit.new.cluster) c.in-Entry.is c.in_ok-entry.ensures.commits) c.in_ok-do_get-in-Entry.ensures.does t h)
+
+pub returns-in-Full-2-clause-inserts : goal.returns-in-Full-2-clause-inserts
+returns-in-Full-2-clause-inserts c =
+    lacks-room c.args.cluster.now c.begin.new.cluster c.commit.new.cluster c.args.replica (without_kinds c.args.block) c.in-Attempt.attempt c.in-Attempt.number c.in-Full-2.limit c.in-Full-2.value
+    (subst (λ (x : Begun). Begins c.args.cluster.now c.args.replica (without_kinds c.args.block) x c.begin.new.cluster) c.in-Attempt.is c.in_ok-begun.ensures.begins)
+    (subst (λ (x : Committed). Commits c.begin.new.cluster c.in-Attempt.attempt x c.commit.new.cluster) c.in-Full-2.is c.in_ok-entry.ensures.commits)

@@ -1,0 +1,43 @@
+use Rattle.std.proofs.Common.{◌≡◌, ap, ◌∙◌}
+use Rattle.rmt_events.specs.Views.{Table}
+use Rattle.rmt_statement_model.specs.Optimizes.{partitions_asked}
+use Rattle.rmt_acts.proofs.OptimizeActs.{whole-log}
+use Rattle.rmt_acts.proofs.OptimizeLoops.{none-yet, next-live, one-more, ends-there, ends-all}
+use Rattle.rmt_acts.proofs.optimizing.optimize.Goals as goal
+use Rattle.rmt_acts.proofs.optimizing.optimize.Goals.{After-deref-partition-items}
+
+-- the partitions are those that are asked for
+asked : (c : After-deref-partition-items) → c.deref-partition-items.result.now ≡ partitions_asked c.args.asked c.args.cluster.now.table.log
+asked c =
+    let done = c.in_ok-sync_replica.ensures in
+    let log = whole-log c.sync_replica.new.cluster c.args.replica c.copy.result.now.log done.whole c.copy.ensures.log ∙ ap (λ (t : Table). t.log) done.table in
+    c.deref-partition-items.ensures.value ∙ (c.in_ok-all.ensures ∙ ap (partitions_asked c.args.asked) log)
+
+pub partitions-init : goal.partitions-init
+partitions-init c =
+    let done = c.in_ok-sync_replica.ensures in
+    none-yet c.args.cluster.now c.sync_replica.new.cluster c.args.replica c.new-names.result.items c.new-names.ensures.items done.syncs done.whole done.idle done.schema done.replicas
+
+pub optimize_partition-requires-clause-some : goal.optimize_partition-requires-clause-some
+optimize_partition-requires-clause-some c =
+    let all = asked (goal.at.optimize_partition-requires-clause-some c).After-deref-partition-items in
+    next-live c.args.cluster.now c.partitions.cluster c.args.replica c.args.asked c.deref-partition-items.result.now c.partitions.partition-index c.partitions.names.items c.drained_replicas_agree.ensures.whole all
+    c.partitions-test.true c.partitions.invariant
+
+pub partitions-preserved : goal.partitions-preserved
+partitions-preserved c =
+    let done = c.in_ok-name.ensures in
+    one-more c.args.cluster.now c.partitions.cluster c.optimize_partition.new.cluster c.args.replica c.deref-partition-items.result.now c.partitions.partition-index c.partitions.names.items c.push.new.self.items c.in_ok-name.field-0 c.in-Name.name
+    c.partitions-test.true c.partitions.invariant done.optimizes c.in-Name.is c.in_ok-push-in-Name.ensures.items done.whole done.idle done.schema done.replicas
+
+pub returns-in-Refused-clause-optimizes : goal.returns-in-Refused-clause-optimizes
+returns-in-Refused-clause-optimizes c =
+    let all = asked (goal.at.returns-in-Refused-clause-optimizes c).After-deref-partition-items in
+    ends-there c.args.cluster.now c.partitions.cluster c.optimize_partition.new.cluster c.args.replica c.args.asked c.deref-partition-items.result.now c.partitions.partition-index c.partitions.names.items c.new-names-in-Refused.result
+    c.in_ok-name.field-0 c.in-Refused.refusal all c.partitions-test.true c.partitions.invariant c.in_ok-name.ensures.optimizes c.in-Refused.is c.new-names-in-Refused.ensures
+
+pub returns-clause-optimizes : goal.returns-clause-optimizes
+returns-clause-optimizes c =
+    let all = asked (goal.at.returns-clause-optimizes c).After-deref-partition-items in
+    ends-all c.args.cluster.now c.partitions.cluster c.args.replica c.args.asked c.deref-partition-items.result.now c.partitions.partition-index c.partitions.names.items c.new-names-2.result all c.partitions-test.false
+    c.partitions.invariant c.new-names-2.ensures

@@ -1,0 +1,21 @@
+use Rattle.std.proofs.Common.{◌∙◌, ap, sym}
+use Rattle.rmt_changes.specs.Changes.{entries_of}
+use Rattle.rmt_history.specs.Mutations.{mutations_below}
+use Rattle.rmt_acts.proofs.ReadActs.{all-below, tokens-fit}
+use Rattle.rmt_acts.proofs.reading.all_mutations.Goals as goal
+
+pub returns-in-Some-clause-entries : goal.returns-in-Some-clause-entries
+returns-in-Some-clause-entries c =
+    let log = c.args.copy.now.log in
+    ap entries_of (c.as_slice.ensures ∙ c.deref.ensures) ∙ (c.in-Some.ensures.tokens.entries ∙ (ap (mutations_below log) c.len.ensures.len ∙ all-below log))
+
+pub returns-in-Some-clause-fit : goal.returns-in-Some-clause-fit
+returns-in-Some-clause-fit c =
+    let log = c.args.copy.now.log in
+    tokens-fit c.args.copy.now.schema log c.as_slice.result.now c.len.ensures.lawful
+    (ap entries_of (c.as_slice.ensures ∙ c.deref.ensures) ∙ (c.in-Some.ensures.tokens.entries ∙ (ap (mutations_below log) c.len.ensures.len ∙ all-below log)))
+
+pub returns-in-None-clause-entries : goal.returns-in-None-clause-entries
+returns-in-None-clause-entries c =
+    let log = c.args.copy.now.log in
+    sym c.in-None.ensures.tokens ∙ (ap (mutations_below log) c.len.ensures.len ∙ all-below log)

@@ -1,0 +1,166 @@
+//! The events that insert one block.
+ghost use Rattle.std.specs.Prelude.{◌≡◌, length, true, IfOk, OnOk};
+ghost use Rattle.std.specs.List.{All};
+ghost use Rattle.rmt_values.specs.Rows.{fits};
+ghost use Rattle.rmt_events.specs.Clusters.{without_kinds};
+ghost use Rattle.rmt_cluster.specs.Clusters.{IsNumber};
+ghost use Rattle.rmt_statement_model.specs.TableStates.{TableState, learned};
+ghost use Rattle.rmt_statement_model.specs.Shows.{AllUp, IsIdle, Shows, Leads};
+ghost use Rattle.rmt_statement_model.specs.Attempts.{IsAllocateReply, IsCommitReply};
+ghost use Rattle.rmt_acts.specs.Inserting.{IsBegun, Begins, IsCommitted, Commits, HasAttempt, HasGet, ComesTo};
+
+use crate::begun::Begun;
+use crate::committed::Committed;
+use crate::outcome::Outcome;
+use rmt_block::Block;
+use rmt_cluster::Cluster;
+use rmt_events::{Event, Reply, StepRefused};
+use rmt_names::block_name;
+use rmt_reply::{Piece, Refusal};
+use rmt_values::ReplicaId;
+use std::alloc::{AllocError, Global};
+use std::sync::Arc;
+
+/// How the insert of a block begins whose Allocate has this reply.
+fn begun_by(reply: &Reply) -> Begun
+    requires { IsAllocateReply reply.now }
+    ensures { IsBegun reply.now result }
+{
+    match reply {
+        Reply::Attempt { attempt, number } => Begun::Attempt {
+            attempt: *attempt,
+            number: *number,
+        },
+        Reply::Refused(StepRefused::Duplicate(part)) => Begun::Duplicate(*part),
+        Reply::Refused(StepRefused::LimitReached { limit, value }) => Begun::Full {
+            limit: *limit,
+            value: *value,
+        },
+        _ => unreachable!(),
+    }
+}
+
+/// Lets a block have a number at a replica.
+fn begin(
+    alloc: Global,
+    cluster: &mut Cluster,
+    replica: ReplicaId,
+    block: Block,
+) -> Result<Begun, AllocError>
+    requires here { IsNumber replica (length cluster.old.replicas) }
+    requires idle { IsIdle cluster.old }
+    requires fit { All (λ row. fits cluster.old.table.schema.columns row ≡ true) block.rows }
+    ensures begins { IfOk result (λ begun.
+        Begins cluster.old replica (without_kinds block) begun cluster.new) }
+    ensures up { IfOk result (λ _. AllUp cluster.new) }
+    ensures schema { cluster.new.table.schema ≡ cluster.old.table.schema }
+    ensures replicas { length cluster.new.replicas ≡ length cluster.old.replicas }
+{
+    cluster.replicas_are_numbered();
+    let block = Arc::new(alloc, block)?;
+    let need = 0;
+    let reply = cluster.step(
+        alloc,
+        Event::Allocate {
+            replica,
+            block,
+            need,
+        },
+    )?;
+    if let Reply::Refused(StepRefused::Down) = reply {
+        unreachable!()
+    }
+    Ok(begun_by(&reply))
+}
+
+/// What a commit came to that has this reply.
+fn committed_by(reply: &Reply) -> Committed
+    requires { IsCommitReply reply.now }
+    ensures { IsCommitted reply.now result }
+{
+    match reply {
+        Reply::Entry(place) => Committed::Entry(*place),
+        Reply::Refused(StepRefused::LimitReached { limit, value }) => Committed::Full {
+            limit: *limit,
+            value: *value,
+        },
+        _ => unreachable!(),
+    }
+}
+
+/// Stages the block of an attempt, and commits it. Nothing happens in between, so its number is held still.
+fn commit(alloc: Global, cluster: &mut Cluster, attempt: u32) -> Result<Committed, AllocError>
+    requires there { HasAttempt cluster.old attempt }
+    requires up { AllUp cluster.old }
+    ensures commits { IfOk result (λ done. Commits cluster.old attempt done cluster.new) }
+    ensures idle { IfOk result (λ _. IsIdle cluster.new) }
+    ensures schema { cluster.new.table.schema ≡ cluster.old.table.schema }
+    ensures replicas { length cluster.new.replicas ≡ length cluster.old.replicas }
+{
+    let _staged = cluster.step(alloc, Event::Stage { attempt })?;
+    let reply = cluster.step(alloc, Event::Commit { attempt })?;
+    if let Reply::Refused(StepRefused::Down) = reply {
+        unreachable!()
+    }
+    Ok(committed_by(&reply))
+}
+
+/// Lets a replica pull the log, and do the Get of its own block, which it has staged.
+fn do_get(
+    alloc: Global,
+    cluster: &mut Cluster,
+    replica: ReplicaId,
+    entry: u32,
+) -> Result<(), AllocError>
+    requires here { IsNumber replica (length cluster.old.replicas) }
+    requires there { HasGet cluster.old entry replica }
+    requires idle { IsIdle cluster.old }
+    ensures does { OnOk result ((t : TableState) → Shows cluster.old t
+        → Shows cluster.new (record t { known = learned t.known replica entry })) }
+    ensures idle { OnOk result (IsIdle cluster.new) }
+    ensures schema { cluster.new.table.schema ≡ cluster.old.table.schema }
+    ensures replicas { length cluster.new.replicas ≡ length cluster.old.replicas }
+{
+    let _pulled = cluster.step(alloc, Event::Pull { replica })?;
+    let reply = cluster.step(alloc, Event::Apply { replica, entry })?;
+    if let Reply::Refused(StepRefused::Down) = reply {
+        unreachable!()
+    }
+    Ok(())
+}
+
+/// Inserts a block at a replica, which does its own Get then.
+pub(crate) fn insert_block(
+    alloc: Global,
+    cluster: &mut Cluster,
+    replica: ReplicaId,
+    block: Block,
+) -> Result<Outcome, AllocError>
+    requires here { IsNumber replica (length cluster.old.replicas) }
+    requires idle { IsIdle cluster.old }
+    requires fit { All (λ row. fits cluster.old.table.schema.columns row ≡ true) block.rows }
+    ensures inserts { IfOk result (λ outcome. (t : TableState) → Shows cluster.old t
+        → Leads cluster.new (ComesTo t replica (without_kinds block) outcome)) }
+    ensures idle { IfOk result (λ _. IsIdle cluster.new) }
+    ensures schema { cluster.new.table.schema ≡ cluster.old.table.schema }
+    ensures replicas { length cluster.new.replicas ≡ length cluster.old.replicas }
+{
+    let partition = block.partition();
+    let begun = begin(alloc, cluster, replica, block)?;
+    let (attempt, number) = match begun {
+        Begun::Attempt { attempt, number } => (attempt, number),
+        Begun::Duplicate(part) => return Ok(Outcome::Inserted(Piece::Duplicate(part))),
+        Begun::Full { limit, value } => {
+            return Ok(Outcome::Refused(Refusal::LimitReached { limit, value }));
+        }
+    };
+    match commit(alloc, cluster, attempt)? {
+        Committed::Entry(entry) => {
+            do_get(alloc, cluster, replica, entry)?;
+            Ok(Outcome::Inserted(Piece::Part(block_name(partition, number))))
+        }
+        Committed::Full { limit, value } => {
+            Ok(Outcome::Refused(Refusal::LimitReached { limit, value }))
+        }
+    }
+}

@@ -1,0 +1,52 @@
+//! Background work, and a replica that is restarted.
+ghost use Rattle.std.specs.Prelude.{◌≡◌, ◌<◌, ◌^◌, length, OnOk};
+ghost use Rattle.rmt_cluster.specs.Clusters.{IsNumber};
+ghost use Rattle.rmt_statement_model.specs.TableStates.{TableState};
+ghost use Rattle.rmt_statement_model.specs.BackgroundWork.{Works};
+ghost use Rattle.rmt_statement_model.specs.Shows.{IsIdle, Shows, Leads};
+
+use rmt_cluster::Cluster;
+use rmt_events::{Event, Reply, StepRefused};
+use rmt_values::ReplicaId;
+use std::alloc::{AllocError, Global};
+
+/// Makes so many background events, drawn from a seed. At an error no memory was left, and some of them were made.
+pub fn run_turns(
+    alloc: Global,
+    cluster: &mut Cluster,
+    seed: u32,
+    turns: u32,
+) -> Result<(), AllocError>
+    requires seed { seed < 2 ^ 31 }
+    requires idle { IsIdle cluster.old }
+    ensures works { OnOk result ((t : TableState) → Shows cluster.old t → Leads cluster.new (Works t)) }
+    ensures idle { OnOk result (IsIdle cluster.new) }
+    ensures schema { cluster.new.table.schema ≡ cluster.old.table.schema }
+    ensures replicas { length cluster.new.replicas ≡ length cluster.old.replicas }
+{
+    // What always holds of a cluster is known here.
+    cluster.drained_replicas_agree();
+    cluster.run(alloc, seed, turns)
+}
+
+/// Ends a replica's session and opens another one, so that the replica looks at each entry of its copy again. At an error no
+/// memory was left, and the replica may be down.
+pub fn restart_replica(
+    alloc: Global,
+    cluster: &mut Cluster,
+    replica: ReplicaId,
+) -> Result<(), AllocError>
+    requires here { IsNumber replica (length cluster.old.replicas) }
+    requires idle { IsIdle cluster.old }
+    ensures restarts { OnOk result ((t : TableState) → Shows cluster.old t → Shows cluster.new t) }
+    ensures idle { OnOk result (IsIdle cluster.new) }
+    ensures schema { cluster.new.table.schema ≡ cluster.old.table.schema }
+    ensures replicas { length cluster.new.replicas ≡ length cluster.old.replicas }
+{
+    let killed = cluster.step(alloc, Event::Kill { replica })?;
+    if let Reply::Refused(StepRefused::Down) = killed {
+        unreachable!()
+    }
+    let _restarted = cluster.step(alloc, Event::Restart { replica })?;
+    Ok(())
+}

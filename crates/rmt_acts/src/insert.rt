@@ -1,0 +1,50 @@
+//! INSERT of blocks.
+ghost use Rattle.std.specs.Prelude.{◌≡◌, length, map, true, IfOk};
+ghost use Rattle.std.specs.List.{All};
+ghost use Rattle.rmt_values.specs.Rows.{fits};
+ghost use Rattle.rmt_events.specs.Clusters.{without_kinds};
+ghost use Rattle.rmt_cluster.specs.Clusters.{IsNumber};
+ghost use Rattle.rmt_statement_model.specs.TableStates.{TableState};
+ghost use Rattle.rmt_statement_model.specs.Inserts.{InsertsAll};
+ghost use Rattle.rmt_statement_model.specs.Shows.{IsIdle, Shows, Leads};
+
+use crate::attempt::insert_block;
+use crate::insertion::Insertion;
+use crate::outcome::Outcome;
+use rmt_block::Block;
+use rmt_cluster::Cluster;
+use rmt_list::List;
+use rmt_values::ReplicaId;
+use std::alloc::{AllocError, Global};
+
+/// Inserts blocks at a replica, one after the other, until one is refused. What went in stays. At an error no memory was
+/// left: some of the blocks went in, and the next one may be halfway.
+pub fn insert_blocks(
+    alloc: Global,
+    cluster: &mut Cluster,
+    replica: ReplicaId,
+    blocks: Vec<Block>,
+) -> Result<Insertion, AllocError>
+    requires here { IsNumber replica (length cluster.old.replicas) }
+    requires idle { IsIdle cluster.old }
+    requires fit { All (λ b. All (λ row. fits cluster.old.table.schema.columns row ≡ true) b.rows)
+        blocks.items }
+    ensures inserts { IfOk result (λ i. (t : TableState) → Shows cluster.old t → Leads cluster.new
+        (InsertsAll t replica (map without_kinds blocks.items) i.pieces i.refused)) }
+    ensures idle { IfOk result (λ _. IsIdle cluster.new) }
+    ensures schema { cluster.new.table.schema ≡ cluster.old.table.schema }
+    ensures replicas { length cluster.new.replicas ≡ length cluster.old.replicas }
+{
+    let mut pieces = Vec::new(alloc);
+    'inserts: for block in blocks {
+        match insert_block(alloc, cluster, replica, block)? {
+            Outcome::Inserted(piece) => pieces.push(piece)?,
+            Outcome::Refused(refusal) => {
+                let (pieces, refused) = (List::new(pieces), Some(refusal));
+                return Ok(Insertion { pieces, refused });
+            }
+        }
+    }
+    let (pieces, refused) = (List::new(pieces), None);
+    Ok(Insertion { pieces, refused })
+}

@@ -1,0 +1,28 @@
+//! What statements do in one table, by events of its cluster.
+#![tactic(auto)]
+
+mod attempt;
+mod background;
+mod begun;
+mod committed;
+mod drop;
+mod insert;
+mod insertion;
+mod mutation;
+mod optimization;
+mod optimized;
+mod optimizing;
+mod outcome;
+mod partitions;
+mod reading;
+mod syncing;
+
+pub use background::{restart_replica, run_turns};
+pub use drop::drop_partition;
+pub use insert::insert_blocks;
+pub use insertion::Insertion;
+pub use mutation::mutate;
+pub use optimization::Optimization;
+pub use optimizing::optimize;
+pub use reading::{answer_up_to_date, read_parts, schema_of};
+pub use syncing::sync_replica;

@@ -1,0 +1,41 @@
+//! ALTER .. UPDATE and ALTER .. DELETE.
+ghost use Rattle.std.specs.Prelude.{◌≡◌, length, IfOk};
+ghost use Rattle.rmt_values.specs.Commands.{CommandFits};
+ghost use Rattle.rmt_entries.specs.EntryBytes.{CommandInRange};
+ghost use Rattle.rmt_statement_model.specs.Shows.{IsIdle};
+ghost use Rattle.rmt_acts.specs.Changing.{MutatesTo};
+
+use rmt_cluster::Cluster;
+use rmt_events::{Event, Reply, StepRefused};
+use rmt_reply::Refusal;
+use rmt_values::CheckedMutation;
+use std::alloc::{AllocError, Global};
+
+/// Makes a mutation, and gives its id; or the refusal, where it would pass a limit. At an error no memory was left, and
+/// nothing changed.
+pub fn mutate(
+    alloc: Global,
+    cluster: &mut Cluster,
+    command: CheckedMutation,
+) -> Result<Result<u32, Refusal>, AllocError>
+    requires idle { IsIdle cluster.old }
+    requires fits { CommandFits cluster.old.table.schema command }
+    requires in_range { CommandInRange command }
+    ensures mutates { IfOk result (λ made. MutatesTo cluster.old command made cluster.new) }
+    ensures idle { IfOk result (λ _. IsIdle cluster.new) }
+    ensures schema { cluster.new.table.schema ≡ cluster.old.table.schema }
+    ensures replicas { length cluster.new.replicas ≡ length cluster.old.replicas }
+{
+    let id = cluster.state().tree().mutations();
+    let reply = cluster.step(alloc, Event::CreateMutation { command })?;
+    match reply {
+        Reply::Entry(_) => Ok(Ok(id)),
+        Reply::Refused(why) => match why {
+            StepRefused::LimitReached { limit, value } => {
+                Ok(Err(Refusal::LimitReached { limit, value }))
+            }
+            _ => unreachable!(),
+        },
+        _ => unreachable!(),
+    }
+}

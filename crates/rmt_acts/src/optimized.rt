@@ -1,0 +1,11 @@
+use rmt_names::PartName;
+use rmt_reply::Refusal;
+
+/// What became of one partition.
+#[derive(Debug, Drop)]
+pub(crate) enum Optimized {
+    /// It has this part alone.
+    Name(PartName),
+    /// Its parts weren't merged.
+    Refused(Refusal),
+}

@@ -1,0 +1,82 @@
+//! What is read of a table at a replica.
+ghost use Rattle.std.specs.Prelude.{◌≡◌, length, IfOk};
+ghost use Rattle.std.specs.List.{All, filter};
+ghost use Rattle.rmt_cluster.specs.Clusters.{IsNumber};
+ghost use Rattle.rmt_model.specs.Lawful.{is_mutation};
+ghost use Rattle.rmt_changes.specs.Changes.{entries_of};
+ghost use Rattle.rmt_changes.specs.Laws.{EntryFits};
+ghost use Rattle.rmt_query.specs.Answers.{answer_of};
+ghost use Rattle.rmt_statement_model.specs.TableStates.{TableState, plain_rows};
+ghost use Rattle.rmt_statement_model.specs.Reads.{IsReading, KnowsAll};
+ghost use Rattle.rmt_statement_model.specs.Shows.{IsIdle, Shows};
+
+use rmt_cluster::Cluster;
+use rmt_entries::Entry;
+use rmt_history::LogCopy;
+use rmt_partset::Snapshot;
+use rmt_query::{Tuple, answer};
+use rmt_replica::ReplicaError;
+use rmt_row::Seen;
+use rmt_values::{CheckedQuery, ReplicaId, Schema};
+use std::alloc::{AllocError, Global};
+
+/// The table's schema.
+pub fn schema_of(cluster: &Cluster) -> &Schema
+    ensures { result.now ≡ cluster.now.table.schema }
+{
+    cluster.state().tree().schema()
+}
+
+/// The active parts of a replica. At an error no memory was left.
+pub fn read_parts(
+    alloc: Global,
+    cluster: &Cluster,
+    replica: ReplicaId,
+) -> Result<Snapshot, AllocError>
+    requires here { IsNumber replica (length cluster.now.replicas) }
+    requires idle { IsIdle cluster.now }
+    ensures reading { IfOk result (λ parts. (t : TableState) → Shows cluster.now t
+        → IsReading t replica parts) }
+    ensures keys { IfOk result (All (λ part. part.rows.key ≡ cluster.now.table.schema.key)) }
+{
+    // What always holds of a cluster is known here.
+    cluster.drained_replicas_agree();
+    cluster.replicas_are_numbered();
+    match cluster.snapshot(alloc, replica) {
+        Ok(parts) => Ok(parts),
+        Err(ReplicaError::Memory) => Err(AllocError),
+        Err(ReplicaError::Down) => unreachable!(),
+    }
+}
+
+/// The mutations of a copy, the oldest first.
+fn all_mutations(copy: &LogCopy) -> &[Seen<Entry>]
+    ensures entries { entries_of result.now ≡ filter is_mutation copy.now.log }
+    ensures fit { All (λ token. EntryFits copy.now.schema token.value) result.now }
+{
+    match copy.mutations(copy.len()) {
+        Some(list) => list.as_slice(),
+        None => &[],
+    }
+}
+
+/// What a query answers at a replica where every place of the log is known: the mutations that are pending for its parts
+/// are applied while it is read. At an error no memory was left.
+pub fn answer_up_to_date(
+    alloc: Global,
+    cluster: &Cluster,
+    replica: ReplicaId,
+    query: &CheckedQuery,
+) -> Result<Vec<Tuple>, AllocError>
+    requires here { IsNumber replica (length cluster.now.replicas) }
+    requires idle { IsIdle cluster.now }
+    ensures { IfOk result (λ tuples. (t : TableState) → Shows cluster.now t → KnowsAll t replica
+        → tuples.items ≡ answer_of t.schema query.now (plain_rows t)) }
+{
+    // What always holds of a cluster is known here.
+    cluster.drained_replicas_agree();
+    cluster.replicas_are_numbered();
+    let parts = read_parts(alloc, cluster, replica)?;
+    let pending = all_mutations(cluster.copy(replica));
+    answer(alloc, &parts, query, schema_of(cluster), pending)
+}
