@@ -1,5 +1,5 @@
 -- Orders of a shop, taken at two replicas. A load with a row that is none is refused whole, mended and sent again. One
--- that is sent twice is counted twice: repeated blocks aren't told yet.
+-- that is sent twice counts once.
 CREATE TABLE orders (id UInt64, customer String, item String, cents Int64)
 ENGINE = ReplicatedMergeTree ORDER BY (customer, id);
 

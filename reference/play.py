@@ -237,10 +237,11 @@ def unbuilt(*rules):
 TUPLE = in_parentheses()
 TYPE = choice(*(says(exactly(name), lambda _, name=name: name) for name in ("UInt64", "Int64", "String")))
 KEY = choice(says(sequence(exactly("tuple"), TUPLE), lambda _: []), says(WORD, lambda word: [word]), NAMES)
+DIVIDED = sequence(exactly("intDiv"), in_parentheses(WORD, symbol(","), NUMBER))
 PARTITION_RULE = choice(
     says(sequence(exactly("tuple"), TUPLE), lambda _: None),
-    WORD,
-    sequence(exactly("intDiv"), in_parentheses(WORD, symbol(","), NUMBER)),
+    says(WORD, lambda column: (column, 1)),
+    says(DIVIDED, lambda said: (said[1][0], said[1][2])),
 )
 
 
@@ -263,10 +264,9 @@ def settings(text, at):
 
 
 def create_of(said):
-    table, (columns,), partition, key, setting = said[2], said[3], said[8], said[11], said[12] or {}
-    if partition is not None or "replicated_deduplication_window" in setting:
-        return ("unbuilt",)
-    return ("create", table, columns, key, setting.get("index_granularity", 8192))
+    table, (columns,), rule, key, setting = said[2], said[3], said[8], said[11], said[12] or {}
+    granularity, window = setting.get("index_granularity", 8192), setting.get("replicated_deduplication_window", 100)
+    return ("create", table, columns, rule, key, granularity, window)
 
 
 CREATE = says(
@@ -460,15 +460,75 @@ class Refusal(Exception):
         self.line = b" ".join([b"refused %d %s" % (number, name.encode())] + kept)
 
 
+# the limits: partitions of a table, numbers of a partition, accepted blocks of a table, and values in these
+PARTITIONS, NUMBERS, CLIENT_ENTRIES, VALUES = 1024, 65536, 32768, 8388608
+
+
+class Block:
+    """An accepted block: the number of its partition (None without a rule), its own number there, and its rows."""
+
+    def __init__(self, partition, number, rows):
+        self.partition, self.number, self.rows = partition, number, rows
+        self.name = b"%s_%d_%d_0" % (b"all" if partition is None else b"%d" % partition, number, number)
+
+
 class Table:
-    def __init__(self, columns, key, granularity):
-        self.columns, self.key, self.granularity = columns, key, granularity
+    """The blocks that were accepted, in that order; the next number of each partition that there is; how many values
+    are held; and for each replica the places of the blocks that it has a part of."""
+
+    def __init__(self, columns, rule, key, granularity, window):
+        self.columns, self.rule, self.key, self.granularity, self.window = columns, rule, key, granularity, window
         self.kinds = dict(columns)
         self.places = {name: place for place, (name, _) in enumerate(columns)}
-        self.blocks, self.known = [], [set() for _ in range(8)]
+        self.blocks, self.next, self.values, self.known = [], {}, 0, [set() for _ in range(8)]
 
     def value(self, row, column):
         return row[self.places[column]]
+
+    def split(self, rows):
+        """The partitions of the rows, in order, each with its rows in the order in which they were offered."""
+        partitions = {}
+        for row in rows:
+            partition = None if self.rule is None else self.value(row, self.rule[0]) // self.rule[1]
+            partitions.setdefault(partition, []).append(row)
+        return sorted(partitions.items())
+
+    def kept(self):
+        """The blocks whose ids are kept: as many of those accepted last as the window says."""
+        return self.blocks[max(0, len(self.blocks) - self.window) :]
+
+    def take_number(self, partition):
+        number = self.next.get(partition, 0)
+        if partition not in self.next and len(self.next) == PARTITIONS:
+            raise Refusal(18, "LimitReached", "partitions", len(self.next))
+        if number == NUMBERS:
+            raise Refusal(18, "LimitReached", "numbers", number)
+        if len(self.blocks) == CLIENT_ENTRIES:
+            raise Refusal(18, "LimitReached", "client_entries", len(self.blocks))
+        self.next[partition] = number + 1
+        return number
+
+    def insert(self, at, partition, rows):
+        """What a block is answered that is inserted at a replica. Two blocks have one id where they have the same rows
+        in the same order in the same partition."""
+        for block in self.kept():
+            if (block.partition, block.rows) == (partition, rows):
+                return b"duplicate " + block.name
+        number, values = self.take_number(partition), len(rows) * len(self.columns)
+        if self.values + values > VALUES:
+            raise Refusal(18, "LimitReached", "values", self.values)
+        self.values += values
+        self.known[at].add(len(self.blocks))
+        self.blocks.append(Block(partition, number, rows))
+        return b"part " + self.blocks[-1].name
+
+    def sync(self, at):
+        self.known[at] = set(range(len(self.blocks)))
+
+    def read(self, at):
+        """The blocks that a replica has a part of, by partition and then by number."""
+        blocks = [self.blocks[place] for place in self.known[at]]
+        return sorted(blocks, key=lambda block: (block.partition, block.number))
 
 
 def first_double(names):
@@ -599,21 +659,22 @@ class World:
         else:
             self.act(*statement[1:])
 
-    def create(self, name, columns, key, granularity):
+    def create(self, name, columns, rule, key, granularity, window):
         if name in self.tables:
             raise Refusal(3, "TableExists", name)
         names = [column for column, _ in columns]
-        for column in key:
-            if column not in names:
-                raise Refusal(5, "UnknownColumn", column)
-        check_names(names, [names, key])
+        check_names(names, [names, [] if rule is None else [rule[0]], key])
+        if rule is not None and (dict(columns)[rule[0]] != "UInt64" or not 1 <= rule[1] < 2**64):
+            raise Refusal(6, "WrongType", rule[0])
         if not 1 <= granularity <= 65536:
             raise Refusal(6, "WrongType", "index_granularity")
+        if window > 100000:
+            raise Refusal(6, "WrongType", "replicated_deduplication_window")
         if len(self.tables) == 4:
             raise Refusal(18, "LimitReached", "tables", 4)
         if len(columns) > 64:
             raise Refusal(18, "LimitReached", "columns", 64)
-        self.tables[name] = Table(columns, key, granularity)
+        self.tables[name] = Table(columns, rule, key, granularity, window)
         self.lines.append(b"ok")
 
     def act(self, replica, act):
@@ -635,26 +696,23 @@ class World:
     def insert(self, table, at, rows):
         if not rows:
             self.lines.append(b"nothing")
-            return
-        number = len(table.blocks)
-        table.blocks.append(rows)
-        table.known[at].add(number)
-        self.lines.append(b"part all_%d_%d_0" % (number, number))
+        for partition, block in table.split(rows):
+            self.lines.append(table.insert(at, partition, block))
 
     def select(self, table, at, query, is_sync):
         if is_sync:
-            table.known[at] = set(range(len(table.blocks)))
-        parts = sorted(table.known[at])
+            table.sync(at)
+        parts = table.read(at)
         if not is_sync:
-            self.lines.append(b" ".join([b"parts"] + [b"all_%d_%d_0" % (part, part) for part in parts]))
-        rows = query.answer([row for part in parts for row in table.blocks[part]])
+            self.lines.append(b" ".join([b"parts"] + [part.name for part in parts]))
+        rows = query.answer([row for part in parts for row in part.rows])
         self.lines += [b"rows %d" % len(rows)] + [printed_record(row) for row in rows]
 
     def explain(self, table, at, query):
         total_chosen = total = 0
-        for part in sorted(table.known[at]):
-            chosen, count = query.granules(table.blocks[part])
-            self.lines.append(b"granules all_%d_%d_0 %d/%d" % (part, part, chosen, count))
+        for part in table.read(at):
+            chosen, count = query.granules(part.rows)
+            self.lines.append(b"granules %s %d/%d" % (part.name, chosen, count))
             total_chosen, total = total_chosen + chosen, total + count
         self.lines.append(b"granules total %d/%d" % (total_chosen, total))
 

@@ -1,11 +1,17 @@
-"""Random scripts: mostly statements that are played, some that are refused, and some with a token too few, too many or
-out of place."""
+"""Random scripts: mostly statements that are played, among them INSERTs that are sent again; some that are refused, and
+some with a token too few, too many or out of place."""
 import random
 
 COLUMNS = ["a", "b", "c", "d", "k", "day", "page"]
 TYPES = ["UInt64", "Int64", "String"]
 NUMBERS = ["0", "1", "2", "3", "5", "7", "10", "007"]
 WIDE = [str(2**63 - 1), str(2**63), str(2**64 - 1), str(2**64), str(2**128 - 1), str(2**128)]
+DIVISORS = ["1", "2", "2", "3", "5", "10", "002", "1000", str(2**63), str(2**64 - 1)]
+NO_DIVISORS = ["0", "000", str(2**64), str(2**128 - 1)]
+WINDOWS = ["0", "1", "2", "3", "4", "100", "100000"]
+NO_WINDOWS = ["100001", str(2**32), str(2**128 - 1)]
+GRANULARITIES = ["1", "2", "3"] * 4 + ["8192", "65536"]
+NO_GRANULARITIES = ["0", "65537", "5000000000"]
 TEXTS = ["''", "'a'", "'b'", "'ab'", "'x,y'", "'it''s'", "'q\"q'", r"'\n'", r"'\\'", r"'\''", r"'\0'", r"'z\tz'", "'A'"]
 FIELDS = ["", "a", "b", "x y", '"q"', '"a,b"', '"say ""hi"""', 'a"b', '"ab"c', '"l1\nl2"', " s ", "-", "'x'", "\u00e9"]
 STRAY = ["", " 1", "+1", "1 ", "-0", "00", "0" * 40]
@@ -24,6 +30,8 @@ class Scripts:
     def __init__(self, seed):
         self.random = random.Random(seed)
         self.tables, self.replicas = {}, 2
+        self.inserts, self.share = {}, 0.45  # the INSERTs of each table so far, and how many of the statements are one
+        self.is_wild = False  # whether a statement may have values that are none of their column
 
     def chance(self, share):
         return self.random.random() < share
@@ -40,14 +48,15 @@ class Scripts:
     def commas(self, lists):
         return [token for place, tokens in enumerate(lists) for token in ([","] if place else []) + tokens]
 
-    def number(self):
-        return self.one(NUMBERS if self.chance(0.9) else WIDE)
+    def number(self, kind):
+        if self.is_wild and self.chance(0.1):
+            return [self.one(WIDE)]
+        minus = ["-"] if self.chance(0.35 if kind == "Int64" else 0.03 if self.is_wild else 0) else []
+        return minus + [self.one(NUMBERS if self.chance(0.95) else WIDE[: 3 if kind == "UInt64" else 1])]
 
     def literal(self, kind):
-        kind = self.one(TYPES) if kind is None or self.chance(0.05) else kind
-        if kind == "String":
-            return [self.one(TEXTS)]
-        return (["-"] if self.chance(0.35 if kind == "Int64" else 0.03) else []) + [self.number()]
+        kind = self.one(TYPES) if kind is None or self.is_wild and self.chance(0.05) else kind
+        return [self.one(TEXTS)] if kind == "String" else self.number(kind)
 
     def table(self):
         return self.one(list(self.tables)) if self.tables and self.chance(0.97) else self.one(["t", "u", "nope"])
@@ -64,63 +73,97 @@ class Scripts:
     # ---- statements, as lists of tokens
 
     def create(self):
-        table = self.one(["t", "u", "v", "w", "x"])
-        columns = [(COLUMNS[i] if self.chance(0.9) else self.one(COLUMNS), self.one(TYPES)) for i in range(self.one([1, 2, 3, 4]))]
+        table, is_right = self.one(["t", "u", "v", "w", "x"]), self.chance(0.75)
+        count = self.one([1, 2, 3, 4])
+        names = COLUMNS[:count] if self.chance(0.8) else self.random.sample(COLUMNS, count)
+        names = [self.one(names) for _ in names] if not is_right and self.chance(0.2) else names
         if self.chance(0.02):
-            columns = [("c%d" % i, "UInt64") for i in range(self.one([64, 65]))]
-        names = [name for name, _ in columns]
+            names = ["c%d" % i for i in range(self.one([64] if is_right else [64, 65]))]
+        columns = [(name, self.one(["UInt64"] + TYPES)) for name in names]
         key = self.random.sample(names, self.random.randint(0, min(3, len(names))))
-        key += [self.one(names + ["zz"])] if self.chance(0.06) else []
-        tokens = self.keywords("CREATE TABLE") + [table, "("] + self.commas([[name, kind] for name, kind in columns]) + [")"]
-        tokens += [self.keyword("ENGINE"), "=", "ReplicatedMergeTree"]
+        key += [self.one([names[0], "zz"])] if not is_right and self.chance(0.3) else []
+        tokens = self.keywords("CREATE TABLE") + [table, "("] + self.commas([list(column) for column in columns])
+        tokens += [")", self.keyword("ENGINE"), "=", "ReplicatedMergeTree"]
         tokens += self.one([[], [], [], ["(", ")"], ["(", "'/p'", ",", "'{replica}'", ")"]])
-        if self.chance(0.04):
-            rule = self.one([["a"], ["tuple", "(", ")"], ["intDiv", "(", "a", ",", "10", ")"]])
-            tokens += self.keywords("PARTITION BY") + rule
-        tokens += self.keywords("ORDER BY")
+        tokens += self.rule(columns, is_right) + self.keywords("ORDER BY")
         if not key:
             tokens += ["tuple", "(", ")"]
         else:
-            tokens += [key[0]] if len(key) == 1 and self.chance(0.6) else ["("] + self.commas([[k] for k in key]) + [")"]
-        if self.chance(0.6):
-            granularity = self.one(["1", "2", "3"] * 4 + ["8192", "0", "65536", "65537", "5000000000"])
-            tokens += [self.keyword("SETTINGS"), "index_granularity", "=", granularity]
-            tokens += [",", "replicated_deduplication_window", "=", "3"] if self.chance(0.03) else []
-        if table not in self.tables and len(self.tables) < 4:
+            is_bare = len(key) == 1 and self.chance(0.6)
+            tokens += key if is_bare else ["("] + self.commas([[name] for name in key]) + [")"]
+        if is_right and table not in self.tables and len(self.tables) < 4:
             self.tables[table] = columns
-        return tokens
+        return tokens + self.settings(is_right)
+
+    def rule(self, columns, is_right):
+        """PARTITION BY, or nothing. Partitions are few, so that INSERTs are over some of them and meet them again."""
+        names = [name for name, kind in columns if kind == "UInt64"]
+        names += [] if is_right else [name for name, _ in columns] + ["yy"]
+        if not names or self.chance(0.35):
+            return self.keywords("PARTITION BY") + ["tuple", "(", ")"] if self.chance(0.1) else []
+        column, divisor = self.one(names), self.one(DIVISORS if is_right or self.chance(0.6) else NO_DIVISORS)
+        divided = ["intDiv", "(", column, ",", divisor, ")"]
+        return self.keywords("PARTITION BY") + ([column] if self.chance(0.45) else divided)
+
+    def settings(self, is_right):
+        granularity = self.one(GRANULARITIES if is_right or self.chance(0.6) else NO_GRANULARITIES)
+        window = self.one(WINDOWS if is_right or self.chance(0.6) else NO_WINDOWS)
+        both = [["index_granularity", "=", granularity], ["replicated_deduplication_window", "=", window]]
+        chosen = self.random.sample(both, self.one([0, 1, 1, 2]))
+        chosen += [self.one(both)] if chosen and self.chance(0.02) else []
+        return [self.keyword("SETTINGS")] + self.commas(chosen) if chosen else []
 
     def insert(self):
         table = self.table()
-        tokens = self.replica() + self.keywords("INSERT INTO") + ([self.keyword("TABLE")] if self.chance(0.15) else []) + [table]
-        used = self.columns(table)
-        if self.chance(0.3):
-            used = self.random.sample(used, self.random.randint(1, len(used)))
-            used += [self.one(used)] if self.chance(0.05) else []
-            names = [name if self.chance(0.97) else "zz" for name, _ in used]
-            tokens += ["("] + self.commas([[name] for name in names]) + [")"]
+        earlier = self.inserts.setdefault(table, [])
+        is_again = earlier and self.chance(0.45)
+        last = earlier[-self.one([2, 4, 40]) :]
+        names, is_csv, rows = self.again(*self.one(last)) if is_again else self.offered(table)
+        earlier.append((names, is_csv, rows))
+        tokens = self.replica() + self.keywords("INSERT INTO") + ([self.keyword("TABLE")] if self.chance(0.15) else [])
+        tokens += [table] + (["("] + self.commas([[name] for name in names]) + [")"] if names else [])
         tokens += ["SETTINGS", "insert_quorum", "=", "2"] if self.chance(0.01) else []
-        count = self.one([0, 1, 1, 2, 3, 5, 8])
-        if self.chance(0.4):
-            return tokens + self.keywords("FORMAT CSV") + [self.data(used, count)]
+        if is_csv:
+            return tokens + self.keywords("FORMAT CSV") + [self.data(rows)]
         tokens += [self.keyword("VALUES")]
-        for place in range(max(count, 1)):
-            row = [self.literal(kind) for _, kind in used] + ([["1"]] if self.chance(0.02) else [])
+        for place, row in enumerate(rows):
             tokens += ([","] if place and self.chance(0.8) else []) + ["("] + self.commas(row) + [")"]
         return tokens
 
-    def field(self, kind):
-        if kind == "String" or self.chance(0.02):
-            return self.one(FIELDS)
-        minus = "-" if self.chance(0.3 if kind == "Int64" else 0.02) else ""
-        return minus + self.number() if self.chance(0.98) else self.one(STRAY)
+    def offered(self, table):
+        """Columns or none, whether the rows are CSV, and rows, each field a list of tokens."""
+        used, names = self.columns(table), []
+        if self.chance(0.3):
+            used = self.random.sample(used, self.random.randint(1, len(used)))
+            used += [self.one(used)] if self.is_wild and self.chance(0.1) else []
+            names = ["zz" if self.is_wild and self.chance(0.05) else name for name, _ in used]
+        count, is_csv = self.one([0, 1, 1, 2, 3, 5, 8]), self.chance(0.4)
+        field = self.field if is_csv else self.literal
+        rows = [[field(kind) for _, kind in used] for _ in range(count if is_csv else max(count, 1))]
+        return names, is_csv, [row + ([["1"]] if self.is_wild and self.chance(0.03) else []) for row in rows]
 
-    def data(self, used, count):
+    def again(self, names, is_csv, rows):
+        """An earlier INSERT once more: mostly as it was, else in another order, spelled otherwise, or with a row less
+        or more, which leaves the blocks of other partitions as they were."""
+        turn = self.random.random()
+        if turn < 0.12:
+            rows = self.random.sample(rows, len(rows))
+        elif turn < 0.24:
+            rows = [[["0" + t if t.isdigit() else t for t in field] for field in row] for row in rows]
+        elif turn < 0.44 and len(rows) > 1:
+            rows = rows[1:] if self.chance(0.5) else rows + rows[:1]
+        return names, is_csv, rows
+
+    def field(self, kind):
+        if kind == "String" or self.is_wild and self.chance(0.02):
+            return [self.one(FIELDS)]
+        return [self.one(STRAY)] if self.is_wild and self.chance(0.02) else self.number(kind)
+
+    def data(self, rows):
         ends = self.one(["\n", "\n", "\n", "\r\n", "\r"])
         lines = ""
-        for _ in range(count):
-            fields = [self.field(kind) for _, kind in used] + (["1"] if self.chance(0.02) else [])
-            lines += ",".join(fields) + ends * (2 if self.chance(0.1) else 1)
+        for row in rows:
+            lines += ",".join("".join(field) for field in row) + ends * (2 if self.chance(0.1) else 1)
         mark = "\ufeff" if self.chance(0.02) else ""
         rest = self.one(["", "", " ", "\r", "\t"])
         return Raw(rest + "\n" + mark + lines + ("\n" if ends == "\r" else "") + self.one([";\n", ";\n", ";\r\n"]))
@@ -182,16 +225,17 @@ class Scripts:
         ])  # fmt: skip
 
     def statement(self):
-        turn = self.random.random()
-        if not self.tables or turn < 0.08:
+        self.is_wild = self.chance(0.3)
+        if not self.tables or self.chance(0.08):
             return self.create()
-        if turn < 0.45:
+        if self.chance(self.share):
             return self.insert()
-        if turn < 0.8:
+        turn = self.random.random()
+        if turn < 0.63:
             return self.select()
-        if turn < 0.93:
+        if turn < 0.87:
             return self.explain()
-        return self.other() if turn < 0.97 else []
+        return self.other() if turn < 0.94 else []
 
     # ---- noise and white space
 
@@ -221,7 +265,10 @@ class Scripts:
         if self.chance(0.4):
             self.replicas = self.random.randint(1, 8)
             text += self.spelled([self.keyword("REPLICAS"), str(self.replicas), ";"])
-        for _ in range(self.random.randint(3, 14)):
+        count = self.random.randint(3, 14)
+        if self.chance(0.3):
+            count, self.share = self.random.randint(15, 40), 0.7
+        for _ in range(count):
             tokens = self.statement()
             tokens = self.with_noise(tokens) if self.chance(0.06) else tokens
             ends_itself = bool(tokens) and isinstance(tokens[-1], Raw)

@@ -1,123 +1,179 @@
--- What acts do, by what their table says.
-use Rattle.std.proofs.Common.{◌≡◌, ◌∙◌, ℕ, zero, suc, ◌<◌, ◌⊎◌, inl, inr, Bool, true, List, [], ◌∷◌, length, map, refl, ap, sym, subst, arith}
-use Rattle.std.specs.Prelude.{slice_get, slice_set, slice_index_or, replicate, take, MatchOption, ◌++◌, ◌≤◌}
+-- What acts do, by what their cluster says.
+use Rattle.std.proofs.Common.{◌≡◌, ◌∙◌, ℕ, true, inl, inr, List, map, refl, ap, sym, subst}
+use Rattle.std.proofs.lemmas.List.Elements.{All-filter, All-weaker}
+use Rattle.std.specs.Prelude.{IfOk, MatchOption}
+use Rattle.std.specs.List.{All}
+use Rattle.std.specs.declared.result.Result.{Result}
+use Rattle.std.specs.declared.result.Result.TheVariants.{Ok, Err}
 use Rattle.std.specs.declared.option.Option.{Option}
 use Rattle.std.specs.declared.option.Option.TheVariants.{Some, None}
 use Rattle.rmt_values.specs.declared.cell.Cell.{Cell}
 use Rattle.rmt_values.specs.declared.query.Query.{Query}
 use Rattle.rmt_values.specs.declared.checked_query.CheckedQuery.{CheckedQuery}
+use Rattle.rmt_values.specs.Rows.{Shape, fits}
+use Rattle.rmt_block.specs.Blocks.{BlockView}
+use Rattle.rmt_block.specs.Splits.{is_in, IsBlockOf, IsSplit}
 use Rattle.rmt_expr.specs.Queries.{IsCheckedQuery, query_refusal}
 use Rattle.rmt_names.specs.Names.{Name}
-use Rattle.rmt_model.specs.Content.{Row, rows}
-use Rattle.rmt_model.specs.Fair.{AreFair, AllMarked}
-use Rattle.rmt_queue.specs.Marks.{done_at}
+use Rattle.rmt_model.specs.Content.{Row}
+use Rattle.rmt_model.specs.Fair.{AreFair}
 use Rattle.rmt_granules.specs.Granules.{PartView}
-use Rattle.rmt_partset.specs.Snapshots.{NamedData, names_in, data_in, all_rows}
+use Rattle.rmt_partset.specs.Snapshots.{names_in, data_in, all_rows}
 use Rattle.rmt_query.specs.Answers.{answer_of}
 use Rattle.rmt_query.specs.Explained.{AreExplained}
-use Rattle.rmt_query.proofs.BagLaws.{one-answer}
-use Rattle.rmt_replicas.specs.Tables.{TableState, data_at, rows_by_number, known_at, synced}
-use Rattle.rmt_statements.specs.declared.act.Act.{Act}
+use Rattle.rmt_events.specs.Clusters.{Cluster, without_kinds}
+use Rattle.rmt_statement_model.specs.TableStates.{TableState, data_at, plain_rows, synced}
+use Rattle.rmt_statement_model.specs.Inserts.{InsertsAll}
+use Rattle.rmt_statement_model.specs.Reads.{KnowsAll}
+use Rattle.rmt_statement_model.specs.Shows.{Shows, Leads}
+use Rattle.rmt_statement_model.proofs.ReadLaws.{synced-knows}
 use Rattle.rmt_statements.specs.declared.act.Act.TheVariants as acts
-use Rattle.rmt_statements.specs.declared.mode.Mode.TheVariants as modes
+use Rattle.rmt_statements.specs.declared.insert.Insert.{Insert}
+use Rattle.rmt_sql_rows.specs.InsertedRows.{names_refusal}
 use Rattle.rmt_reply.specs.declared.line.Line.{Line}
 use Rattle.rmt_reply.specs.declared.line.Line.TheVariants as lines
+use Rattle.rmt_reply.specs.declared.piece.Piece.{Piece}
 use Rattle.rmt_reply.specs.declared.refusal.Refusal.{Refusal}
-use Rattle.rmt_play.specs.Checks.{act_refusal, refused_query}
-use Rattle.rmt_play.specs.Acts.{InsertsRows, Acts, Syncs, Reads, Explains}
+use Rattle.rmt_play.specs.Checks.{refused_names, refused_query}
+use Rattle.rmt_play.specs.InsertStatement.{InsertsRows}
+use Rattle.rmt_play.specs.SelectStatement.{Syncs, Reads}
+use Rattle.rmt_play.specs.ExplainStatement.{Explains}
+use Rattle.rmt_play.specs.Acts.{Acts}
 use Rattle.rmt_play.specs.QueryAnswers.{IsSelection, IsExplained}
-use Rattle.rmt_play.specs.PlayerSteps.{ExecutesAct, ExecutesQuery, Declines}
+use Rattle.rmt_play.specs.PlayerSteps.{HasRows, RefusesRows, Declines, ExecutesIn, ExecutesQuery}
 
--- ---- marks
+-- ---- queries
 
-known-set : (xs : List (List Bool)) (r : ℕ) (v : List Bool) → r < length xs → slice_index_or (slice_set xs r v) r [] ≡ v
-known-set [] r v l = absurd (omega (arith, l))
-known-set (x ∷ xs) zero v l = refl
-known-set (x ∷ xs) (suc r) v l = known-set xs r v (omega (arith, l))
-
-pub length-known : (xs : List (List Bool)) (r : ℕ) (v : List Bool) → length (slice_set xs r v) ≡ length xs
-length-known [] r v = refl
-length-known (x ∷ xs) zero v = refl
-length-known (x ∷ xs) (suc r) v = ap suc (length-known xs r v)
-
-all-done : (n i : ℕ) → i < n → done_at (replicate n true) i ≡ true
-all-done zero i l = absurd (omega (arith, l))
-all-done (suc n) zero l = refl
-all-done (suc n) (suc i) l = all-done n i (omega (arith, l))
-
--- ---- what is read
-
--- what SELECT .. SYNC answers
-pub syncs : (t : TableState) (r : ℕ) (query : Query) (checked : CheckedQuery) (names : List Name) (cells : List (List Cell)) → r < length t.known → IsCheckedQuery t.schema query checked
-    → IsSelection (synced t r) r checked names cells → Syncs t r query (lines.Rows cells) (synced t r)
-syncs t r query checked names cells l is a =
-    let known = known-set t.known r (replicate (length t.log) true) l in
-    let marked : AllMarked t.log (done_at (known_at (synced t r) r)) = λ i k. ap (λ (m : List Bool). done_at m i) known ∙ all-done (length t.log) i k in
-    let same = one-answer t.schema checked (all_rows (data_in a.parts)) (rows t.log (rows_by_number t.blocks)) (a.reading.whole marked) in
-    record { checked = checked; is = is; reply = ap (λ (x : List (List Cell)). lines.Rows x) (a.answered ∙ same); change = refl }
-
--- what a plain SELECT answers
-pub reads : (t : TableState) (r : ℕ) (query : Query) (checked : CheckedQuery) (names : List Name) (cells : List (List Cell)) → IsCheckedQuery t.schema query checked
-    → IsSelection t r checked names cells → Reads t r query (lines.Read names cells) t
-reads t r query checked names cells is a =
-    let held = a.reading.holds ∙ ap (map (data_at t)) (sym a.named) in
-    record {
-      checked = checked;
-      is = is;
-      names = names;
-      fair = subst (AreFair t.log (done_at (known_at t r))) (sym a.named) a.reading.fair;
-      reply = ap (λ (x : List (List Cell)). lines.Read names x) (a.answered ∙ ap (λ (x : List PartView). answer_of t.schema checked (all_rows x)) held);
-      unchanged = refl;
-    }
-
--- what EXPLAIN answers
-pub explains : (t : TableState) (r : ℕ) (query : Query) (checked : CheckedQuery) (all : List (Name × ℕ × ℕ)) → IsCheckedQuery t.schema query checked
-    → IsExplained t r checked all → Explains t r query (lines.Granules all) t
-explains t r query checked all is a = record {
-  checked = checked;
-  is = is;
-  names = names_in a.parts;
-  fair = a.reading.fair;
-  counts = all;
-  counted = subst (λ (x : List PartView). AreExplained checked.filter (names_in a.parts) x all) a.reading.holds a.counted;
-  reply = refl;
-  unchanged = refl;
+-- a query that isn't refused
+answered : (s u : Cluster) (t v : TableState) (query : Query) (Answers : TableState → Line → TableState → Type 0) (line : Line) → query_refusal s.table.schema query ≡ None → Shows s t → Shows u v → Answers t line v
+    → Leads u (λ v. MatchOption (refused_query (query_refusal t.schema query)) (Answers t line v) (Declines t line v))
+answered s u t v query Answers line q h k a = record {
+  state = v;
+  holds = subst (λ (o : Option Refusal). MatchOption o (Answers t line v) (Declines t line v))
+      (sym (ap (λ (c : Shape). refused_query (query_refusal c query)) h.schema ∙ ap refused_query q)) a;
+  shows = k;
 }
 
--- ---- a table stays at its replicas
+checked-in : (s : Cluster) (t : TableState) (query : Query) (checked : CheckedQuery) → Shows s t → IsCheckedQuery s.table.schema query checked → IsCheckedQuery t.schema query checked
+checked-in s t query checked h is = subst (λ (c : Shape). IsCheckedQuery c query checked) (sym h.schema) is
 
-inserted-known : (t u : TableState) (r : ℕ) (all : List Row) (line : Line) → InsertsRows t r all line u → length u.known ≡ length t.known
-inserted-known t u r [] line i = ap (λ (x : TableState). length x.known) i.1
-inserted-known t u r (row ∷ all) line i = ap (λ (x : TableState). length x.known) i.accepts.change ∙ length-known t.known r _
+-- ---- what a call found
 
-acted-known : (t u : TableState) (r : ℕ) (act : Act) (line : Line) → Acts t r act line u → length u.known ≡ length t.known
-acted-known t u r (acts.Insert insert) line (inl k) = inserted-known t u r k.rows line k.inserts
-acted-known t u r (acts.Insert insert) line (inr k) = ap (λ (x : TableState). length x.known) k.unchanged
-acted-known t u r (acts.Select table query modes.Sync) line k = ap (λ (x : TableState). length x.known) k.change ∙ length-known t.known r (replicate (length t.log) true)
-acted-known t u r (acts.Select table query modes.Plain) line k = ap (λ (x : TableState). length x.known) k.unchanged
-acted-known t u r (acts.Select table query (modes.Sequential n)) line k = absurd k
-acted-known t u r (acts.Explain table query) line k = ap (λ (x : TableState). length x.known) k.unchanged
-acted-known t u r (acts.Mutate table command) line k = absurd k
-acted-known t u r (acts.DropPartition table partition) line k = absurd k
-acted-known t u r (acts.Optimize table partition) line k = absurd k
-acted-known t u r (acts.ShowParts table) line k = absurd k
-acted-known t u r (acts.CheckTable table) line k = absurd k
-acted-known t u r (acts.WaitMutation table id) line k = absurd k
-acted-known t u r (acts.SyncReplica table) line k = absurd k
-acted-known t u r (acts.RestartReplica table) line k = absurd k
-acted-known t u r (acts.StopFetches table) line k = absurd k
-acted-known t u r (acts.StartFetches table) line k = absurd k
+-- the query was checked over the table's schema
+pub found-checked : {E : Type 0} (found : Result CheckedQuery E) (checked : CheckedQuery) (c schema : Shape) (query : Query) → c ≡ schema → found ≡ Ok checked → IfOk found (IsCheckedQuery c query) → IsCheckedQuery schema query checked
+found-checked {E} found checked c schema query e f k =
+    subst (λ (x : Shape). IsCheckedQuery x query checked) e (subst (λ (r : Result CheckedQuery E). IfOk r (IsCheckedQuery c query)) f k)
 
-pub turned-known : (t u : TableState) (r : ℕ) (act : Act) (line : Line) → ExecutesAct t r act line u → length u.known ≡ length t.known
-turned-known t u r act line k = go (act_refusal t.schema act) k
+-- it isn't refused
+pub found-known : {E : Type 0} (found : Result CheckedQuery E) (checked : CheckedQuery) (c schema : Shape) (query : Query) → c ≡ schema → found ≡ Ok checked → IfOk found (λ _. query_refusal c query ≡ None) → query_refusal schema query ≡ None
+found-known {E} found checked c schema query e f k =
+    subst (λ (x : Shape). query_refusal x query ≡ None) e (subst (λ (r : Result CheckedQuery E). IfOk r (λ _. query_refusal c query ≡ None)) f k)
+
+-- the rows were read over the table's schema
+pub found-rows : {A E : Type 0} (found : Result A E) (items : A → List Row) (rows : A) (c schema : Shape) (insert : Insert) → c ≡ schema → found ≡ Ok rows → IfOk found (λ a. HasRows c insert (items a)) → HasRows schema insert (items rows)
+found-rows {A} {E} found items rows c schema insert e f k =
+    subst (λ (x : Shape). HasRows x insert (items rows)) e (subst (λ (r : Result A E). IfOk r (λ a. HasRows c insert (items a))) f k)
+
+-- SELECT .. SYNC
+pub syncs-in : (s u : Cluster) (r : ℕ) (query : Query) (checked : CheckedQuery) (cells : List (List Cell)) → query_refusal s.table.schema query ≡ None → IsCheckedQuery s.table.schema query checked
+    → ((t : TableState) → Shows s t → Shows u (synced r t))
+    → ((t : TableState) → Shows u t → KnowsAll t r → cells ≡ answer_of t.schema checked (plain_rows t))
+    → ExecutesQuery s query (λ t. Syncs t r query) (lines.Rows cells) u
+syncs-in s u r query checked cells q is f a = λ t h.
+    answered s u t (synced r t) query (λ t. Syncs t r query) (lines.Rows cells) q h (f t h) (record {
+      checked = checked;
+      is = checked-in s t query checked h is;
+      reply = ap (λ (x : List (List Cell)). lines.Rows x) (a (synced r t) (f t h) (synced-knows t r));
+      change = refl;
+    })
+
+-- a plain SELECT
+pub reads-in : (s : Cluster) (r : ℕ) (query : Query) (checked : CheckedQuery) (names : List Name) (cells : List (List Cell)) → query_refusal s.table.schema query ≡ None → IsCheckedQuery s.table.schema query checked
+    → IsSelection s r checked names cells → ExecutesQuery s query (λ t. Reads t r query) (lines.Read names cells) s
+reads-in s r query checked names cells q is a = λ t h.
+    let reading = a.reading t h in
+    let held = reading.holds ∙ ap (map (data_at t)) (sym a.named) in
+    answered s s t t query (λ t. Reads t r query) (lines.Read names cells) q h h (record {
+      checked = checked;
+      is = checked-in s t query checked h is;
+      names = names;
+      fair = subst (AreFair t.log (t.known r)) (sym a.named) reading.fair;
+      reply = ap (λ (x : List (List Cell)). lines.Read names x) (a.answered
+          ∙ (ap (λ (c : Shape). answer_of c checked (all_rows (data_in a.parts))) (sym h.schema) ∙ ap (λ (x : List PartView). answer_of t.schema checked (all_rows x)) held));
+      unchanged = refl;
+    })
+
+-- EXPLAIN
+pub explains-in : (s : Cluster) (r : ℕ) (query : Query) (checked : CheckedQuery) (all : List (Name × ℕ × ℕ)) → query_refusal s.table.schema query ≡ None → IsCheckedQuery s.table.schema query checked
+    → IsExplained s r checked all → ExecutesQuery s query (λ t. Explains t r query) (lines.Granules all) s
+explains-in s r query checked all q is a = λ t h.
+    let reading = a.reading t h in
+    answered s s t t query (λ t. Explains t r query) (lines.Granules all) q h h (record {
+      checked = checked;
+      is = checked-in s t query checked h is;
+      names = names_in a.parts;
+      fair = reading.fair;
+      counts = all;
+      counted = subst (λ (x : List PartView). AreExplained checked.filter (names_in a.parts) x all) reading.holds a.counted;
+      reply = refl;
+      unchanged = refl;
+    })
+
+-- a query that is refused
+pub query-refused : (s : Cluster) (query : Query) (Answers : TableState → Line → TableState → Type 0) (line : Line) (why : Refusal) → refused_query (query_refusal s.table.schema query) ≡ Some why → line ≡ lines.Refused why
+    → ExecutesQuery s query Answers line s
+query-refused s query Answers line why q e = λ t h. record {
+  state = t;
+  holds = subst (λ (o : Option Refusal). MatchOption o (Answers t line t) (Declines t line t))
+      (sym (ap (λ (c : Shape). refused_query (query_refusal c query)) h.schema ∙ q)) (e, refl);
+  shows = h;
+}
+
+-- ---- INSERT
+
+-- rows that are inserted
+pub inserts-in : (s u : Cluster) (r : ℕ) (insert : Insert) (rows : List Row) (line : Line) → HasRows s.table.schema insert rows → ((t : TableState) → Shows s t → Leads u (InsertsRows t r rows line))
+    → ExecutesIn s r (acts.Insert insert) line u
+inserts-in s u r insert rows line k f = λ t h.
+    let led = f t h in
+    let here = subst (λ (c : Shape). HasRows c insert rows) (sym h.schema) k in
+    record {
+      state = led.state;
+      holds = subst (λ (o : Option Refusal). MatchOption o (Acts t r (acts.Insert insert) line led.state) (Declines t line led.state))
+          (sym (ap refused_names here.known)) (inl (record { rows = rows; read = here.read; inserts = led.holds }));
+      shows = led.shows;
+    }
+
+-- the same of a call
+pub inserts-all-in : {E : Type 0} (result : Result Line E) (s u : Cluster) (r : ℕ) (insert : Insert) (rows : List Row) → HasRows s.table.schema insert rows
+    → IfOk result (λ line. (t : TableState) → Shows s t → Leads u (InsertsRows t r rows line)) → IfOk result (λ line. ExecutesIn s r (acts.Insert insert) line u)
+inserts-all-in (Ok line) s u r insert rows k f = inserts-in s u r insert rows line k f
+inserts-all-in (Err e) s u r insert rows k f = tt
+
+-- the rows of each block fit
+pub split-fits : (shape : Shape) (rows : List Row) (blocks : List BlockView) → IsSplit shape rows blocks → All (λ row. fits shape.columns row ≡ true) rows → All (λ b. All (λ row. fits shape.columns row ≡ true) b.rows) blocks
+split-fits shape rows blocks s f = All-weaker _ _ (λ b k. of b k) blocks s.each
   where
-    go : (o : Option Refusal) → MatchOption o (Acts t r act line u) (Declines t line u) → length u.known ≡ length t.known
-    go None a = acted-known t u r act line a
-    go (Some refusal) a = ap (λ (x : TableState). length x.known) a.1
+    of : (b : BlockView) → IsBlockOf shape rows b → All (λ row. fits shape.columns row ≡ true) b.rows
+    of b k = subst (λ (x : BlockView). All (λ row. fits shape.columns row ≡ true) x.rows) (sym k.whole) (All-filter (is_in shape.partition b.partition) (λ row. fits shape.columns row ≡ true) rows f)
 
--- a SELECT .. SYNC that isn't refused
-pub turns-sync : (t u : TableState) (r : ℕ) (query : Query) (checked : CheckedQuery) (names : List Name) (cells : List (List Cell)) → query_refusal t.schema query ≡ None → r < length t.known
-    → IsCheckedQuery t.schema query checked → u ≡ synced t r → IsSelection u r checked names cells → ExecutesQuery t query (Syncs t r query) (lines.Rows cells) u
-turns-sync t u r query checked names cells known l is e a =
-    subst (λ (o : Option Refusal). MatchOption o (Syncs t r query (lines.Rows cells) u) (Declines t (lines.Rows cells) u)) (sym (ap refused_query known))
-    (subst (Syncs t r query (lines.Rows cells)) (sym e) (syncs t r query checked names cells l is (subst (λ (x : TableState). IsSelection x r checked names cells) e a)))
+-- blocks of rows that are inserted
+pub inserts-split : (s u : Cluster) (r : ℕ) (rows : List Row) (blocks : List BlockView) (all : List Piece) (refused : Option Refusal) → IsSplit s.table.schema rows blocks
+    → ((t : TableState) → Shows s t → Leads u (InsertsAll t r (map without_kinds blocks) all refused)) → (t : TableState) → Shows s t → Leads u (InsertsRows t r rows (lines.Inserted all refused))
+inserts-split s u r rows blocks all refused p f t h =
+    let led = f t h in
+    record {
+      state = led.state;
+      holds = record { blocks = blocks; split = subst (λ (c : Shape). IsSplit c rows blocks) (sym h.schema) p; all = all; refused = refused; inserts = led.holds; reply = refl };
+      shows = led.shows;
+    }
+
+-- rows that are refused
+pub rows-refused : (s : Cluster) (r : ℕ) (insert : Insert) (line : Line) (why : Refusal) → RefusesRows s.table.schema insert why → line ≡ lines.Refused why → ExecutesIn s r (acts.Insert insert) line s
+rows-refused s r insert line why k e = λ t h. record { state = t; holds = go t (subst (λ (c : Shape). RefusesRows c insert why) (sym h.schema) k); shows = h }
+  where
+    go : (t : TableState) → RefusesRows t.schema insert why → MatchOption (refused_names (names_refusal t.schema.columns insert.columns)) (Acts t r (acts.Insert insert) line t) (Declines t line t)
+    go t (inl q) = subst (λ (o : Option Refusal). MatchOption o (Acts t r (acts.Insert insert) line t) (Declines t line t)) (sym q) (e, refl)
+    go t (inr b) =
+        subst (λ (o : Option Refusal). MatchOption o (Acts t r (acts.Insert insert) line t) (Declines t line t)) (sym (ap refused_names b.known))
+        (inr (record { row = b.row; refused = b.refused; reply = e ∙ ap (λ (w : Refusal). lines.Refused w) b.is; unchanged = refl }))

@@ -1,6 +1,7 @@
-pub mod ScriptLemmas
 pub mod TableLemmas
-pub mod ActLemmas
-pub mod SendLemmas
-pub mod SchemaLemmas
 pub mod WordLemmas
+pub mod SchemaLemmas
+pub mod SendLemmas
+pub mod CreateLemmas
+pub mod ActLemmas
+pub mod ScriptLemmas

@@ -1,5 +1,5 @@
 -- What the playing of a script keeps from statement to statement.
-use Rattle.std.proofs.Common.{◌≡◌, ◌∙◌, ℕ, ◌+◌, List, [], ◌∷◌, ◌++◌, refl, ap, Bool, cond, Option, Some, None, arith, append_assoc}
+use Rattle.std.proofs.Common.{◌≡◌, ◌∙◌, ℕ, ◌+◌, List, [], ◌∷◌, ◌++◌, map, refl, ap, sym, subst, Bool, cond, Option, Some, None, arith, append_assoc}
 use Rattle.std.specs.Prelude.{count_by, if◌then◌else◌}
 use Rattle.std.specs.Io.KnownBytes.{Appends, Keeps}
 use Rattle.std.proofs.KnownBytes.{Appends-nil, Appends-trans, Appends-kept}
@@ -12,52 +12,88 @@ use Rattle.rmt_play.specs.World.{World, start}
 use Rattle.rmt_play.specs.Plays.{Played, is_refused}
 use Rattle.rmt_play.specs.Runs.{output, GivesScript, PlayedWhole, PlayedInPart, CutShort}
 use Rattle.rmt_play.specs.declared.outcome.Outcome.{Outcome}
-use Rattle.rmt_play.specs.ScriptEnds.{is_refusal, AdvancesScript, CutsReply}
+use Rattle.rmt_play.specs.declared.script_end.ScriptEnd.{ScriptEnd}
+use Rattle.rmt_play.specs.declared.script_end.ScriptEnd.TheVariants as ends
+use Rattle.rmt_events.specs.Clusters.{Cluster}
+use Rattle.rmt_play.specs.Shown.{AreShown}
+use Rattle.rmt_play.specs.PlayerSteps.{PlayerView, IsIn, IsEmptyPlayer}
+use Rattle.rmt_play.specs.ScriptEnds.{is_refusal, AdvancesScript, CutsReply, IsScriptEnd, IsEndOf}
+use Rattle.rmt_play.proofs.TableLemmas.{shown-clusters}
 
 -- the statements up to a place were played, their replies written and the refused ones counted
-pub record SoFar (script : List ℕ) (at : ℕ) (world : World) (before now : Option (List ℕ)) (refused : ℕ) : Type 0 where
+pub record SoFar (script : List ℕ) (at : ℕ) (player : PlayerView) (before now : Option (List ℕ)) (refused : ℕ) : Type 0 where
   pub lines : List Line
+  pub world : World
   pub played : Played script lines at world
+  pub is_in : IsIn player world
   pub written : Appends before now (output lines)
   pub counted : refused ≡ count_by is_refused lines
 
-pub so_far_start : (script : List ℕ) (before : Option (List ℕ)) → SoFar script 0 start before before 0
-so_far_start script before = record { lines = []; played = (refl, refl); written = Appends-nil before; counted = refl }
+pub so_far_start : (script : List ℕ) (player : PlayerView) (before : Option (List ℕ)) → IsEmptyPlayer player → SoFar script 0 player before before 0
+so_far_start script player before e = record {
+  lines = [];
+  world = start;
+  played = (refl, refl);
+  is_in = subst (λ (p : PlayerView). IsIn p start) (sym e) (record { replicas = refl; tables = tt });
+  written = Appends-nil before;
+  counted = refl;
+}
 
 one_count : (line : Line) (lines : List Line) → count_by is_refused (line ∷ lines) ≡ cond (is_refused line) 1 0 + count_by is_refused lines
 one_count line lines = let e = sum_by-append (λ l. cond (is_refused l) 1 0) (line ∷ []) lines in omega (arith, e)
 
-pub so_far_on : (script : List ℕ) (at : ℕ) (old new : World) (before now after : Option (List ℕ)) (refused end count : ℕ) (outcome : Outcome) → SoFar script at old before now refused → AdvancesScript script at old new now after end outcome
+pub so_far_on : (script : List ℕ) (at : ℕ) (old new : PlayerView) (before now after : Option (List ℕ)) (refused end count : ℕ) (outcome : Outcome) → SoFar script at old before now refused → AdvancesScript script at old new now after end outcome
     → count ≡ refused + (if is_refusal outcome then 1 else 0) → SoFar script end new before after count
 so_far_on script at old new before now after refused end count outcome so on c =
     let counted = so.counted in
     let flag : ◌≡◌ {A = ℕ} (cond (is_refusal outcome) 1 0) (cond (is_refused on.line) 1 0) = ap (λ (b : Bool). cond {A = ℕ} b 1 0) on.counted in
     let all = one_count on.line so.lines in
+    let next = on.step so.world so.is_in in
     record {
       lines = on.line ∷ so.lines;
-      played = (at, old, so.played, on.step);
+      world = next.world;
+      played = (at, so.world, so.played, next.holds);
+      is_in = next.is_in;
       written = Appends-trans before now after (output so.lines) (printed on.line) so.written on.written;
       counted = omega (arith, counted, flag, all, c);
     }
 
-pub so_far_whole : (script : List ℕ) (at : ℕ) (world : World) (before now after : Option (List ℕ)) (refused : ℕ) → SoFar script at world before now refused → ReadsAt script at parsed.End → Keeps now after → PlayedWhole script before after refused
-so_far_whole script at world before now after refused so ended keeps =
-    record { lines = so.lines; at = at; world = world; played = so.played; ended = ended; written = Appends-kept before now after (output so.lines) so.written keeps; counted = so.counted }
+pub so_far_whole : (script : List ℕ) (at : ℕ) (player : PlayerView) (before now after : Option (List ℕ)) (refused : ℕ) (clusters : List Cluster) → SoFar script at player before now refused → ReadsAt script at parsed.End → Keeps now after
+    → clusters ≡ map (λ t. t.cluster) player.tables → PlayedWhole script before after refused clusters
+so_far_whole script at player before now after refused clusters so ended keeps e = record {
+  lines = so.lines;
+  at = at;
+  world = so.world;
+  played = so.played;
+  ended = ended;
+  written = Appends-kept before now after (output so.lines) so.written keeps;
+  counted = so.counted;
+  shown = subst (λ (cs : List Cluster). AreShown cs so.world.tables) (sym e) (shown-clusters player.tables so.world.tables so.is_in.tables);
+}
 
-pub so_far_in_part : (script : List ℕ) (at : ℕ) (world : World) (before now after : Option (List ℕ)) (refused : ℕ) → SoFar script at world before now refused → Keeps now after → PlayedInPart before after script
-so_far_in_part script at world before now after refused so keeps =
-    record { lines = so.lines; at = at; world = world; played = so.played; written = Appends-kept before now after (output so.lines) so.written keeps }
+pub so_far_in_part : (script : List ℕ) (at : ℕ) (player : PlayerView) (before now after : Option (List ℕ)) (refused : ℕ) → SoFar script at player before now refused → Keeps now after → PlayedInPart before after script
+so_far_in_part script at player before now after refused so keeps =
+    record { lines = so.lines; at = at; world = so.world; played = so.played; written = Appends-kept before now after (output so.lines) so.written keeps }
 
-pub so_far_short : (script : List ℕ) (at : ℕ) (world : World) (before now after : Option (List ℕ)) (refused : ℕ) → SoFar script at world before now refused → CutsReply script at world now after → CutShort before after script
-so_far_short script at world before now after refused so short =
+pub so_far_short : (script : List ℕ) (at : ℕ) (player : PlayerView) (before now after : Option (List ℕ)) (refused : ℕ) → SoFar script at player before now refused → CutsReply script at player now after → CutShort before after script
+so_far_short script at player before now after refused so short =
     let (prefix, rest, parts, written) = short.written in
+    let next = short.step so.world so.is_in in
     record {
       lines = short.line ∷ so.lines;
       at = short.end;
-      world = short.new;
-      played = (at, world, so.played, short.step);
+      world = next.world;
+      played = (at, so.world, so.played, next.holds);
       written = (output so.lines ++ prefix, rest, append_assoc (output so.lines) prefix rest ∙ ap (λ l. output so.lines ++ l) parts, Appends-trans before now after (output so.lines) prefix so.written written);
     }
+
+-- how a script ends that was played to its end
+pub ends-whole : (script : List ℕ) (at : ℕ) (player : PlayerView) (before now after : Option (List ℕ)) (refused : ℕ) (end : ScriptEnd) → SoFar script at player before now refused → ReadsAt script at parsed.End → Keeps now after
+    → IsEndOf player refused end → IsScriptEnd script before after end
+ends-whole script at player before now after refused (ends.Whole count clusters) so ended keeps e =
+    subst (λ n. PlayedWhole script before after n clusters) (sym e.0) (so_far_whole script at player before now after refused clusters so ended keeps e.1)
+ends-whole script at player before now after refused ends.WriteFault so ended keeps e = absurd e
+ends-whole script at player before now after refused ends.Memory so ended keeps e = so_far_in_part script at player before now after refused so keeps
 
 gives_some : (left : Option (List ℕ)) (P : List ℕ → Type 0) → ((script : List ℕ) → P script) → GivesScript left P
 gives_some None P holds = record { script = []; given = tt; holds = holds [] }

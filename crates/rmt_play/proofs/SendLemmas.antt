@@ -1,10 +1,11 @@
 -- What becomes of a world as an act is done in one of its tables.
-use Rattle.std.proofs.Common.{◌≡◌, ◌∙◌, ℕ, suc, List, [], ◌∷◌, refl, ap, sym, subst}
-use Rattle.std.specs.Prelude.{slice_set, MatchOption}
+use Rattle.std.proofs.Common.{◌≡◌, ◌∙◌, ℕ, List, [], ◌∷◌, refl, ap, sym, subst}
+use Rattle.std.specs.Prelude.{MatchOption}
 use Rattle.std.specs.declared.option.Option.{Option}
 use Rattle.std.specs.declared.option.Option.TheVariants.{Some, None}
 use Rattle.rmt_statements.specs.declared.sent.Sent.{Sent}
-use Rattle.rmt_replicas.specs.Tables.{TableState}
+use Rattle.rmt_statement_model.specs.TableStates.{TableState}
+use Rattle.rmt_statement_model.specs.Shows.{Shows, Leads}
 use Rattle.rmt_reply.specs.declared.line.Line.{Line}
 use Rattle.rmt_reply.specs.declared.line.Line.TheVariants as lines
 use Rattle.rmt_reply.specs.declared.refusal.Refusal.{Refusal}
@@ -12,57 +13,79 @@ use Rattle.rmt_reply.specs.declared.refusal.Refusal.TheVariants.{UnknownTable}
 use Rattle.rmt_play.specs.World.{Table, World}
 use Rattle.rmt_play.specs.Checks.{first_of, table_of, table_named, replica_at, unknown_replica, refused_without, refused_name, refused_act, act_refusal, sent_refusals}
 use Rattle.rmt_play.specs.Acts.{Acts}
-use Rattle.rmt_play.specs.Plays.{PerformsSent, Refuses}
-use Rattle.rmt_play.specs.PlayerSteps.{IsPlaceOf, ActsAt, Declines, ExecutesSent}
-use Rattle.rmt_play.proofs.TableLemmas.{set-same}
+use Rattle.rmt_play.specs.Plays.{PerformsSent, Refuses, with_table}
+use Rattle.rmt_play.specs.PlayerSteps.{PlayerView, IsIn, ComesTo, Moves, IsPlaceOf, HasNone, ActsAt, Declines, ExecutesAct, ExecutesSent}
+use Rattle.rmt_play.proofs.TableLemmas.{FoundIn, found-in, none-in, with-same}
 
 alone : (o : Option Refusal) → first_of (o ∷ []) ≡ o
 alone None = refl
 alone (Some refusal) = refl
 
-pub sends : (old new : World) (sent : Sent) (place replica : ℕ) (line : Line) → IsPlaceOf old.tables (table_named sent.act) place → replica_at old sent.replica ≡ Some (suc replica)
-    → ActsAt old place replica sent.act line new → ExecutesSent old sent line new
-sends old new sent place replica line p at a = subst (λ (o : Option Refusal). MatchOption o (PerformsSent old sent line new) (λ refusal. Refuses old refusal line new)) (sym refusals) (go (act_refusal a.table.state.schema sent.act) a.executes)
+-- the refusals of what is sent to a table that is there
+refusals-found : (w : World) (sent : Sent) (t : Table) → table_of w.tables (table_named sent.act) ≡ Some t → first_of (sent_refusals w sent) ≡ first_of (unknown_replica w.replicas sent.replica ∷ act_refusal t.state.schema sent.act ∷ [])
+refusals-found w sent t e = ap (λ (o : Option Table). first_of (refused_without o (table_named sent.act) ∷ unknown_replica w.replicas sent.replica ∷ refused_act o sent.act ∷ [])) e
+
+refusals-there : (w : World) (sent : Sent) (t : Table) (r : ℕ) → table_of w.tables (table_named sent.act) ≡ Some t → replica_at w.replicas sent.replica ≡ Some r → first_of (sent_refusals w sent) ≡ act_refusal t.state.schema sent.act
+refusals-there w sent t r e at =
+    refusals-found w sent t e
+    ∙ (ap (λ (o : Option ℕ). first_of (refused_name o sent.replica ∷ act_refusal t.state.schema sent.act ∷ [])) at ∙ alone (act_refusal t.state.schema sent.act))
+
+-- the table at the place of a name
+pub found-at : (p : PlayerView) (w : World) (name : List ℕ) (place : ℕ) → IsIn p w → (f : IsPlaceOf p.tables name place) → FoundIn p.tables w.tables name place f.table
+found-at p w name place i f = found-in p.tables w.tables name place f.table f.there f.named f.first i.tables
+
+-- an act that is done in its table
+pub sends : (old new : PlayerView) (sent : Sent) (place replica : ℕ) (line : Line) → IsPlaceOf old.tables (table_named sent.act) place → replica_at old.replicas sent.replica ≡ Some replica
+    → ActsAt old place replica sent.act line new → Moves old (ExecutesSent sent line) new
+sends old new sent place replica line p at a w i =
+    subst (λ (o : Option Refusal). ComesTo new (λ v. MatchOption o (PerformsSent w sent line v) (λ refusal. Refuses w refusal line v))) (sym refused)
+    (go (act_refusal f.table.state.schema sent.act) led.state led.shows led.holds)
   where
     same : p.table ≡ a.table
     same = let e = sym p.there ∙ a.there in cc
 
-    found : table_of old.tables (table_named sent.act) ≡ Some a.table
-    found = p.found ∙ ap (λ (t : Table). Some t) same
+    f : FoundIn old.tables w.tables (table_named sent.act) place a.table
+    f = subst (FoundIn old.tables w.tables (table_named sent.act) place) same (found-at old w (table_named sent.act) place i p)
 
-    refusals : first_of (sent_refusals old sent) ≡ act_refusal a.table.state.schema sent.act
-    refusals =
-        ap (λ (o : Option Table). first_of (refused_without o (table_named sent.act) ∷ unknown_replica old sent.replica ∷ refused_act o sent.act ∷ [])) found
-        ∙ (ap (λ (o : Option ℕ). first_of (refused_name o sent.replica ∷ act_refusal a.table.state.schema sent.act ∷ [])) at ∙ alone (act_refusal a.table.state.schema sent.act))
+    here : replica_at w.replicas sent.replica ≡ Some replica
+    here = ap (λ n. replica_at n sent.replica) i.replicas ∙ at
 
-    go : (o : Option Refusal) → MatchOption o (Acts a.table.state replica sent.act line a.after) (Declines a.table.state line a.after) → MatchOption o (PerformsSent old sent line new) (λ refusal. Refuses old refusal line new)
-    go None k = record {
-      replica = replica;
-      at = at;
-      acts = record {
-        table = a.table;
-        found = found;
-        after = a.after;
-        changes = k;
-        rest = a.rest ∙ ap (λ (ts : List Table). record old { tables = ts }) (sym (p.set (record a.table { state = a.after })));
-      };
+    refused : first_of (sent_refusals w sent) ≡ act_refusal f.table.state.schema sent.act
+    refused = refusals-there w sent f.table replica f.found here
+
+    led : Leads a.after (ExecutesAct f.table.state replica sent.act line)
+    led = a.executes f.table.state f.shows
+
+    is_in : (v : TableState) → Shows a.after v → IsIn new (record w { tables = with_table w.tables (table_named sent.act) (record f.table { state = v }) })
+    is_in v h = subst (λ (q : PlayerView). IsIn q (record w { tables = with_table w.tables (table_named sent.act) (record f.table { state = v }) })) (sym a.rest)
+        (record { replicas = i.replicas; tables = f.set a.after v h })
+
+    go : (o : Option Refusal) (v : TableState) → Shows a.after v → MatchOption o (Acts f.table.state replica sent.act line v) (Declines f.table.state line v) → ComesTo new (λ u. MatchOption o (PerformsSent w sent line u) (λ refusal. Refuses w refusal line u))
+    go None v h k = record {
+      world = record w { tables = with_table w.tables (table_named sent.act) (record f.table { state = v }) };
+      holds = record { replica = replica; at = here; acts = record { table = f.table; found = f.found; after = v; changes = k; rest = refl } };
+      is_in = is_in v h;
     }
-    go (Some refusal) k = record {
-      reply = k.0;
-      unchanged = a.rest ∙ ap (λ (ts : List Table). record old { tables = ts }) (ap (λ (s : TableState). slice_set old.tables place (record a.table { state = s })) k.1 ∙ set-same old.tables place a.table a.there);
-    }
+    go (Some refusal) v h k =
+        let stays = ap (λ (s : TableState). with_table w.tables (table_named sent.act) (record f.table { state = s })) k.1 ∙ with-same w.tables (table_named sent.act) f.table f.found in
+        record {
+          world = w;
+          holds = record { reply = k.0; unchanged = refl };
+          is_in = subst (λ (ts : List Table). IsIn new (record w { tables = ts })) stays (is_in v h);
+        }
 
 -- a table that isn't there
-pub no-table : (old : World) (sent : Sent) (line : Line) → table_of old.tables (table_named sent.act) ≡ None → line ≡ lines.Refused (UnknownTable (table_named sent.act)) → ExecutesSent old sent line old
-no-table old sent line none e =
-    subst (λ (o : Option Refusal). MatchOption o (PerformsSent old sent line old) (λ refusal. Refuses old refusal line old))
-    (sym (ap (λ (o : Option Table). first_of (refused_without o (table_named sent.act) ∷ unknown_replica old sent.replica ∷ refused_act o sent.act ∷ [])) none))
-    (record { reply = e; unchanged = refl })
+pub no-table : (p : PlayerView) (sent : Sent) (line : Line) → HasNone p.tables (table_named sent.act) → line ≡ lines.Refused (UnknownTable (table_named sent.act)) → Moves p (ExecutesSent sent line) p
+no-table p sent line none e w i =
+    subst (λ (o : Option Refusal). ComesTo p (λ v. MatchOption o (PerformsSent w sent line v) (λ refusal. Refuses w refusal line v)))
+    (sym (ap (λ (o : Option Table). first_of (refused_without o (table_named sent.act) ∷ unknown_replica w.replicas sent.replica ∷ refused_act o sent.act ∷ [])) (none-in p.tables w.tables (table_named sent.act) none i.tables)))
+    (record { world = w; holds = record { reply = e; unchanged = refl }; is_in = i })
 
 -- a replica that isn't there
-pub no-replica : (old : World) (sent : Sent) (place : ℕ) (refusal : Refusal) (line : Line) → IsPlaceOf old.tables (table_named sent.act) place → unknown_replica old sent.replica ≡ Some refusal → line ≡ lines.Refused refusal → ExecutesSent old sent line old
-no-replica old sent place refusal line p unknown e =
-    subst (λ (o : Option Refusal). MatchOption o (PerformsSent old sent line old) (λ refusal. Refuses old refusal line old))
-    (sym (ap (λ (o : Option Table). first_of (refused_without o (table_named sent.act) ∷ unknown_replica old sent.replica ∷ refused_act o sent.act ∷ [])) p.found
-    ∙ ap (λ (o : Option Refusal). first_of (o ∷ act_refusal p.table.state.schema sent.act ∷ [])) unknown))
-    (record { reply = e; unchanged = refl })
+pub no-replica : (p : PlayerView) (sent : Sent) (place : ℕ) (refusal : Refusal) (line : Line) → IsPlaceOf p.tables (table_named sent.act) place → unknown_replica p.replicas sent.replica ≡ Some refusal → line ≡ lines.Refused refusal → Moves p (ExecutesSent sent line) p
+no-replica p sent place refusal line f unknown e w i =
+    let t = found-at p w (table_named sent.act) place i f in
+    subst (λ (o : Option Refusal). ComesTo p (λ v. MatchOption o (PerformsSent w sent line v) (λ refusal. Refuses w refusal line v)))
+    (sym (refusals-found w sent t.table t.found
+    ∙ ap (λ (o : Option Refusal). first_of (o ∷ act_refusal t.table.state.schema sent.act ∷ [])) (ap (λ n. unknown_replica n sent.replica) i.replicas ∙ unknown)))
+    (record { world = w; holds = record { reply = e; unchanged = refl }; is_in = i })

@@ -1,52 +1,19 @@
--- Tables by their names, and replicas by theirs.
-use Rattle.std.proofs.Common.{◌≡◌, ◌∙◌, ℕ, zero, suc, ◌<◌, ◌≤◌, ◌⊎◌, inl, inr, min, nat_le, Bool, true, false, cond, List, [], ◌∷◌, ◌++◌, length, refl, ap, sym, subst, arith}
-use Rattle.std.proofs.lemmas.Bool.Decides.{nat_tests}
-use Rattle.std.specs.Prelude.{slice_get, slice_set, slice_index_or, replicate}
-use Rattle.std.specs.List.{insert, remove}
+-- Tables by their names, in a player and in the world that it is in.
+use Rattle.std.proofs.Common.{◌≡◌, ◌∙◌, ℕ, zero, suc, ◌<◌, Bool, true, false, cond, List, [], ◌∷◌, ◌++◌, length, map, refl, ap, sym, subst, arith}
+use Rattle.std.specs.Prelude.{slice_get, slice_set}
 use Rattle.std.specs.Str.{bytes_eq}
 use Rattle.std.specs.declared.option.Option.TheVariants.{Some, None}
 use Rattle.rmt_model.specs.Words.{Each}
+use Rattle.rmt_events.specs.Clusters.{Cluster}
+use Rattle.rmt_statement_model.specs.TableStates.{TableState}
+use Rattle.rmt_statement_model.specs.Shows.{Shows}
 use Rattle.rmt_play.specs.World.{Table}
-use Rattle.rmt_reply.specs.Printed.{replica_text}
-use Rattle.rmt_play.specs.Checks.{table_of, replica_of}
+use Rattle.rmt_play.specs.Checks.{table_of}
 use Rattle.rmt_play.specs.Plays.{with_table}
-use Rattle.rmt_play.specs.PlayerSteps.{IsPlaceOf}
+use Rattle.rmt_play.specs.Shown.{AreShown}
+use Rattle.rmt_play.specs.PlayerSteps.{NamedCluster, ShowTables, HasNone}
 
--- the first table of a name
-pub place-is : (tables : List Table) (name : List ℕ) (i : ℕ) → ((j : ℕ) (t : Table) → j < i → slice_get tables j ≡ Some t → bytes_eq t.name name ≡ false)
-    → (t : Table) → slice_get tables i ≡ Some t → bytes_eq t.name name ≡ true → IsPlaceOf tables name i
-place-is [] name i before t e k = absurd (cc)
-place-is (u ∷ tables) name zero before t e k =
-    let same : u ≡ t = cc in
-    let here : bytes_eq u.name name ≡ true = ap (λ (x : Table). bytes_eq x.name name) same ∙ k in
-    record {
-      table = t;
-      there = e;
-      found = ap (λ (b : Bool). cond b (Some u) (table_of tables name)) here ∙ ap (λ (x : Table). Some x) same;
-      set = λ v. ap (λ (b : Bool). cond b (v ∷ tables) (u ∷ with_table tables name v)) here;
-    }
-place-is (u ∷ tables) name (suc i) before t e k =
-    let r = place-is tables name i (λ j v l q. before (suc j) v (omega (arith, l)) q) t e k in
-    let other : bytes_eq u.name name ≡ false = before 0 u (omega arith) refl in
-    record {
-      table = r.table;
-      there = r.there;
-      found = ap (λ (b : Bool). cond b (Some u) (table_of tables name)) other ∙ r.found;
-      set = λ v. ap (λ (b : Bool). cond b (v ∷ tables) (u ∷ with_table tables name v)) other ∙ ap (λ (ts : List Table). u ∷ ts) (r.set v);
-    }
-
--- no table has the name
-pub none-is : (tables : List Table) (name : List ℕ) → ((j : ℕ) (t : Table) → j < length tables → slice_get tables j ≡ Some t → bytes_eq t.name name ≡ false) → table_of tables name ≡ None
-none-is [] name all = refl
-none-is (u ∷ tables) name all =
-    let other : bytes_eq u.name name ≡ false = all 0 u (omega arith) refl in
-    ap (λ (b : Bool). cond b (Some u) (table_of tables name)) other ∙ none-is tables name (λ j t l e. all (suc j) t (omega (arith, l)) e)
-
--- an element that is in its place
-pub set-same : {A : Type 0} (xs : List A) (i : ℕ) (x : A) → slice_get xs i ≡ Some x → slice_set xs i x ≡ xs
-set-same [] i x e = absurd (cc)
-set-same (y ∷ xs) zero x e = let same : y ≡ x = cc in ap (λ z. z ∷ xs) (sym same)
-set-same (y ∷ xs) (suc i) x e = ap (λ zs. y ∷ zs) (set-same xs i x e)
+-- ---- lists
 
 pub Each-set : {A : Type 0} (P : A → Type 0) (xs : List A) (i : ℕ) (x : A) → Each P xs → P x → Each P (slice_set xs i x)
 Each-set P [] i x e p = tt
@@ -62,42 +29,84 @@ pub Each-last : {A : Type 0} (P : A → Type 0) (xs : List A) (x : A) → Each P
 Each-last P [] x e p = (p, tt)
 Each-last P (y ∷ xs) x e p = (e.0, Each-last P xs x e.1 p)
 
--- ---- replicas
+pub get-below : {A : Type 0} (xs : List A) (i : ℕ) (x : A) → slice_get xs i ≡ Some x → i < length xs
+get-below [] i x e = absurd (cc)
+get-below (y ∷ xs) zero x e = omega arith
+get-below (y ∷ xs) (suc i) x e = let l = get-below xs i x e in omega (arith, l)
 
--- a replica that has a name has a number
-pub number-within : (count : ℕ) (name : List ℕ) (n : ℕ) → replica_of count name ≡ Some n → (0 < n) × (n ≤ count)
-number-within zero name n e = absurd (cc)
-number-within (suc count) name n e = go (bytes_eq name (replica_text (suc count))) e (number-within count name n)
+-- ---- tables of a world and their clusters
+
+pub length-shown : (cs : List NamedCluster) (ts : List Table) → ShowTables cs ts → length ts ≡ length cs
+length-shown [] [] s = refl
+length-shown [] (t ∷ ts) s = absurd s
+length-shown (c ∷ cs) [] s = absurd s
+length-shown (c ∷ cs) (t ∷ ts) s = ap suc (length-shown cs ts s.2)
+
+pub append-shown : (cs : List NamedCluster) (ts : List Table) (c : NamedCluster) (t : Table) → ShowTables cs ts → t.name ≡ c.name → Shows c.cluster t.state → ShowTables (cs ++ c ∷ []) (ts ++ t ∷ [])
+append-shown [] [] c t s n h = (n, h, tt)
+append-shown [] (u ∷ ts) c t s n h = absurd s
+append-shown (d ∷ cs) [] c t s n h = absurd s
+append-shown (d ∷ cs) (u ∷ ts) c t s n h = (s.0, s.1, append-shown cs ts c t s.2 n h)
+
+pub shown-clusters : (cs : List NamedCluster) (ts : List Table) → ShowTables cs ts → AreShown (map (λ c. c.cluster) cs) ts
+shown-clusters [] [] s = tt
+shown-clusters [] (t ∷ ts) s = absurd s
+shown-clusters (c ∷ cs) [] s = absurd s
+shown-clusters (c ∷ cs) (t ∷ ts) s = (s.1, shown-clusters cs ts s.2)
+
+-- ---- the table of a name
+
+-- the table of a name in the world, which the cluster at a place shows
+pub record FoundIn (cs : List NamedCluster) (ts : List Table) (name : List ℕ) (place : ℕ) (c : NamedCluster) : Type 0 where
+  pub table : Table
+  pub found : table_of ts name ≡ Some table
+  pub shows : Shows c.cluster table.state
+  pub set : (d : Cluster) (v : TableState) → Shows d v → ShowTables (slice_set cs place (record c { cluster = d })) (with_table ts name (record table { state = v }))
+
+not-true : (b : Bool) → (b ≡ true → ⊥) → b ≡ false
+not-true true f = absurd (f refl)
+not-true false f = refl
+
+pub found-in : (cs : List NamedCluster) (ts : List Table) (name : List ℕ) (place : ℕ) (c : NamedCluster) → slice_get cs place ≡ Some c → bytes_eq c.name name ≡ true
+    → ((j : ℕ) (d : NamedCluster) → j < place → slice_get cs j ≡ Some d → bytes_eq d.name name ≡ true → ⊥) → ShowTables cs ts → FoundIn cs ts name place c
+found-in [] ts name place c e q f s = absurd (cc)
+found-in (b ∷ cs) [] name place c e q f s = absurd s
+found-in (b ∷ cs) (t ∷ ts) name zero c e q f s =
+    let same : b ≡ c = cc in
+    let here : bytes_eq t.name name ≡ true = ap (λ (n : List ℕ). bytes_eq n name) (s.0 ∙ ap (λ (x : NamedCluster). x.name) same) ∙ q in
+    record {
+      table = t;
+      found = ap (λ (x : Bool). cond x (Some t) (table_of ts name)) here;
+      shows = subst (λ (x : NamedCluster). Shows x.cluster t.state) same s.1;
+      set = λ d v h. subst (λ (us : List Table). ShowTables (record c { cluster = d } ∷ cs) us)
+          (sym (ap (λ (x : Bool). cond x (record t { state = v } ∷ ts) (t ∷ with_table ts name (record t { state = v }))) here))
+          (s.0 ∙ ap (λ (x : NamedCluster). x.name) same, h, s.2);
+    }
+found-in (b ∷ cs) (t ∷ ts) name (suc place) c e q f s =
+    let r = found-in cs ts name place c e q (λ j d l g. f (suc j) d (omega (arith, l)) g) s.2 in
+    let other : bytes_eq t.name name ≡ false = ap (λ (n : List ℕ). bytes_eq n name) s.0 ∙ not-true (bytes_eq b.name name) (f 0 b (omega arith) refl) in
+    record {
+      table = r.table;
+      found = ap (λ (x : Bool). cond x (Some t) (table_of ts name)) other ∙ r.found;
+      shows = r.shows;
+      set = λ d v h. subst (λ (us : List Table). ShowTables (b ∷ slice_set cs place (record c { cluster = d })) us)
+          (sym (ap (λ (x : Bool). cond x (record r.table { state = v } ∷ ts) (t ∷ with_table ts name (record r.table { state = v }))) other))
+          (s.0, s.1, r.set d v h);
+    }
+
+pub none-in : (cs : List NamedCluster) (ts : List Table) (name : List ℕ) → HasNone cs name → ShowTables cs ts → table_of ts name ≡ None
+none-in [] [] name f s = refl
+none-in [] (t ∷ ts) name f s = absurd s
+none-in (c ∷ cs) [] name f s = absurd s
+none-in (c ∷ cs) (t ∷ ts) name f s =
+    let other : bytes_eq t.name name ≡ false = ap (λ (n : List ℕ). bytes_eq n name) s.0 ∙ not-true (bytes_eq c.name name) (f 0 c refl) in
+    ap (λ (x : Bool). cond x (Some t) (table_of ts name)) other ∙ none-in cs ts name (λ j d e. f (suc j) d e) s.2
+
+-- a table that is put in its own place
+pub with-same : (ts : List Table) (name : List ℕ) (t : Table) → table_of ts name ≡ Some t → with_table ts name t ≡ ts
+with-same [] name t e = refl
+with-same (u ∷ ts) name t e = go (bytes_eq u.name name) e (with-same ts name t)
   where
-    go : (b : Bool) → cond b (Some (suc count)) (replica_of count name) ≡ Some n → (replica_of count name ≡ Some n → (0 < n) × (n ≤ count)) → (0 < n) × (n ≤ suc count)
-    go true q f = let same : suc count ≡ n = cc in (omega (arith, same), omega (arith, same))
-    go false q f = let (a, b) = f q in (a, omega (arith, b))
-
--- ---- a table that is taken out and put back
-
--- an element that was taken out, with another one in its place
-pub put-back : {A : Type 0} (xs : List A) (i : ℕ) (x : A) → i < length xs → insert (remove xs i) i x ≡ slice_set xs i x
-put-back [] i x l = absurd (omega (arith, l))
-put-back (y ∷ xs) zero x l = refl
-put-back (y ∷ xs) (suc i) x l = ap (λ zs. y ∷ zs) (put-back xs i x (omega (arith, l)))
-
-pub get-there : {A : Type 0} (xs : List A) (i : ℕ) (x : A) → i < length xs → x ≡ slice_index_or xs i x → slice_get xs i ≡ Some x
-get-there [] i x l e = absurd (omega (arith, l))
-get-there (y ∷ xs) zero x l e = ap (λ z. Some z) (sym e)
-get-there (y ∷ xs) (suc i) x l e = get-there xs i x (omega (arith, l)) e
-
-pub length-replicate : {A : Type 0} (n : ℕ) (x : A) → length (replicate n x) ≡ n
-length-replicate zero x = refl
-length-replicate (suc n) x = ap suc (length-replicate n x)
-
-pub past : (a b m i : ℕ) → m ≡ min a b → m ≤ i → (a ≤ i) ⊎ (b ≤ i)
-past a b m i e l = go (nat_le a i) refl
-  where
-    go : (t : Bool) → nat_le a i ≡ t → (a ≤ i) ⊎ (b ≤ i)
-    go true q = inl (grind (arith, nat_tests))
-    go false q = let more : i < a = grind (arith, nat_tests) in inr (omega (arith, e, l, more))
-
-pub has-get : {A : Type 0} (xs : List A) (i : ℕ) → i < length xs → (x : A) × (slice_get xs i ≡ Some x)
-has-get [] i l = absurd (omega (arith, l))
-has-get (y ∷ xs) zero l = (y, refl)
-has-get (y ∷ xs) (suc i) l = has-get xs i (omega (arith, l))
+    go : (b : Bool) → cond b (Some u) (table_of ts name) ≡ Some t → (table_of ts name ≡ Some t → with_table ts name t ≡ ts) → cond b (t ∷ ts) (u ∷ with_table ts name t) ≡ u ∷ ts
+    go true q f = let same : u ≡ t = cc in ap (λ (x : Table). x ∷ ts) (sym same)
+    go false q f = ap (λ (us : List Table). u ∷ us) (f q)

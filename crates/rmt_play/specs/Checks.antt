@@ -1,15 +1,16 @@
 -- Why a statement is refused. Each refusal has its test, and a statement meets the first in the order of the checks.
 -- ClickHouse documentation: CREATE TABLE, INSERT INTO, SELECT, EXPLAIN. The refusals and their order are this program's
 -- own.
-use Rattle.std.specs.Prelude.{ℕ, zero, suc, cond, not, nat_le, ◌&&◌, Bool, true, false, List, [], ◌∷◌, length}
+use Rattle.std.specs.Prelude.{ℕ, zero, suc, ◌-◌, ◌^◌, cond, not, nat_eq, nat_le, nat_lt, ◌&&◌, Bool, true, false, List, [], ◌∷◌, length}
 use Rattle.std.specs.declared.option.Option.{Option}
 use Rattle.std.specs.declared.option.Option.TheVariants.{Some, None}
 use Rattle.std.specs.Str.{bytes_eq}
+use Rattle.rmt_values.specs.declared.column.Column.{Column}
 use Rattle.rmt_values.specs.declared.limit.Limit.TheVariants as limits
 use Rattle.rmt_values.specs.declared.schema_error.SchemaError.{SchemaError}
 use Rattle.rmt_values.specs.declared.schema_error.SchemaError.TheVariants as schemas
 use Rattle.rmt_values.specs.Rows.{is_empty, Shape}
-use Rattle.rmt_values.specs.Schemas.{schema_refusal}
+use Rattle.rmt_values.specs.Schemas.{schema_refusal, shape_of}
 use Rattle.rmt_expr.specs.declared.check_error.CheckError.{CheckError}
 use Rattle.rmt_expr.specs.declared.check_error.CheckError.TheVariants as checks
 use Rattle.rmt_expr.specs.Queries.{query_refusal}
@@ -54,18 +55,16 @@ is_played_act (acts.Select table query mode) = is_played_mode mode
 is_played_act (acts.Explain table query) = true
 is_played_act act = false
 
--- REPLICAS with 1 to 8 replicas and before all tables; CREATE without partitions and with the default window; and what
--- is sent to a replica
-abbrev pub is_played : World → Statement → Bool
-is_played world (statements.Replicas count) = (nat_le 1 count && nat_le count 8) && is_empty world.tables
-is_played world (statements.Create table columns partition key granularity window) =
-    (not (is_empty columns) && is_absent partition) && is_absent window
-is_played world (statements.At sent) = is_played_act sent.act
-is_played world statement = false
+-- REPLICAS with 1 to 8 replicas and before all tables, CREATE, and what is sent to a replica; so many tables there are
+abbrev pub is_played : ℕ → Statement → Bool
+is_played tables (statements.Replicas count) = (nat_le 1 count && nat_le count 8) && nat_eq tables 0
+is_played tables (statements.Create table columns partition key granularity window) = not (is_empty columns)
+is_played tables (statements.At sent) = is_played_act sent.act
+is_played tables statement = false
 
 -- a form that nothing plays, at its first token
-abbrev pub unplayed : World → Statement → ℕ → Option Refusal
-unplayed world statement start = cond (is_played world statement) None (Some (Syntax start))
+abbrev pub unplayed : ℕ → Statement → ℕ → Option Refusal
+unplayed tables statement start = cond (is_played tables statement) None (Some (Syntax start))
 
 -- ---- names
 
@@ -97,10 +96,10 @@ abbrev pub replica_of : ℕ → List ℕ → Option ℕ
 replica_of zero name = None
 replica_of (suc n) name = cond (bytes_eq name (replica_text (suc n))) (Some (suc n)) (replica_of n name)
 
--- the replica that a statement is sent to: the first, where none is named
-abbrev pub replica_at : World → Option (List ℕ) → Option ℕ
-replica_at world None = Some 1
-replica_at world (Some name) = replica_of world.replicas name
+-- the number of the replica that a statement is sent to: the first, where none is named
+abbrev pub replica_at : ℕ → Option (List ℕ) → Option ℕ
+replica_at count None = Some 1
+replica_at count (Some name) = replica_of count name
 
 -- the refusal of a replica's name that has no number
 abbrev pub refused_name : Option ℕ → Option (List ℕ) → Option Refusal
@@ -109,19 +108,28 @@ refused_name None None = None
 refused_name None (Some name) = Some (UnknownReplica name)
 
 -- the name is none of a replica's
-abbrev pub unknown_replica : World → Option (List ℕ) → Option Refusal
-unknown_replica world name = refused_name (replica_at world name) name
+abbrev pub unknown_replica : ℕ → Option (List ℕ) → Option Refusal
+unknown_replica count name = refused_name (replica_at count name) name
 
 -- ---- CREATE
 
--- the rows of a granule, where a number is given
-abbrev pub granularity_of : Option ℕ → ℕ
-granularity_of None = 8192
-granularity_of (Some n) = n
+-- the number of a setting, where it is given; one of more than 32 bits counts as the greatest, which is out of range
+abbrev pub setting_of : ℕ → Option ℕ → ℕ
+setting_of default None = default
+setting_of default (Some n) = cond (nat_lt n (2 ^ 32)) n (2 ^ 32 - 1)
 
--- the blocks that the window of insert deduplication keeps
-abbrev pub default_window : ℕ
-default_window = 100
+-- the rows of a granule
+abbrev pub granularity_of : Option ℕ → ℕ
+granularity_of number = setting_of 8192 number
+
+-- how many blocks the window of insert deduplication keeps
+abbrev pub window_of : Option ℕ → ℕ
+window_of number = setting_of 100 number
+
+-- the partition rule; a divisor of more than 64 bits counts as 0, which is out of range
+abbrev pub rule_given : Option (List ℕ × ℕ) → Option (List ℕ × ℕ)
+rule_given None = None
+rule_given (Some rule) = Some (rule.0, cond (nat_lt rule.1 (2 ^ 64)) rule.1 0)
 
 -- a schema's refusal, apart from that of too many columns; a CREATE without columns has no form
 abbrev pub refused_schema : Option SchemaError → Option Refusal
@@ -131,8 +139,8 @@ refused_schema (Some (schemas.WrongType name)) = Some (WrongType name)
 refused_schema refusal = None
 
 -- there is room for four tables
-abbrev pub too_many_tables : List Table → Option Refusal
-too_many_tables tables = cond (nat_le 4 (length tables)) (Some (LimitReached limits.Tables (length tables))) None
+abbrev pub too_many_tables : ℕ → Option Refusal
+too_many_tables count = cond (nat_le 4 count) (Some (LimitReached limits.Tables count)) None
 
 -- too many columns
 abbrev pub refused_columns : Option SchemaError → Option Refusal
@@ -142,7 +150,7 @@ refused_columns refusal = None
 -- why a CREATE is refused whose schema has this refusal
 abbrev pub create_refusals : World → List ℕ → Option SchemaError → List (Option Refusal)
 create_refusals world table refusal =
-    table_exists world table ∷ refused_schema refusal ∷ too_many_tables world.tables ∷ refused_columns refusal ∷ []
+    table_exists world table ∷ refused_schema refusal ∷ too_many_tables (length world.tables) ∷ refused_columns refusal ∷ []
 
 -- ---- what is sent to a replica
 
@@ -190,15 +198,25 @@ refused_act (Some t) act = act_refusal t.state.schema act
 abbrev pub sent_refusals : World → Sent → List (Option Refusal)
 sent_refusals world sent =
     unknown_table world (table_named sent.act)
-    ∷ unknown_replica world sent.replica ∷ refused_act (table_of world.tables (table_named sent.act)) sent.act ∷ []
+    ∷ unknown_replica world.replicas sent.replica ∷ refused_act (table_of world.tables (table_named sent.act)) sent.act ∷ []
+
+-- why a CREATE of these columns, partition rule, key and settings has no schema
+abbrev pub schema_refused : List Column → Option (List ℕ × ℕ) → List (List ℕ) → Option ℕ → Option ℕ → Option SchemaError
+schema_refused columns partition key granularity window =
+    schema_refusal columns key (rule_given partition) (granularity_of granularity) (window_of window)
+
+-- the schema of a CREATE
+abbrev pub schema_made : List Column → Option (List ℕ × ℕ) → List (List ℕ) → Option ℕ → Option ℕ → Shape
+schema_made columns partition key granularity window =
+    shape_of columns key (rule_given partition) (granularity_of granularity) (window_of window)
 
 -- the refusals of a statement that is played, in their order
 abbrev pub refusals : World → Statement → List (Option Refusal)
 refusals world (statements.Create table columns partition key granularity window) =
-    create_refusals world table (schema_refusal columns key None (granularity_of granularity) default_window)
+    create_refusals world table (schema_refused columns partition key granularity window)
 refusals world (statements.At sent) = sent_refusals world sent
 refusals world statement = []
 
 -- the refusal of a statement that begins at this place
 abbrev pub refusal_of : World → Statement → ℕ → Option Refusal
-refusal_of world statement start = first_of (unplayed world statement start ∷ refusals world statement)
+refusal_of world statement start = first_of (unplayed (length world.tables) statement start ∷ refusals world statement)

@@ -5,12 +5,16 @@ pub use Rattle.rmt_sql_rows.specs.Inserts
 pub use Rattle.rmt_expr.specs.Queries
 pub use Rattle.rmt_query.specs.Answers
 pub use Rattle.rmt_query.specs.Explained
-pub use Rattle.rmt_replicas.specs.Tables
+pub use Rattle.rmt_statement_model.specs.Shows
 pub use Rattle.rmt_reply.specs.Printed
 pub mod World
 pub mod Checks
+pub mod InsertStatement
+pub mod SelectStatement
+pub mod ExplainStatement
 pub mod Acts
 pub mod Plays
+pub mod Shown
 pub mod Runs
 pub mod QueryAnswers
 pub mod PlayerSteps

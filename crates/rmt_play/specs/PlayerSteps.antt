@@ -1,18 +1,19 @@
--- What holds of the player's world, and what the steps of a statement do. No public clause cites this module.
-use Rattle.std.specs.Prelude.{◌≡◌, ◌⊎◌, ℕ, ◌<◌, ◌≤◌, true, List, length, slice_get, slice_set, MatchOption}
+-- What a player has, and what the steps of a statement do. No public clause cites this module.
+use Rattle.std.specs.Prelude.{◌≡◌, ◌⊎◌, ℕ, ◌<◌, ◌≤◌, true, List, [], ◌∷◌, length, slice_get, slice_set, MatchOption}
 use Rattle.std.specs.List.{All}
+use Rattle.std.specs.Str.{bytes_eq}
 use Rattle.std.specs.declared.option.Option.{Option}
 use Rattle.std.specs.declared.option.Option.TheVariants.{Some, None}
 use Rattle.rmt_values.specs.declared.query.Query.{Query}
-use Rattle.rmt_values.specs.declared.column.Column.{Column}
 use Rattle.rmt_values.specs.declared.schema_error.SchemaError.{SchemaError}
 use Rattle.rmt_values.specs.declared.schema_error.SchemaError.TheVariants as schemas
 use Rattle.rmt_values.specs.Rows.{Shape, fits}
-use Rattle.rmt_values.specs.Schemas.{schema_refusal, shape_of}
 use Rattle.rmt_expr.specs.Queries.{query_refusal}
 use Rattle.rmt_model.specs.Words.{Each}
 use Rattle.rmt_model.specs.Content.{Row}
-use Rattle.rmt_replicas.specs.Tables.{TableState}
+use Rattle.rmt_events.specs.Clusters.{Cluster}
+use Rattle.rmt_statement_model.specs.TableStates.{TableState, empty_table}
+use Rattle.rmt_statement_model.specs.Shows.{Shows, IsIdle, Leads}
 use Rattle.rmt_statements.specs.declared.act.Act.{Act}
 use Rattle.rmt_statements.specs.declared.insert.Insert.{Insert}
 use Rattle.rmt_statements.specs.declared.sent.Sent.{Sent}
@@ -25,30 +26,79 @@ use Rattle.rmt_reply.specs.declared.line.Line.TheVariants as lines
 use Rattle.rmt_reply.specs.declared.refusal.Refusal.{Refusal}
 use Rattle.rmt_reply.specs.declared.refusal.Refusal.TheVariants.{BadRow}
 use Rattle.rmt_play.specs.World.{Table, World}
-use Rattle.rmt_play.specs.Checks.{table_of, first_of, granularity_of, default_window, create_refusals, sent_refusals, refusals, refused_names, refused_query, act_refusal}
+use Rattle.rmt_play.specs.Checks.{first_of, create_refusals, sent_refusals, refusals, refused_names, refused_query, act_refusal}
 use Rattle.rmt_play.specs.Acts.{Acts}
-use Rattle.rmt_play.specs.Plays.{with_table, Creates, PerformsSent, Performs, Refuses}
+use Rattle.rmt_play.specs.Plays.{Creates, PerformsSent, Performs, Refuses, ExecutesStatement, Step}
 
--- a world that a player has: 1 to 8 replicas, and each table is at all of them
-pub record IsSoundWorld (world : World) : Type 0 where
-  pub some : 0 < world.replicas
-  pub few : world.replicas ≤ 8
-  pub known : Each (λ t. length t.state.known ≡ world.replicas) world.tables
+-- ---- what a player has
 
--- the first table of this name is at this place
-pub record IsPlaceOf (tables : List Table) (name : List ℕ) (place : ℕ) : Type 0 where
-  pub table : Table
+-- a table's name and its cluster
+pub record NamedCluster : Type 0 where
+  pub name : List ℕ
+  pub cluster : Cluster
+
+-- how many replicas there are, and the tables in the order in which they were created
+pub record PlayerView : Type 0 where
+  pub replicas : ℕ
+  pub tables : List NamedCluster
+
+-- a cluster that has so many replicas, and is idle
+abbrev pub IsAtAll : ℕ → NamedCluster → Type 0
+IsAtAll count t = (length t.cluster.replicas ≡ count) × IsIdle t.cluster
+
+-- there are 1 to 8 replicas, and each table is at all of them
+pub record IsSoundPlayer (p : PlayerView) : Type 0 where
+  pub some : 0 < p.replicas
+  pub few : p.replicas ≤ 8
+  pub all : Each (IsAtAll p.replicas) p.tables
+
+-- there are two replicas, and no table
+abbrev pub IsEmptyPlayer : PlayerView → Type 0
+IsEmptyPlayer p = p ≡ record { replicas = 2; tables = [] }
+
+-- an idle cluster without rows, at so many replicas
+pub record IsNewTable (schema : Shape) (count : ℕ) (c : Cluster) : Type 0 where
+  pub shows : Shows c (empty_table schema)
+  pub all : length c.replicas ≡ count
+  pub idle : IsIdle c
+
+-- each table has its name, and its cluster shows it
+abbrev pub ShowTables : List NamedCluster → List Table → Type 0
+ShowTables [] [] = Unit {0}
+ShowTables (c ∷ clusters) (t ∷ tables) = (t.name ≡ c.name) × Shows c.cluster t.state × ShowTables clusters tables
+ShowTables clusters tables = ⊥
+
+-- the player is in this world
+pub record IsIn (p : PlayerView) (w : World) : Type 0 where
+  pub replicas : w.replicas ≡ p.replicas
+  pub tables : ShowTables p.tables w.tables
+
+-- the player is in a world of which this holds
+pub record ComesTo (p : PlayerView) (Holds : World → Type 0) : Type 0 where
+  pub world : World
+  pub holds : Holds world
+  pub is_in : IsIn p world
+
+-- in whatever world the player was, it is in one then to which this leads
+abbrev pub Moves : PlayerView → (World → World → Type 0) → PlayerView → Type 0
+Moves p Change q = (w : World) → IsIn p w → ComesTo q (Change w)
+
+-- ---- tables by their names
+
+-- the table at a place has the name, and none before it has
+pub record IsPlaceOf (tables : List NamedCluster) (name : List ℕ) (place : ℕ) : Type 0 where
+  pub table : NamedCluster
   pub there : slice_get tables place ≡ Some table
-  pub found : table_of tables name ≡ Some table
-  pub set : (t : Table) → with_table tables name t ≡ slice_set tables place t
+  pub named : bytes_eq table.name name ≡ true
+  pub first : (j : ℕ) (t : NamedCluster) → j < place → slice_get tables j ≡ Some t → bytes_eq t.name name ≡ true → ⊥
 
--- the place of the table of this name, where there is one
-abbrev pub IsFound : List Table → List ℕ → Option ℕ → Type 0
-IsFound tables name place = MatchOption place (table_of tables name ≡ None) (IsPlaceOf tables name)
+-- no table has the name
+abbrev pub HasNone : List NamedCluster → List ℕ → Type 0
+HasNone tables name = (j : ℕ) (t : NamedCluster) → slice_get tables j ≡ Some t → bytes_eq t.name name ≡ true → ⊥
 
--- a setting's number, or one out of its range in place of another
-abbrev pub IsClipped : ℕ → ℕ → Type 0
-IsClipped number clipped = (clipped ≡ number) ⊎ ((65536 < number) × (65536 < clipped))
+-- the place of the first table of this name, where there is one
+abbrev pub IsFound : List NamedCluster → List ℕ → Option ℕ → Type 0
+IsFound tables name place = MatchOption place (HasNone tables name) (IsPlaceOf tables name)
 
 -- a number of replicas
 pub record IsCount (count : ℕ) : Type 0 where
@@ -64,12 +114,9 @@ IsCreateRefusal schemas.Memory = ⊥
 IsCreateRefusal refusal = Unit {0}
 
 -- a CREATE makes its table, or is refused
-abbrev pub ExecutesCreate : World → List ℕ → List Column → List (List ℕ) → Option ℕ → Line → World → Type 0
-ExecutesCreate old table columns key granularity line new =
-    MatchOption
-    (first_of (create_refusals old table (schema_refusal columns key None (granularity_of granularity) default_window)))
-    (Creates old table (shape_of columns key None (granularity_of granularity) default_window) line new)
-    (λ refusal. Refuses old refusal line new)
+abbrev pub ExecutesCreate : List ℕ → Option SchemaError → Shape → Line → World → World → Type 0
+ExecutesCreate table refusal schema line old new =
+    MatchOption (first_of (create_refusals old table refusal)) (Creates old table schema line new) (λ why. Refuses old why line new)
 
 -- ---- INSERT
 
@@ -101,29 +148,39 @@ Declines t line u refusal = (line ≡ lines.Refused refusal) × (u ≡ t)
 abbrev pub ExecutesAct : TableState → ℕ → Act → Line → TableState → Type 0
 ExecutesAct t r act line u = MatchOption (act_refusal t.schema act) (Acts t r act line u) (Declines t line u)
 
--- a query is answered, or refused
-abbrev pub ExecutesQuery : TableState → Query → (Line → TableState → Type 0) → Line → TableState → Type 0
-ExecutesQuery t query Answers line u =
-    MatchOption (refused_query (query_refusal t.schema query)) (Answers line u) (Declines t line u)
+-- the same in a cluster, whatever state it shows
+abbrev pub ExecutesIn : Cluster → ℕ → Act → Line → Cluster → Type 0
+ExecutesIn s r act line u = (t : TableState) → Shows s t → Leads u (ExecutesAct t r act line)
+
+-- a query is answered in a cluster, or refused
+abbrev pub ExecutesQuery : Cluster → Query → (TableState → Line → TableState → Type 0) → Line → Cluster → Type 0
+ExecutesQuery s query Answers line u =
+    (t : TableState) → Shows s t → Leads u (λ v. MatchOption (refused_query (query_refusal t.schema query)) (Answers t line v) (Declines t line v))
 
 -- what is sent to a replica is done in its table, or refused
-abbrev pub ExecutesSent : World → Sent → Line → World → Type 0
-ExecutesSent old sent line new =
-    MatchOption (first_of (sent_refusals old sent)) (PerformsSent old sent line new)
-    (λ refusal. Refuses old refusal line new)
+abbrev pub ExecutesSent : Sent → Line → World → World → Type 0
+ExecutesSent sent line old new =
+    MatchOption (first_of (sent_refusals old sent)) (PerformsSent old sent line new) (λ refusal. Refuses old refusal line new)
 
 -- the act is done in the table at a place, or refused
-pub record ActsAt (old : World) (place replica : ℕ) (act : Act) (line : Line) (new : World) : Type 0 where
-  pub table : Table
+pub record ActsAt (old : PlayerView) (place replica : ℕ) (act : Act) (line : Line) (new : PlayerView) : Type 0 where
+  pub table : NamedCluster
   pub there : slice_get old.tables place ≡ Some table
-  pub after : TableState
-  pub executes : ExecutesAct table.state replica act line after
-  pub rest : new ≡ record old { tables = slice_set old.tables place (record table { state = after }) }
+  pub after : Cluster
+  pub executes : ExecutesIn table.cluster replica act line after
+  pub rest : new ≡ record old { tables = slice_set old.tables place (record table { cluster = after }) }
 
 -- ---- a statement
 
 -- a statement of a form that is played is refused with the first refusal that it meets, or does what it says
-abbrev pub ExecutesPlayed : World → Statement → Line → World → Type 0
-ExecutesPlayed old statement line new =
-    MatchOption (first_of (refusals old statement)) (Performs old statement line new)
-    (λ refusal. Refuses old refusal line new)
+abbrev pub ExecutesPlayed : Statement → Line → World → World → Type 0
+ExecutesPlayed statement line old new =
+    MatchOption (first_of (refusals old statement)) (Performs old statement line new) (λ refusal. Refuses old refusal line new)
+
+-- a statement that begins at a place of its script is refused, or does what it says
+abbrev pub Executes : Statement → ℕ → Line → World → World → Type 0
+Executes statement first line old new = ExecutesStatement old statement first line new
+
+-- the statement at a place of a script is played, up to another place
+abbrev pub Steps : List ℕ → ℕ → Line → ℕ → World → World → Type 0
+Steps script from line end old new = Step script from old line end new

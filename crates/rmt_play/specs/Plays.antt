@@ -1,10 +1,9 @@
 -- What statements reply and change, one after the other.
-use Rattle.std.specs.Prelude.{◌≡◌, ℕ, suc, cond, List, [], ◌∷◌, ◌++◌, Bool, true, false, MatchOption}
+use Rattle.std.specs.Prelude.{◌≡◌, ℕ, cond, List, [], ◌∷◌, ◌++◌, Bool, true, false, MatchOption}
 use Rattle.std.specs.Str.{bytes_eq}
-use Rattle.std.specs.declared.option.Option.TheVariants.{Some, None}
+use Rattle.std.specs.declared.option.Option.TheVariants.{Some}
 use Rattle.rmt_values.specs.Rows.{Shape}
-use Rattle.rmt_values.specs.Schemas.{shape_of}
-use Rattle.rmt_replicas.specs.Tables.{TableState}
+use Rattle.rmt_statement_model.specs.TableStates.{TableState}
 use Rattle.rmt_sql.specs.declared.parsed.Parsed.{Parsed}
 use Rattle.rmt_sql.specs.declared.parsed.Parsed.TheVariants as parsed
 use Rattle.rmt_statements.specs.declared.sent.Sent.{Sent}
@@ -15,8 +14,8 @@ use Rattle.rmt_reply.specs.declared.line.Line.{Line}
 use Rattle.rmt_reply.specs.declared.line.Line.TheVariants as lines
 use Rattle.rmt_reply.specs.declared.refusal.Refusal.{Refusal}
 use Rattle.rmt_reply.specs.declared.refusal.Refusal.TheVariants.{Syntax}
-use Rattle.rmt_play.specs.World.{Table, World, start, empty_table}
-use Rattle.rmt_play.specs.Checks.{granularity_of, default_window, table_of, replica_at, table_named, refusal_of}
+use Rattle.rmt_play.specs.World.{Table, World, start, new_table}
+use Rattle.rmt_play.specs.Checks.{schema_made, table_of, replica_at, table_named, refusal_of}
 use Rattle.rmt_play.specs.Acts.{Acts}
 
 -- a refusal changes nothing
@@ -34,7 +33,7 @@ pub record Counts (old : World) (count : ℕ) (line : Line) (new : World) : Type
 -- CREATE makes an empty table
 pub record Creates (old : World) (name : List ℕ) (schema : Shape) (line : Line) (new : World) : Type 0 where
   pub reply : line ≡ lines.Okay
-  pub change : new ≡ record old { tables = old.tables ++ empty_table old.replicas name schema ∷ [] }
+  pub change : new ≡ record old { tables = old.tables ++ new_table name schema ∷ [] }
 
 -- the tables, with one in place of the one of that name
 abbrev pub with_table : List Table → List ℕ → Table → List Table
@@ -52,14 +51,14 @@ pub record InTable (old : World) (name : List ℕ) (Change : TableState → Tabl
 -- what is sent to a replica is done in its table
 pub record PerformsSent (old : World) (sent : Sent) (line : Line) (new : World) : Type 0 where
   pub replica : ℕ
-  pub at : replica_at old sent.replica ≡ Some (suc replica)
+  pub at : replica_at old.replicas sent.replica ≡ Some replica
   pub acts : InTable old (table_named sent.act) (λ t u. Acts t replica sent.act line u) new
 
 -- what a statement does that meets no refusal; the others aren't played
 abbrev pub Performs : World → Statement → Line → World → Type 0
 Performs old (statements.Replicas count) line new = Counts old count line new
 Performs old (statements.Create table columns partition key granularity window) line new =
-    Creates old table (shape_of columns key None (granularity_of granularity) default_window) line new
+    Creates old table (schema_made columns partition key granularity window) line new
 Performs old (statements.At sent) line new = PerformsSent old sent line new
 Performs old statement line new = ⊥
 

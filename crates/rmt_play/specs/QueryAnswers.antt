@@ -6,17 +6,24 @@ use Rattle.rmt_names.specs.Names.{Name}
 use Rattle.rmt_partset.specs.Snapshots.{NamedData, names_in, data_in, all_rows}
 use Rattle.rmt_query.specs.Answers.{answer_of}
 use Rattle.rmt_query.specs.Explained.{AreExplained}
-use Rattle.rmt_replicas.specs.Tables.{TableState, IsReading}
+use Rattle.rmt_events.specs.Clusters.{Cluster}
+use Rattle.rmt_statement_model.specs.TableStates.{TableState}
+use Rattle.rmt_statement_model.specs.Reads.{IsReading}
+use Rattle.rmt_statement_model.specs.Shows.{Shows}
+
+-- parts that are read at a replica, whatever state the cluster shows
+abbrev pub IsReadingOf : Cluster → ℕ → List NamedData → Type 0
+IsReadingOf s r parts = (t : TableState) → Shows s t → IsReading t r parts
 
 -- the names of parts that are read at the replica, and the answer over their rows
-pub record IsSelection (t : TableState) (r : ℕ) (query : CheckedQuery) (names : List Name) (rows : List (List Cell)) : Type 0 where
+pub record IsSelection (s : Cluster) (r : ℕ) (query : CheckedQuery) (names : List Name) (rows : List (List Cell)) : Type 0 where
   pub parts : List NamedData
-  pub reading : IsReading t r parts
+  pub reading : IsReadingOf s r parts
   pub named : names ≡ names_in parts
-  pub answered : rows ≡ answer_of t.schema query (all_rows (data_in parts))
+  pub answered : rows ≡ answer_of s.table.schema query (all_rows (data_in parts))
 
 -- parts that are read at the replica, with their counts of granules
-pub record IsExplained (t : TableState) (r : ℕ) (query : CheckedQuery) (all : List (Name × ℕ × ℕ)) : Type 0 where
+pub record IsExplained (s : Cluster) (r : ℕ) (query : CheckedQuery) (all : List (Name × ℕ × ℕ)) : Type 0 where
   pub parts : List NamedData
-  pub reading : IsReading t r parts
+  pub reading : IsReadingOf s r parts
   pub counted : AreExplained query.filter (names_in parts) (data_in parts) all

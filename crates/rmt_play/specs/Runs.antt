@@ -8,8 +8,11 @@ use Rattle.rmt_sql.specs.declared.parsed.Parsed.TheVariants as parsed
 use Rattle.rmt_sql.specs.Script.{ReadsAt}
 use Rattle.rmt_reply.specs.declared.line.Line.{Line}
 use Rattle.rmt_reply.specs.Printed.{printed}
+use Rattle.rmt_events.specs.Clusters.{Cluster}
 use Rattle.rmt_play.specs.World.{World}
 use Rattle.rmt_play.specs.Plays.{Played, is_refused}
+use Rattle.rmt_play.specs.Shown.{AreShown, HandsBack}
+use Rattle.rmt_play.specs.declared.end.End.{End}
 
 -- the words are exactly `play`
 abbrev pub has_form : List (List ℕ) → Bool
@@ -31,8 +34,9 @@ pub record GivesScript (left : Option (List ℕ)) (P : List ℕ → Type 0) : Ty
 abbrev pub GivesScriptWithin : ℕ → Option (List ℕ) → (List ℕ → Type 0) → Type 0
 GivesScriptWithin limit left P = GivesScript left (λ script. (length script ≤ limit) × P script)
 
--- The whole script was played, its replies were written, and so many of its statements were refused.
-pub record PlayedWhole (script : List ℕ) (before after : Option (List ℕ)) (refused : ℕ) : Type 0 where
+-- The whole script was played, its replies were written, so many of its statements were refused, and these clusters show
+-- its tables.
+pub record PlayedWhole (script : List ℕ) (before after : Option (List ℕ)) (refused : ℕ) (clusters : List Cluster) : Type 0 where
   pub lines : List Line
   pub at : ℕ
   pub world : World
@@ -40,6 +44,7 @@ pub record PlayedWhole (script : List ℕ) (before after : Option (List ℕ)) (r
   pub ended : ReadsAt script at parsed.End
   pub written : Appends before after (output lines)
   pub counted : refused ≡ count_by is_refused lines
+  pub shown : AreShown clusters world.tables
 
 -- Some first statements of the script were played, and their replies were written.
 pub record PlayedInPart (before after : Option (List ℕ)) (script : List ℕ) : Type 0 where
@@ -60,3 +65,13 @@ pub record CutShort (before after : Option (List ℕ)) (script : List ℕ) : Typ
 -- the codes that there are
 abbrev pub IsCode : ℕ → Type 0
 IsCode code = (code ≡ 0) ⊎ (code ≡ 2) ⊎ (code ≡ 3) ⊎ (code ≡ 4) ⊎ (code ≡ 5) ⊎ (code ≡ 6) ⊎ (code ≡ 7)
+
+-- The whole script was played, and the clusters that show its tables are handed back.
+pub record PlayedToEnd (script : List ℕ) (before after : Option (List ℕ)) (refused : ℕ) (end : End) : Type 0 where
+  pub clusters : List Cluster
+  pub handed_back : HandsBack end clusters
+  pub played : PlayedWhole script before after refused clusters
+
+-- the codes of a script that is played
+abbrev pub IsPlayCode : ℕ → Type 0
+IsPlayCode code = (code ≡ 0) ⊎ (code ≡ 2) ⊎ (code ≡ 5) ⊎ (code ≡ 6)

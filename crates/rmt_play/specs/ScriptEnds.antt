@@ -1,5 +1,5 @@
 -- How the playing of a script ends, and how far it comes with one statement. No public clause cites this module.
-use Rattle.std.specs.Prelude.{◌≡◌, ◌⊎◌, ℕ, ◌<◌, ◌≤◌, List, length, Bool, true, false}
+use Rattle.std.specs.Prelude.{◌≡◌, ◌≢◌, ◌⊎◌, ℕ, ◌<◌, ◌≤◌, List, length, map, Bool, true, false}
 use Rattle.std.specs.declared.option.Option.{Option}
 use Rattle.std.specs.Io.KnownBytes.{Appends, Keeps}
 use Rattle.rmt_outside.specs.StreamBytes.{AppendsPrefix}
@@ -14,8 +14,11 @@ use Rattle.rmt_play.specs.declared.progress.Progress.TheVariants as progress
 use Rattle.rmt_play.specs.declared.script_end.ScriptEnd.{ScriptEnd}
 use Rattle.rmt_play.specs.declared.script_end.ScriptEnd.TheVariants as ends
 use Rattle.rmt_play.specs.declared.status.Status.{Status}
-use Rattle.rmt_play.specs.World.{World}
-use Rattle.rmt_play.specs.Plays.{Step, is_refused}
+use Rattle.rmt_events.specs.Clusters.{Cluster}
+use Rattle.rmt_play.specs.declared.end.End.{End}
+use Rattle.rmt_play.specs.declared.end.End.TheVariants as handed
+use Rattle.rmt_play.specs.Plays.{is_refused}
+use Rattle.rmt_play.specs.PlayerSteps.{PlayerView, Moves, Steps}
 use Rattle.rmt_play.specs.Runs.{PlayedWhole, PlayedInPart, CutShort}
 
 -- the outcome of a statement that was refused
@@ -24,25 +27,25 @@ is_refusal outcomes.Accepted = false
 is_refusal outcomes.Refused = true
 
 -- a statement was played and its reply written
-pub record AdvancesScript (script : List ℕ) (at : ℕ) (old new : World) (before after : Option (List ℕ)) (end : ℕ) (outcome : Outcome) : Type 0 where
+pub record AdvancesScript (script : List ℕ) (at : ℕ) (old new : PlayerView) (before after : Option (List ℕ)) (end : ℕ) (outcome : Outcome) : Type 0 where
   pub line : Line
-  pub step : Step script at old line end new
+  pub step : Moves old (Steps script at line end) new
   pub written : Appends before after (printed line)
   pub counted : is_refusal outcome ≡ is_refused line
   pub further : at < end
   pub within : end ≤ length script
 
 -- a statement was played, and a prefix of its reply was written
-pub record CutsReply (script : List ℕ) (at : ℕ) (old : World) (before after : Option (List ℕ)) : Type 0 where
+pub record CutsReply (script : List ℕ) (at : ℕ) (old : PlayerView) (before after : Option (List ℕ)) : Type 0 where
   pub line : Line
   pub end : ℕ
-  pub new : World
-  pub step : Step script at old line end new
+  pub new : PlayerView
+  pub step : Moves old (Steps script at line end) new
   pub written : AppendsPrefix before after (printed line)
 
 -- how far playing comes with the statement at a place
-abbrev pub IsProgress : List ℕ → ℕ → World → World → Option (List ℕ) → Option (List ℕ) → Progress → Type 0
-IsProgress script at old new before after progress.AtEnd = ReadsAt script at parsed.End × Keeps before after
+abbrev pub IsProgress : List ℕ → ℕ → PlayerView → PlayerView → Option (List ℕ) → Option (List ℕ) → Progress → Type 0
+IsProgress script at old new before after progress.AtEnd = ReadsAt script at parsed.End × Keeps before after × (new ≡ old)
 IsProgress script at old new before after (progress.On end outcome) =
     AdvancesScript script at old new before after end outcome
 IsProgress script at old new before after progress.WriteFault = CutsReply script at old before after
@@ -50,13 +53,24 @@ IsProgress script at old new before after progress.Memory = Keeps before after
 
 -- how the playing of a script ends
 abbrev pub IsScriptEnd : List ℕ → Option (List ℕ) → Option (List ℕ) → ScriptEnd → Type 0
-IsScriptEnd script before after (ends.Whole refused) = PlayedWhole script before after refused
+IsScriptEnd script before after (ends.Whole refused clusters) = PlayedWhole script before after refused clusters
 IsScriptEnd script before after ends.WriteFault = CutShort before after script
 IsScriptEnd script before after ends.Memory = PlayedInPart before after script
 
--- the code and the count of an end
-abbrev pub IsStatusOf : ScriptEnd → Status → Type 0
-IsStatusOf (ends.Whole refused) status =
-    (status.refused ≡ refused) × (((status.code ≡ 0) × (refused ≡ 0)) ⊎ ((status.code ≡ 2) × (0 < refused)))
-IsStatusOf ends.WriteFault status = (status.code ≡ 5) × (status.refused ≡ 0)
-IsStatusOf ends.Memory status = (status.code ≡ 6) × (status.refused ≡ 0)
+-- the end of a script that was played to its end by a player
+abbrev pub IsEndOf : PlayerView → ℕ → ScriptEnd → Type 0
+IsEndOf p count (ends.Whole refused clusters) = (refused ≡ count) × (clusters ≡ map (λ t. t.cluster) p.tables)
+IsEndOf p count ends.WriteFault = ⊥
+IsEndOf p count ends.Memory = Unit {0}
+
+-- the code and the count of an end, and the clusters, where there are any
+abbrev pub IsStatusOf : ScriptEnd → Status × List Cluster → Type 0
+IsStatusOf (ends.Whole refused clusters) x =
+    (x.0.refused ≡ refused) × (((x.0.code ≡ 0) × (refused ≡ 0)) ⊎ ((x.0.code ≡ 2) × (0 < refused))) × (x.1 ≡ clusters)
+IsStatusOf ends.WriteFault x = (x.0.code ≡ 5) × (x.0.refused ≡ 0)
+IsStatusOf ends.Memory x = (x.0.code ≡ 6) × (x.0.refused ≡ 0)
+
+-- clusters are handed back exactly where a script was played to its end
+abbrev pub IsHandedBack : ℕ → List Cluster → End → Type 0
+IsHandedBack code clusters (handed.Stepped given) = ((code ≡ 0) ⊎ (code ≡ 2)) × (given ≡ clusters)
+IsHandedBack code clusters handed.Nothing = (code ≢ 0) × (code ≢ 2)

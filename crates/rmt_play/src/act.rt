@@ -1,34 +1,42 @@
 //! Acts in their table at a replica.
-ghost use Rattle.std.specs.Prelude.{◌≡◌, ◌<◌, true, length, IfOk};
+ghost use Rattle.std.specs.Prelude.{◌≡◌, true, length, IfOk};
+ghost use Rattle.rmt_cluster.specs.Clusters.{IsNumber};
+ghost use Rattle.rmt_statement_model.specs.Shows.{IsIdle};
 ghost use Rattle.rmt_play.specs.Checks.{is_played_act};
-ghost use Rattle.rmt_play.specs.PlayerSteps.{ExecutesAct};
+ghost use Rattle.rmt_play.specs.PlayerSteps.{ExecutesIn};
 
+use crate::explain::explain_in;
 use crate::insert::insert_in;
-use crate::query::{explain_in, read_in, sync_in};
-use rmt_replicas::Table;
+use crate::select::{read_in, sync_in};
+use rmt_cluster::Cluster;
 use rmt_reply::Line;
 use rmt_statements::{Act, Mode};
+use rmt_values::ReplicaId;
 use std::alloc::{AllocError, Global};
 
-/// Does an act in its table at a replica, counted from 0, or refuses it.
+/// Does an act in its table at a replica, or refuses it.
 pub(crate) fn act_in(
     alloc: Global,
-    table: Table,
-    replica: usize,
+    cluster: &mut Cluster,
+    replica: ReplicaId,
     act: &Act,
-) -> Result<(Table, Line), AllocError>
-    requires there { replica < length table.known }
+) -> Result<Line, AllocError>
+    requires here { IsNumber replica (length cluster.old.replicas) }
+    requires idle { IsIdle cluster.old }
     requires played { is_played_act act.now ≡ true }
-    ensures { IfOk result (λ x. ExecutesAct table replica act.now x.1 x.0) }
+    ensures executes { IfOk result (λ line.
+        ExecutesIn cluster.old replica act.now line cluster.new) }
+    ensures idle { IfOk result (λ _. IsIdle cluster.new) }
+    ensures replicas { length cluster.new.replicas ≡ length cluster.old.replicas }
 {
     match act {
-        Act::Insert(insert) => insert_in(alloc, table, replica, insert),
+        Act::Insert(insert) => insert_in(alloc, cluster, replica, insert),
         Act::Select { query, mode, .. } => match mode {
-            Mode::Sync => sync_in(alloc, table, replica, query),
-            Mode::Plain => read_in(alloc, table, replica, query),
+            Mode::Sync => sync_in(alloc, cluster, replica, query),
+            Mode::Plain => read_in(alloc, cluster, replica, query),
             Mode::Sequential(_) => unreachable!(),
         },
-        Act::Explain { query, .. } => explain_in(alloc, table, replica, query),
+        Act::Explain { query, .. } => explain_in(alloc, cluster, replica, query),
         _ => unreachable!(),
     }
 }

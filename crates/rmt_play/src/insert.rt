@@ -1,17 +1,22 @@
 //! INSERT in its table.
-ghost use Rattle.std.specs.Prelude.{◌≡◌, ◌<◌, true, length, IfOk, IfErr};
+ghost use Rattle.std.specs.Prelude.{◌≡◌, ◌<◌, ◌^◌, true, length, IfOk, IfErr};
 ghost use Rattle.std.specs.List.{All};
 ghost use Rattle.rmt_values.specs.Rows.{fits};
+ghost use Rattle.rmt_block.specs.Splits.{IsSplit};
+ghost use Rattle.rmt_cluster.specs.Clusters.{IsNumber};
+ghost use Rattle.rmt_statement_model.specs.TableStates.{TableState};
+ghost use Rattle.rmt_statement_model.specs.Shows.{IsIdle, Shows, Leads};
 ghost use Rattle.rmt_statements.specs.declared.act.Act.TheVariants as acts;
-ghost use Rattle.rmt_play.specs.Acts.{InsertsRows};
-ghost use Rattle.rmt_play.specs.PlayerSteps.{HasRows, RefusesRows, ExecutesAct};
+ghost use Rattle.rmt_play.specs.InsertStatement.{InsertsRows};
+ghost use Rattle.rmt_play.specs.PlayerSteps.{HasRows, RefusesRows, ExecutesIn};
 
-use rmt_list::List;
-use rmt_replicas::Table;
-use rmt_reply::{Line, Piece, Refusal};
+use rmt_acts::{insert_blocks, schema_of};
+use rmt_block::{Block, split};
+use rmt_cluster::Cluster;
+use rmt_reply::{Line, Refusal};
 use rmt_sql_rows::{RowsError, rows_of};
 use rmt_statements::Insert;
-use rmt_values::{Row, Schema};
+use rmt_values::{ReplicaId, Row, Schema};
 use std::alloc::{AllocError, Global};
 
 /// The rows of an INSERT, or why they are refused.
@@ -33,42 +38,54 @@ fn rows_to_insert(
     }
 }
 
-/// Inserts rows as a block; none where there are no rows.
+/// The blocks of rows. No memory has more rows than a block can count.
+fn blocks_of(alloc: Global, rows: Vec<Row>, schema: &Schema) -> Result<Vec<Block>, AllocError>
+    requires fit { All (λ row. fits schema.now.columns row ≡ true) rows.items }
+    ensures split { IfOk result (λ blocks. IsSplit schema.now rows.items blocks.items) }
+{
+    if u32::try_from(rows.len()).is_err() {
+        return Err(AllocError);
+    }
+    split(alloc, rows, schema)
+}
+
+/// Inserts rows: a block for each partition.
 fn insert_rows(
     alloc: Global,
-    table: Table,
-    replica: usize,
+    cluster: &mut Cluster,
+    replica: ReplicaId,
     rows: Vec<Row>,
-) -> Result<(Table, Line), AllocError>
-    requires there { replica < length table.known }
-    requires fit { All (λ row. fits table.schema.columns row ≡ true) rows.items }
-    ensures { IfOk result (λ x. InsertsRows table replica rows.items x.1 x.0) }
+) -> Result<Line, AllocError>
+    requires here { IsNumber replica (length cluster.old.replicas) }
+    requires idle { IsIdle cluster.old }
+    requires fit { All (λ row. fits cluster.old.table.schema.columns row ≡ true) rows.items }
+    ensures inserts { IfOk result (λ line. (t : TableState) → Shows cluster.old t
+        → Leads cluster.new (InsertsRows t replica rows.items line)) }
+    ensures idle { IfOk result (λ _. IsIdle cluster.new) }
+    ensures replicas { length cluster.new.replicas ≡ length cluster.old.replicas }
 {
-    let mut pieces = Vec::new(alloc);
-    if rows.is_empty() {
-        let pieces = List::new(pieces);
-        let refused = None;
-        return Ok((table, Line::Inserted { pieces, refused }));
-    }
-    let (table, part) = table.insert(alloc, replica, rows)?;
-    pieces.push(Piece::Part(part))?;
-    let pieces = List::new(pieces);
-    let refused = None;
-    Ok((table, Line::Inserted { pieces, refused }))
+    let blocks = blocks_of(alloc, rows, schema_of(cluster))?;
+    let insertion = insert_blocks(alloc, cluster, replica, blocks)?;
+    let (pieces, refused) = (insertion.pieces, insertion.refused);
+    Ok(Line::Inserted { pieces, refused })
 }
 
 /// Inserts the rows of an INSERT, or refuses them.
 pub(crate) fn insert_in(
     alloc: Global,
-    table: Table,
-    replica: usize,
+    cluster: &mut Cluster,
+    replica: ReplicaId,
     insert: &Insert,
-) -> Result<(Table, Line), AllocError>
-    requires there { replica < length table.known }
-    ensures { IfOk result (λ x. ExecutesAct table replica (acts.Insert insert.now) x.1 x.0) }
+) -> Result<Line, AllocError>
+    requires here { IsNumber replica (length cluster.old.replicas) }
+    requires idle { IsIdle cluster.old }
+    ensures executes { IfOk result (λ line.
+        ExecutesIn cluster.old replica (acts.Insert insert.now) line cluster.new) }
+    ensures idle { IfOk result (λ _. IsIdle cluster.new) }
+    ensures replicas { length cluster.new.replicas ≡ length cluster.old.replicas }
 {
-    match rows_to_insert(alloc, insert, table.schema())? {
-        Ok(rows) => insert_rows(alloc, table, replica, rows),
-        Err(refusal) => Ok((table, Line::Refused(refusal))),
+    match rows_to_insert(alloc, insert, schema_of(cluster))? {
+        Ok(rows) => insert_rows(alloc, cluster, replica, rows),
+        Err(refusal) => Ok(Line::Refused(refusal)),
     }
 }

@@ -1,7 +1,7 @@
-ghost use Rattle.std.specs.Prelude.{◌≡◌, ◌<◌, ◌∷◌, suc, [], true, false, length, IfOk, IfErr};
-ghost use Rattle.std.specs.declared.option.Option.TheVariants.{Some};
-ghost use Rattle.rmt_play.specs.World.{start as start_of_all};
-ghost use Rattle.rmt_values.specs.Rows.{is_empty};
+ghost use Rattle.std.specs.Prelude.{◌≡◌, ◌≤◌, ◌<◌, ◌∷◌, [], true, length, map, IfOk, IfErr, MatchResult};
+ghost use Rattle.std.specs.declared.option.Option.TheVariants.{Some, None};
+ghost use Rattle.rmt_values.specs.Rows.{Shape, is_empty};
+ghost use Rattle.rmt_cluster.specs.Clusters.{IsNumber};
 ghost use Rattle.rmt_play.specs.Checks.{
   first_of,
   is_played as statement_test,
@@ -11,14 +11,17 @@ ghost use Rattle.rmt_play.specs.Checks.{
   too_many_tables,
   replica_at,
   unknown_replica,
-  table_named,
 };
-ghost use Rattle.rmt_play.specs.Plays.{Counts, Creates, ExecutesStatement};
+ghost use Rattle.rmt_play.specs.Plays.{Counts, Creates};
 ghost use Rattle.rmt_play.specs.PlayerSteps.{
   ActsAt,
   IsCount,
   IsFound,
   IsCreateRefusal,
+  IsEmptyPlayer,
+  IsNewTable,
+  Moves,
+  Executes,
   ExecutesCreate,
   ExecutesPlayed,
   ExecutesSent,
@@ -29,11 +32,11 @@ use crate::forms::{is_played_act, table_of};
 use crate::named_table::NamedTable;
 use crate::replicas::replica_named;
 use crate::schema::new_schema;
+use rmt_cluster::Cluster;
 use rmt_list::List;
-use rmt_replicas::Table;
 use rmt_reply::{Line, Refusal};
 use rmt_statements::{Act, Sent, Statement};
-use rmt_values::{Column, Limit, Name, Schema, SchemaError};
+use rmt_values::{Column, Limit, Name, ReplicaId, Schema, SchemaError};
 use std::alloc::{AllocError, Global};
 use std::marker::Model;
 use std::sync::Arc;
@@ -44,7 +47,7 @@ const MOST_TABLES: usize = 4;
 /// The most replicas.
 const MOST_REPLICAS: u8 = 8;
 
-/// The replicas, and the tables at them. Contracts see the world that the statements so far have made.
+/// The replicas, and the clusters of the tables. Every replica is up.
 #[derive(Drop)]
 pub(crate) struct Player {
     replicas: u8,
@@ -52,18 +55,18 @@ pub(crate) struct Player {
 }
 
 impl Model for Player {
-    ghost use Rattle.rmt_play.specs.World.{World};
-    ghost use Rattle.rmt_play.specs.PlayerSteps.{IsSoundWorld};
+    ghost use Rattle.rmt_play.specs.PlayerSteps.{PlayerView, IsSoundPlayer};
     ghost use Rattle.std.specs.Coded.{codes};
     ghost use Rattle.rmt_values.specs.contracts.checked.Checked as filter;
+    ghost use Rattle.rmt_tree.specs.Trees.{tree_code};
 
-    ghost Value = { World };
+    ghost Value = { PlayerView };
 
-    ghost coded = { Prim.hlevel (codes, filter.the_row.coded) };
+    ghost coded = { Prim.hlevel (codes, filter.the_row.coded, tree_code) };
 
     ghost view = { λ p. record { replicas = p.replicas; tables = p.tables.items } };
 
-    ghost invariant = { λ p. IsSoundWorld (record { replicas = p.replicas; tables = p.tables.items }) };
+    ghost invariant = { λ p. IsSoundPlayer (record { replicas = p.replicas; tables = p.tables.items }) };
 }
 
 /// The place of the table of this name.
@@ -79,10 +82,21 @@ fn place_of(tables: &[NamedTable], name: &Name) -> Option<usize>
     None
 }
 
+/// The cluster of a new table at so many replicas, all of them up.
+fn new_cluster(alloc: Global, schema: Schema, replicas: u8) -> Result<Cluster, AllocError>
+    requires some { 0 < replicas }
+    requires few { replicas ≤ 8 }
+    ensures { IfOk result (IsNewTable schema replicas) }
+{
+    let schema = Arc::new(alloc, schema)?;
+    let up = [true; 8];
+    Cluster::new(alloc, schema, up.split_at(usize::from(replicas)).0)
+}
+
 impl Player {
     /// One with two replicas and no table.
     pub(crate) fn new(alloc: Global) -> Player
-        ensures { result ≡ start_of_all }
+        ensures { IsEmptyPlayer result }
     {
         Player {
             replicas: 2,
@@ -94,7 +108,7 @@ impl Player {
     fn count(&mut self, count: u8) -> Line
         requires empty { is_empty self.old.tables ≡ true }
         requires range { IsCount count }
-        ensures { Counts self.old count result self.new }
+        ensures { Moves self.old (λ w v. Counts w count result v) self.new }
     {
         self.replicas = count;
         Line::Okay
@@ -102,7 +116,7 @@ impl Player {
 
     /// The refusal of another table, where there are as many as there may be.
     fn full(&self) -> Option<Refusal>
-        ensures { result ≡ too_many_tables self.now.tables }
+        ensures { result ≡ too_many_tables (length self.now.tables) }
     {
         let value = self.tables.len();
         if value < MOST_TABLES {
@@ -117,8 +131,8 @@ impl Player {
     /// Why no table is made of a schema that is refused.
     fn refusal_of(&self, error: SchemaError) -> Refusal
         requires { IsCreateRefusal error }
-        ensures { first_of (refused_schema (Some error)
-            ∷ too_many_tables self.now.tables ∷ refused_columns (Some error) ∷ []) ≡ Some result }
+        ensures { first_of (refused_schema (Some error) ∷ too_many_tables (length self.now.tables)
+            ∷ refused_columns (Some error) ∷ []) ≡ Some result }
     {
         match error {
             SchemaError::UnknownColumn(name) => Refusal::UnknownColumn(name),
@@ -134,31 +148,29 @@ impl Player {
 
     /// Adds a table without rows.
     fn add(&mut self, alloc: Global, name: Name, schema: Schema) -> Result<Line, AllocError>
-        ensures { IfOk result (λ line. Creates self.old name schema line self.new) }
+        ensures { IfOk result (λ line. Moves self.old (λ w v. Creates w name schema line v) self.new) }
     {
-        let schema = Arc::new(alloc, schema)?;
-        let table = Table::new(alloc, schema, self.replicas)?;
-        self.tables.push(NamedTable { name, table })?;
+        let cluster = new_cluster(alloc, schema, self.replicas)?;
+        self.tables.push(NamedTable { name, cluster })?;
         Ok(Line::Okay)
     }
 
-    /// Makes a table, or refuses to.
+    /// Makes a table of a schema, or refuses to.
     fn create(
         &mut self,
         alloc: Global,
         table: Name,
-        columns: List<Column>,
-        key: List<Name>,
-        granularity: Option<u128>,
+        made: Result<Schema, SchemaError>,
     ) -> Result<Line, AllocError>
-        requires { is_empty columns ≡ false }
-        ensures { IfOk result (λ line.
-            ExecutesCreate self.old table columns key granularity line self.new) }
+        requires { IfErr made IsCreateRefusal }
+        ensures { IfOk result (λ line. MatchResult made
+            (λ schema. Moves self.old (ExecutesCreate table None schema line) self.new)
+            (λ e. Moves self.old (λ w v. (schema : Shape) → ExecutesCreate table (Some e) schema line w v) self.new)) }
     {
         if place_of(&self.tables, &table).is_some() {
             return Ok(Line::Refused(Refusal::TableExists(table)));
         }
-        match new_schema(alloc, columns, key, granularity)? {
+        match made {
             Err(error) => Ok(Line::Refused(self.refusal_of(error))),
             Ok(schema) => match self.full() {
                 Some(refusal) => Ok(Line::Refused(refusal)),
@@ -167,48 +179,51 @@ impl Player {
         }
     }
 
-    /// The place of the replica of this name, counted from 0, the first one where none is named, or the refusal of one
-    /// that isn't there.
-    fn replica(&self, name: &Option<Name>) -> Result<Result<usize, Refusal>, AllocError>
+    /// The number of the replica of this name, the first one where none is named, or the refusal of one that isn't there.
+    fn replica(&self, name: &Option<Name>) -> Result<Result<ReplicaId, Refusal>, AllocError>
         ensures at { IfOk result (λ found.
-            IfOk found (λ r. replica_at self.now name.now ≡ Some (suc r))) }
-        ensures there { IfOk result (λ found. IfOk found (λ r. r < self.now.replicas)) }
+            IfOk found (λ r. replica_at self.now.replicas name.now ≡ Some r)) }
+        ensures there { IfOk result (λ found. IfOk found (λ r. IsNumber r self.now.replicas)) }
         ensures refused { IfOk result (λ found.
-            IfErr found (λ e. unknown_replica self.now name.now ≡ Some e)) }
+            IfErr found (λ e. unknown_replica self.now.replicas name.now ≡ Some e)) }
     {
         let count = self.replicas;
         let Some(name) = name else {
-            return Ok(Ok(0));
+            return Ok(Ok(1));
         };
         match replica_named(name, count) {
-            Some(number) => Ok(Ok(usize::from(number) - 1)),
+            Some(number) => Ok(Ok(number)),
             None => Ok(Err(Refusal::UnknownReplica(name.copy()?))),
         }
     }
 
-    /// Does an act in the table at a place, or refuses it. At an error no memory was left, and the table is gone.
+    /// Does an act in the table at a place, or refuses it. At an error no memory was left, and the tables are gone.
     fn act(
         &mut self,
         alloc: Global,
         place: usize,
-        replica: usize,
+        replica: ReplicaId,
         act: &Act,
     ) -> Result<Line, AllocError>
         requires place { place < length self.old.tables }
-        requires replica { replica < self.old.replicas }
+        requires replica { IsNumber replica self.old.replicas }
         requires played { act_test act.now ≡ true }
         ensures { IfOk result (λ line. ActsAt self.old place replica act.now line self.new) }
     {
-        let NamedTable { name, table } = self.tables.remove(place);
-        let (table, line) = act_in(alloc, table, replica, act)?;
-        self.tables.insert(place, NamedTable { name, table })?;
-        Ok(line)
+        match act_in(alloc, &mut self.tables[place].cluster, replica, act) {
+            Ok(line) => Ok(line),
+            Err(error) => {
+                // A table in which an act stopped halfway isn't idle.
+                self.tables.clear();
+                Err(error)
+            }
+        }
     }
 
     /// Plays what is sent to a replica.
     fn send(&mut self, alloc: Global, sent: &Sent) -> Result<Line, AllocError>
         requires { act_test sent.now.act ≡ true }
-        ensures { IfOk result (λ line. ExecutesSent self.old sent.now line self.new) }
+        ensures { IfOk result (λ line. Moves self.old (ExecutesSent sent.now line) self.new) }
     {
         let table = table_of(&sent.act);
         let Some(place) = place_of(&self.tables, table) else {
@@ -225,18 +240,13 @@ impl Player {
 
     /// Whether the statement is of a form that is played.
     fn is_played(&self, statement: &Statement) -> bool
-        ensures { result ≡ statement_test self.now statement.now }
+        ensures { result ≡ statement_test (length self.now.tables) statement.now }
     {
         match statement {
             Statement::Replicas { count } => {
                 1 <= *count && *count <= MOST_REPLICAS && self.tables.is_empty()
             }
-            Statement::Create {
-                columns,
-                partition,
-                window,
-                ..
-            } => !columns.as_slice().is_empty() && partition.is_none() && window.is_none(),
+            Statement::Create { columns, .. } => !columns.as_slice().is_empty(),
             Statement::At(sent) => is_played_act(&sent.act),
             _ => false,
         }
@@ -244,19 +254,22 @@ impl Player {
 
     /// Plays a statement of a form that is played.
     fn perform(&mut self, alloc: Global, statement: Statement) -> Result<Line, AllocError>
-        requires { statement_test self.old statement ≡ true }
-        ensures { IfOk result (λ line. ExecutesPlayed self.old statement line self.new) }
+        requires { statement_test (length self.old.tables) statement ≡ true }
+        ensures { IfOk result (λ line. Moves self.old (ExecutesPlayed statement line) self.new) }
     {
         match statement {
             Statement::Replicas { count } => Ok(self.count(count)),
             Statement::Create {
                 table,
                 columns,
-                partition: _partition,
+                partition,
                 key,
                 granularity,
-                window: _window,
-            } => self.create(alloc, table, columns, key, granularity),
+                window,
+            } => {
+                let made = new_schema(alloc, columns, partition, key, granularity, window)?;
+                self.create(alloc, table, made)
+            }
             Statement::At(sent) => self.send(alloc, &sent),
             _other => unreachable!(),
         }
@@ -269,12 +282,23 @@ impl Player {
         statement: Statement,
         start: usize,
     ) -> Result<Line, AllocError>
-        ensures { IfOk result (λ line. ExecutesStatement self.old statement start line self.new) }
+        ensures { IfOk result (λ line. Moves self.old (Executes statement start line) self.new) }
     {
         if self.is_played(&statement) {
             self.perform(alloc, statement)
         } else {
             Ok(Line::Refused(Refusal::Syntax { offset: start }))
         }
+    }
+
+    /// The clusters of the tables, in their order. At an error no memory was left.
+    pub(crate) fn into_clusters(self, alloc: Global) -> Result<List<Cluster>, AllocError>
+        ensures { IfOk result (λ clusters. clusters ≡ map (λ t. t.cluster) self.tables) }
+    {
+        let mut clusters = Vec::with_capacity(alloc, self.tables.len())?;
+        'tables: for table in self.tables {
+            clusters.push(table.cluster)?;
+        }
+        Ok(List::new(clusters))
     }
 }

@@ -1,10 +1,8 @@
 //! The schema of a new table.
 ghost use Rattle.std.specs.Prelude.{◌≡◌, ◌↔◌, IfOk, IfErr, IsTrue};
-ghost use Rattle.std.specs.declared.option.Option.TheVariants.{Some, None};
+ghost use Rattle.std.specs.declared.option.Option.TheVariants.{None, Some};
 ghost use Rattle.rmt_values.specs.declared.schema_error.SchemaError.TheVariants.{Memory};
-ghost use Rattle.rmt_values.specs.Schemas.{schema_refusal, shape_of};
-ghost use Rattle.rmt_play.specs.Checks.{granularity_of, default_window};
-ghost use Rattle.rmt_play.specs.PlayerSteps.{IsClipped};
+ghost use Rattle.rmt_play.specs.Checks.{setting_of, rule_given, schema_refused, schema_made};
 
 use rmt_list::List;
 use rmt_values::{Column, Name, Schema, SchemaError};
@@ -13,21 +11,34 @@ use std::alloc::{AllocError, Global};
 /// The rows of a granule, where no number is given.
 const DEFAULT_GRANULARITY: u32 = 8192;
 
-/// The blocks that the window of insert deduplication keeps.
+/// The blocks that the window of insert deduplication keeps, where no number is given.
 const DEFAULT_WINDOW: u32 = 100;
 
-/// The rows of a granule. A number out of range is refused, and so is the greatest one of 32 bits in its place.
-fn clipped(granularity: Option<u128>) -> u32
-    ensures { IsClipped (granularity_of granularity) result }
+/// The number of a setting. One of more than 32 bits counts as the greatest, which is refused.
+fn setting(default: u32, number: Option<u128>) -> u32
+    ensures { result ≡ setting_of default number }
 {
-    match granularity {
-        None => DEFAULT_GRANULARITY,
-        Some(rows) => {
-            if rows <= 65_536 {
-                rows as u32
+    match number {
+        None => default,
+        Some(number) => {
+            if number < 1 << 32 {
+                number as u32
             } else {
                 u32::MAX
             }
+        }
+    }
+}
+
+/// The partition rule. A divisor of more than 64 bits counts as 0, which is refused.
+fn rule(partition: Option<(Name, u128)>) -> Option<(Name, u64)>
+    ensures { result ≡ rule_given partition }
+{
+    match partition {
+        None => None,
+        Some((column, divisor)) => {
+            let divisor = if divisor < 1 << 64 { divisor as u64 } else { 0 };
+            Some((column, divisor))
         }
     }
 }
@@ -43,26 +54,22 @@ fn is_memory(error: &SchemaError) -> bool
 pub(crate) fn new_schema(
     alloc: Global,
     columns: List<Column>,
+    partition: Option<(Name, u128)>,
     key: List<Name>,
     granularity: Option<u128>,
+    window: Option<u128>,
 ) -> Result<Result<Schema, SchemaError>, AllocError>
     ensures ok { IfOk result (λ made. IfOk made (λ schema. schema
-        ≡ shape_of columns key None (granularity_of granularity) default_window)) }
+        ≡ schema_made columns partition key granularity window)) }
     ensures known { IfOk result (λ made. IfOk made (λ _.
-        schema_refusal columns key None (granularity_of granularity) default_window ≡ None)) }
+        schema_refused columns partition key granularity window ≡ None)) }
     ensures refused { IfOk result (λ made. IfErr made (λ e.
-        schema_refusal columns key None (granularity_of granularity) default_window ≡ Some e)) }
+        schema_refused columns partition key granularity window ≡ Some e)) }
 {
-    let columns = columns.into_vec();
-    let key = key.into_vec();
-    match Schema::new(
-        alloc,
-        columns,
-        key,
-        None,
-        clipped(granularity),
-        DEFAULT_WINDOW,
-    ) {
+    let granularity = setting(DEFAULT_GRANULARITY, granularity);
+    let window = setting(DEFAULT_WINDOW, window);
+    let (columns, key) = (columns.into_vec(), key.into_vec());
+    match Schema::new(alloc, columns, key, rule(partition), granularity, window) {
         Ok(schema) => Ok(Ok(schema)),
         Err(error) if is_memory(&error) => Err(AllocError),
         Err(refusal) => Ok(Err(refusal)),

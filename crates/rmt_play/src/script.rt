@@ -14,12 +14,13 @@ ghost use Rattle.std.specs.Prelude.{
 };
 ghost use Rattle.rmt_sql.specs.declared.parsed.Parsed.TheVariants as parsed;
 ghost use Rattle.rmt_sql.specs.Script.{ReadsAt};
-ghost use Rattle.rmt_play.specs.Plays.{Step, is_refused};
+ghost use Rattle.rmt_play.specs.Plays.{is_refused};
+ghost use Rattle.rmt_play.specs.PlayerSteps.{Moves, Steps};
 ghost use Rattle.rmt_reply.specs.Printed.{printed};
 ghost use Rattle.rmt_play.specs.declared.progress.Progress.TheVariants as progress;
 ghost use Rattle.rmt_play.specs.declared.script_end.ScriptEnd.TheVariants as ends;
 ghost use Rattle.rmt_outside.specs.Faults.{Rose};
-ghost use Rattle.rmt_play.specs.ScriptEnds.{is_refusal, IsProgress, IsScriptEnd};
+ghost use Rattle.rmt_play.specs.ScriptEnds.{is_refusal, IsProgress, IsEndOf, IsScriptEnd};
 
 use crate::outcome::Outcome;
 use crate::player::Player;
@@ -66,8 +67,9 @@ fn next_line(
     at: usize,
 ) -> Result<Option<(Line, usize)>, AllocError>
     requires { at ≤ length script.now }
-    ensures step { IfOk result (λ next. MatchOption next (ReadsAt script.now at parsed.End)
-        (λ x. Step script.now at player.old x.0 x.1 player.new)) }
+    ensures step { IfOk result (λ next. MatchOption next
+        (ReadsAt script.now at parsed.End × (player.new ≡ player.old))
+        (λ x. Moves player.old (Steps script.now at x.0 x.1) player.new)) }
     ensures further { IfOk result (λ next. IfSome next (λ x.
         (at < x.1) × (x.1 ≤ length script.now))) }
 {
@@ -120,6 +122,16 @@ fn play_next<K: Sink>(
     }
 }
 
+/// The end of a script that was played to its end, with so many statements refused.
+fn end_of(alloc: Global, player: Player, refused: u64) -> ScriptEnd
+    ensures { IsEndOf player refused result }
+{
+    match player.into_clusters(alloc) {
+        Ok(clusters) => ScriptEnd::Whole { refused, clusters },
+        Err(AllocError) => ScriptEnd::Memory,
+    }
+}
+
 /// Plays a script to its end, each reply written before the next statement begins.
 pub(crate) fn play<K: Sink>(alloc: Global, script: &[u8], sink: &mut K) -> ScriptEnd
     ensures end { IsScriptEnd script.now (K.written sink.old) (K.written sink.new) result }
@@ -132,7 +144,7 @@ pub(crate) fn play<K: Sink>(alloc: Global, script: &[u8], sink: &mut K) -> Scrip
     let mut refused = 0;
     'statements: loop {
         match play_next(alloc, &mut player, script, at, sink) {
-            Progress::AtEnd => return ScriptEnd::Whole { refused },
+            Progress::AtEnd => return end_of(alloc, player, refused),
             Progress::On { end, outcome } => {
                 at = end;
                 refused = counted(refused, outcome);

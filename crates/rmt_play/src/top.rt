@@ -1,4 +1,4 @@
-ghost use Rattle.std.specs.Prelude.{◌≡◌, ◌≢◌, ◌⊎◌, ◌≤◌, ◌<◌, ◌+◌, ◌↔◌, map, false};
+ghost use Rattle.std.specs.Prelude.{◌≡◌, ◌≢◌, ◌⊎◌, ◌≤◌, ◌<◌, ◌+◌, ◌↔◌, length, map, false};
 ghost use Rattle.std.specs.String.{string_bytes};
 ghost use Rattle.std.specs.Io.KnownBytes.{IsAtEnd};
 ghost use Rattle.rmt_outside.specs.Faults.{Rose};
@@ -8,17 +8,23 @@ ghost use Rattle.rmt_play.specs.Runs.{
   GivesScript,
   GivesScriptWithin,
   PlayedWhole,
+  PlayedToEnd,
   PlayedInPart,
   CutShort,
   IsCode,
+  IsPlayCode,
 };
-ghost use Rattle.rmt_play.specs.ScriptEnds.{IsStatusOf};
+ghost use Rattle.rmt_play.specs.declared.end.End.TheVariants as ends;
+ghost use Rattle.rmt_play.specs.ScriptEnds.{IsStatusOf, IsHandedBack};
 
 use crate::end::End;
+use crate::printing::Printing;
 use crate::script::play;
 use crate::script_end::ScriptEnd;
 use crate::status::Status;
 use crate::words::{has_form, read_words};
+use rmt_cluster::Cluster;
+use rmt_list::List;
 use rmt_outside::{Gate, ReadError, Sink, Source, read_all};
 use std::alloc::Global;
 
@@ -32,17 +38,61 @@ fn ended(code: u8) -> Status
     Status { code, refused: 0 }
 }
 
-/// The status of a script that was played.
-fn status_of(end: ScriptEnd) -> Status
+/// The status of a script that was played, and its clusters; none where it wasn't played to its end.
+fn status_of(alloc: Global, end: ScriptEnd) -> (Status, List<Cluster>)
     ensures { IsStatusOf end result }
 {
     match end {
-        ScriptEnd::Whole { refused } => Status {
-            code: if refused == 0 { 0 } else { 2 },
-            refused,
-        },
-        ScriptEnd::WriteFault => ended(5),
-        ScriptEnd::Memory => ended(6),
+        ScriptEnd::Whole { refused, clusters } => {
+            let code = if refused == 0 { 0 } else { 2 };
+            (Status { code, refused }, clusters)
+        }
+        ScriptEnd::WriteFault => (ended(5), List::new(Vec::new(alloc))),
+        ScriptEnd::Memory => (ended(6), List::new(Vec::new(alloc))),
+    }
+}
+
+/// Plays a script, one statement after the other, and writes the replies to `sink`. The script has at most the longest
+/// length. At code 0 and 2 the clusters of its tables are handed back, in the order in which they were created; at code 5
+/// and 6 there are none.
+pub fn play_stepped<K: Sink>(
+    alloc: Global,
+    script: &[u8],
+    _printing: Printing,
+    sink: &mut K,
+) -> (Status, List<Cluster>)
+    requires { length script.now ≤ LONGEST }
+
+    // The script was played to its end; none of its statements were refused, or some.
+    ensures accepted { result.0.code ≡ 0
+        → PlayedWhole script.now (K.written sink.old) (K.written sink.new) 0 result.1 }
+    ensures refused { result.0.code ≡ 2 → PlayedWhole script.now (K.written sink.old)
+        (K.written sink.new) result.0.refused result.1 }
+    ensures some_refused { result.0.code ≡ 2 → 0 < result.0.refused }
+    ensures none_refused { result.0.code ≢ 2 → result.0.refused ≡ 0 }
+
+    // A write fault, or out of memory: a prefix of an allowed output was written.
+    ensures cut_short { result.0.code ≡ 5
+        → CutShort (K.written sink.old) (K.written sink.new) script.now }
+    ensures memory { result.0.code ≡ 6
+        → PlayedInPart (K.written sink.old) (K.written sink.new) script.now }
+
+    ensures write_fault { result.0.code ≡ 5 → Rose (K.faults sink.old) (K.faults sink.new) }
+    ensures no_write_fault { result.0.code ≢ 5 → K.faults sink.new ≡ K.faults sink.old }
+    ensures codes { IsPlayCode result.0.code }
+    ensures sink_faults { K.faults sink.old ≤ K.faults sink.new }
+{
+    let end = play(alloc, script, sink);
+    status_of(alloc, end)
+}
+
+/// What is handed back of a script that was played.
+fn handed_back(status: &Status, clusters: List<Cluster>) -> End
+    ensures { IsHandedBack status.now.code clusters result }
+{
+    match status.code {
+        0 | 2 => End::Stepped(clusters),
+        _ => End::Nothing,
     }
 }
 
@@ -59,11 +109,12 @@ pub fn run<S: Source, K: Sink, G: Gate + Sync>(
 ) -> (Status, End)
     // The script was played to its end; none of its statements were refused, or some.
     ensures accepted { result.0.code ≡ 0 → GivesScriptWithin LONGEST (S.left source.old)
-        (λ script. PlayedWhole script (K.written sink.old) (K.written sink.new) 0) }
+        (λ script. PlayedToEnd script (K.written sink.old) (K.written sink.new) 0 result.1) }
     ensures refused { result.0.code ≡ 2 → GivesScriptWithin LONGEST (S.left source.old)
-        (λ script. PlayedWhole script (K.written sink.old) (K.written sink.new) result.0.refused) }
+        (λ script. PlayedToEnd script (K.written sink.old) (K.written sink.new) result.0.refused result.1) }
     ensures some_refused { result.0.code ≡ 2 → 0 < result.0.refused }
     ensures none_refused { result.0.code ≢ 2 → result.0.refused ≡ 0 }
+    ensures nothing { result.0.code ≢ 0 → result.0.code ≢ 2 → result.1 ≡ ends.Nothing }
 
     // The words have no form: nothing is read.
     ensures words { (result.0.code ≡ 3) ↔ (form_test (map string_bytes words.now) ≡ false) }
@@ -115,5 +166,7 @@ pub fn run<S: Source, K: Sink, G: Gate + Sync>(
         Err(ReadError::TooLong) => return (ended(7), End::Nothing),
         Err(ReadError::Memory) => return (ended(6), End::Nothing),
     };
-    (status_of(play(alloc, &script, sink)), End::Nothing)
+    let (status, clusters) = play_stepped(alloc, &script, Printing::Full, sink);
+    let end = handed_back(&status, clusters);
+    (status, end)
 }

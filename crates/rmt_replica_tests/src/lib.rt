@@ -7,5 +7,3 @@ mod log_copies;
 mod replica;
 #[cfg(test)]
 mod snapshots;
-#[cfg(test)]
-mod tables;

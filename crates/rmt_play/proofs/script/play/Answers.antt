@@ -1,5 +1,7 @@
-use Rattle.std.proofs.Common.{◌∙◌, arith}
-use Rattle.rmt_play.proofs.ScriptLemmas.{so_far_on, so_far_short}
+use Rattle.std.proofs.Common.{◌∙◌, arith, subst}
+use Rattle.rmt_play.proofs.ScriptLemmas.{so_far_on, so_far_short, ends-whole}
+use Rattle.rmt_play.specs.PlayerSteps.{PlayerView}
+use Rattle.rmt_play.specs.ScriptEnds.{IsEndOf}
 use Rattle.rmt_play.proofs.script.play.Goals as goal
 
 pub statements-preserved : goal.statements-preserved
@@ -18,3 +20,9 @@ statements-preserved g c =
 pub returns-in-WriteFault-clause-end : goal.returns-in-WriteFault-clause-end
 returns-in-WriteFault-clause-end g c =
     so_far_short c.args.script.now c.statements.at c.statements.player _ _ _ c.statements.refused c.statements.invariant.so_far c.in-WriteFault.ensures.progress
+
+pub returns-in-AtEnd-clause-end : goal.returns-in-AtEnd-clause-end
+returns-in-AtEnd-clause-end g c =
+    let (ended, keeps, same) = c.in-AtEnd.ensures.progress in
+    ends-whole c.args.script.now c.statements.at c.statements.player _ _ _ c.statements.refused c.end_of.result c.statements.invariant.so_far ended keeps
+    (subst (λ (p : PlayerView). IsEndOf p c.statements.refused c.end_of.result) same c.end_of.ensures)

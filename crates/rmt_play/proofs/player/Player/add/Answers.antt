@@ -1,16 +1,14 @@
-use Rattle.std.proofs.Common.{◌≡◌, ◌∙◌, Bool, List, [], length, ap, sym, subst}
-use Rattle.rmt_model.specs.Words.{Each}
-use Rattle.rmt_replicas.specs.Tables.{TableState}
-use Rattle.rmt_play.specs.World.{Table}
-use Rattle.rmt_play.proofs.TableLemmas.{Each-last, length-replicate}
+use Rattle.std.proofs.Common.{◌∙◌, List, [], ◌∷◌, ◌++◌, ap, sym, subst}
+use Rattle.rmt_play.specs.Plays.{Creates}
+use Rattle.rmt_play.specs.PlayerSteps.{NamedCluster, PlayerView, Moves}
+use Rattle.rmt_reply.specs.declared.line.Line.TheVariants as lines
+use Rattle.rmt_play.proofs.CreateLemmas.{adds}
 use Rattle.rmt_play.proofs.player.Player.add.Goals as goal
 
-pub invariant_of-self-2 : goal.invariant_of-self-2
-invariant_of-self-2 c =
-    let known = ap (λ (t : TableState). length t.known) c.in_ok-table.ensures ∙ length-replicate {A = List Bool} c.self.inside.replicas [] in
-    record {
-      some = c.self.invariant.some;
-      few = c.self.invariant.few;
-      known = subst (Each (λ (t : Table). length t.state.known ≡ c.self.inside.replicas)) (sym c.in_ok-push.ensures.items)
-          (Each-last (λ (t : Table). length t.state.known ≡ c.self.inside.replicas) c.self.inside.tables.items _ c.self.invariant.known known);
-    }
+pub returns : goal.returns
+returns c =
+    let named : NamedCluster = record { name = c.args.name; cluster = c.in_ok-cluster.cluster } in
+    let view = ap (λ (p : PlayerView). record p { tables = p.tables ++ named ∷ [] }) (sym c.self.view_is) in
+    let items = ap (λ (ts : List NamedCluster). record { replicas = c.self.inside.replicas; tables = ts }) (sym c.in_ok-push.ensures.items) in
+    subst (Moves c.args.self.now (λ w v. Creates w c.args.name c.args.schema lines.Okay v)) (view ∙ items)
+    (adds c.args.self.now c.args.name c.args.schema c.in_ok-cluster.cluster c.in_ok-cluster.ensures.shows)

@@ -1,0 +1,173 @@
+-- What becomes of a world as a table is made, or isn't.
+use Rattle.std.proofs.Common.{◌≡◌, ◌∙◌, ℕ, zero, suc, Bool, true, false, List, [], ◌∷◌, ◌++◌, length, map, refl, ap, sym, subst}
+use Rattle.std.specs.Prelude.{MatchOption, MatchResult, IfOk, cond, is_some, take}
+use Rattle.std.specs.declared.result.Result.{Result}
+use Rattle.std.specs.declared.result.Result.TheVariants.{Ok, Err}
+use Rattle.std.specs.declared.option.Option.{Option}
+use Rattle.std.specs.declared.option.Option.TheVariants.{Some, None}
+use Rattle.rmt_values.specs.Rows.{Shape}
+use Rattle.rmt_values.specs.declared.schema_error.SchemaError.{SchemaError}
+use Rattle.rmt_reply.specs.declared.line.Line.{Line}
+use Rattle.rmt_reply.specs.declared.line.Line.TheVariants as lines
+use Rattle.rmt_reply.specs.declared.refusal.Refusal.{Refusal}
+use Rattle.rmt_reply.specs.declared.refusal.Refusal.TheVariants.{TableExists, Syntax}
+use Rattle.rmt_model.specs.Words.{Each}
+use Rattle.rmt_events.specs.Views.{Replica}
+use Rattle.rmt_events.specs.Clusters.{Cluster, accepted}
+use Rattle.rmt_events.specs.Starts.{new_replica}
+use Rattle.rmt_cluster.specs.NewClusters.{IsNewCluster}
+use Rattle.rmt_statement_model.specs.TableStates.{empty_table}
+use Rattle.rmt_statement_model.specs.Shows.{Shows, Knows}
+use Rattle.rmt_play.specs.World.{Table, World, new_table}
+use Rattle.rmt_play.specs.Checks.{first_of, refused_with, refused_schema, refused_columns, too_many_tables, create_refusals, is_played, refusals, refusal_of}
+use Rattle.rmt_statements.specs.declared.statement.Statement.{Statement}
+use Rattle.rmt_play.specs.Plays.{Creates, Performs, Refuses}
+use Rattle.rmt_play.specs.PlayerSteps.{NamedCluster, PlayerView, IsIn, ComesTo, Moves, IsPlaceOf, HasNone, IsFound, IsNewTable, Executes, ExecutesCreate, ExecutesPlayed}
+use Rattle.rmt_play.proofs.TableLemmas.{length-shown, append-shown, none-in}
+use Rattle.rmt_play.proofs.SendLemmas.{found-at}
+
+-- a table is added
+pub adds : (p : PlayerView) (name : List ℕ) (schema : Shape) (c : Cluster) → Shows c (empty_table schema) → Moves p (λ w v. Creates w name schema lines.Okay v) (record p { tables = p.tables ++ record { name = name; cluster = c } ∷ [] })
+adds p name schema c h w i = record {
+  world = record w { tables = w.tables ++ new_table name schema ∷ [] };
+  holds = record { reply = refl; change = refl };
+  is_in = record { replicas = i.replicas; tables = append-shown p.tables w.tables (record { name = name; cluster = c }) (new_table name schema) i.tables refl h };
+}
+
+-- the name is taken
+exists-holds : (p : PlayerView) (w : World) (name : List ℕ) (refusal : Option SchemaError) (schema : Shape) (line : Line) (place : ℕ) → IsIn p w → IsPlaceOf p.tables name place → line ≡ lines.Refused (TableExists name) → ExecutesCreate name refusal schema line w w
+exists-holds p w name refusal schema line place i f e =
+    let t = found-at p w name place i f in
+    subst (λ (o : Option Refusal). MatchOption o (Creates w name schema line w) (λ why. Refuses w why line w))
+    (sym (ap (λ (o : Option Table). first_of (refused_with o name ∷ refused_schema refusal ∷ too_many_tables (length w.tables) ∷ refused_columns refusal ∷ [])) t.found))
+    (record { reply = e; unchanged = refl })
+
+pub exists-already : (p : PlayerView) (name : List ℕ) (made : Result Shape SchemaError) (line : Line) (place : ℕ) → IsPlaceOf p.tables name place → line ≡ lines.Refused (TableExists name)
+    → MatchResult made (λ schema. Moves p (ExecutesCreate name None schema line) p) (λ e. Moves p (λ w v. (schema : Shape) → ExecutesCreate name (Some e) schema line w v) p)
+exists-already p name (Ok schema) line place f e = λ w i. record { world = w; holds = exists-holds p w name None schema line place i f e; is_in = i }
+exists-already p name (Err refusal) line place f e = λ w i. record { world = w; holds = λ schema. exists-holds p w name (Some refusal) schema line place i f e; is_in = i }
+
+-- the refusals of a CREATE whose name is free
+free : (p : PlayerView) (w : World) (name : List ℕ) (refusal : Option SchemaError) → IsIn p w → HasNone p.tables name
+    → first_of (create_refusals w name refusal) ≡ first_of (refused_schema refusal ∷ too_many_tables (length p.tables) ∷ refused_columns refusal ∷ [])
+free p w name refusal i none =
+    ap (λ (o : Option Table). first_of (refused_with o name ∷ refused_schema refusal ∷ too_many_tables (length w.tables) ∷ refused_columns refusal ∷ [])) (none-in p.tables w.tables name none i.tables)
+    ∙ ap (λ n. first_of (refused_schema refusal ∷ too_many_tables n ∷ refused_columns refusal ∷ [])) (length-shown p.tables w.tables i.tables)
+
+-- the schema is refused, or there are as many tables as there may be
+refused-holds : (p : PlayerView) (w : World) (name : List ℕ) (refusal : Option SchemaError) (schema : Shape) (line : Line) (why : Refusal) → IsIn p w → HasNone p.tables name
+    → first_of (refused_schema refusal ∷ too_many_tables (length p.tables) ∷ refused_columns refusal ∷ []) ≡ Some why → line ≡ lines.Refused why → ExecutesCreate name refusal schema line w w
+refused-holds p w name refusal schema line why i none q e =
+    subst (λ (o : Option Refusal). MatchOption o (Creates w name schema line w) (λ why. Refuses w why line w)) (sym (free p w name refusal i none ∙ q)) (record { reply = e; unchanged = refl })
+
+-- the schema is refused
+pub schema-refused : (p : PlayerView) (name : List ℕ) (refusal : SchemaError) (line : Line) (why : Refusal) → HasNone p.tables name
+    → first_of (refused_schema (Some refusal) ∷ too_many_tables (length p.tables) ∷ refused_columns (Some refusal) ∷ []) ≡ Some why → line ≡ lines.Refused why
+    → Moves p (λ w v. (schema : Shape) → ExecutesCreate name (Some refusal) schema line w v) p
+schema-refused p name refusal line why none q e w i = record { world = w; holds = λ schema. refused-holds p w name (Some refusal) schema line why i none q e; is_in = i }
+
+full-first : (o : Option Refusal) → first_of (None ∷ o ∷ None ∷ []) ≡ o
+full-first None = refl
+full-first (Some refusal) = refl
+
+-- there are as many tables as there may be
+pub full-refused : (p : PlayerView) (name : List ℕ) (schema : Shape) (line : Line) (why : Refusal) → HasNone p.tables name → too_many_tables (length p.tables) ≡ Some why → line ≡ lines.Refused why → Moves p (ExecutesCreate name None schema line) p
+full-refused p name schema line why none q e w i =
+    record { world = w; holds = refused-holds p w name None schema line why i none (full-first (too_many_tables (length p.tables)) ∙ q) e; is_in = i }
+
+-- the table is made
+pub created : (p q : PlayerView) (name : List ℕ) (schema : Shape) (line : Line) → HasNone p.tables name → too_many_tables (length p.tables) ≡ None → Moves p (λ w v. Creates w name schema line v) q → Moves p (ExecutesCreate name None schema line) q
+created p q name schema line none room m w i =
+    subst (λ (o : Option Refusal). ComesTo q (λ v. MatchOption o (Creates w name schema line v) (λ why. Refuses w why line v)))
+    (sym (free p w name None i none ∙ (full-first (too_many_tables (length p.tables)) ∙ room))) (m w i)
+
+-- ---- by what was made of the columns
+
+-- a CREATE does so, whatever schema was made or refused
+abbrev pub CreatesMade : PlayerView → List ℕ → Result Shape SchemaError → Line → PlayerView → Type 0
+CreatesMade p name made line q =
+    MatchResult made (λ schema. Moves p (ExecutesCreate name None schema line) q) (λ e. Moves p (λ w v. (schema : Shape) → ExecutesCreate name (Some e) schema line w v) q)
+
+pub made-refused : (p : PlayerView) (name : List ℕ) (made : Result Shape SchemaError) (refusal : SchemaError) (line : Line) (why : Refusal) → made ≡ Err refusal → HasNone p.tables name
+    → first_of (refused_schema (Some refusal) ∷ too_many_tables (length p.tables) ∷ refused_columns (Some refusal) ∷ []) ≡ Some why → line ≡ lines.Refused why → CreatesMade p name made line p
+made-refused p name made refusal line why m none q e =
+    subst (λ (r : Result Shape SchemaError). CreatesMade p name r line p) (sym m) (schema-refused p name refusal line why none q e)
+
+pub made-full : (p : PlayerView) (name : List ℕ) (made : Result Shape SchemaError) (schema : Shape) (line : Line) (why : Refusal) → made ≡ Ok schema → HasNone p.tables name
+    → too_many_tables (length p.tables) ≡ Some why → line ≡ lines.Refused why → CreatesMade p name made line p
+made-full p name made schema line why m none q e =
+    subst (λ (r : Result Shape SchemaError). CreatesMade p name r line p) (sym m) (full-refused p name schema line why none q e)
+
+pub made-created : (p q : PlayerView) (name : List ℕ) (made : Result Shape SchemaError) (schema : Shape) (line : Line) → made ≡ Ok schema → HasNone p.tables name
+    → too_many_tables (length p.tables) ≡ None → Moves p (λ w v. Creates w name schema line v) q → CreatesMade p name made line q
+made-created p q name made schema line m none room c =
+    subst (λ (r : Result Shape SchemaError). CreatesMade p name r line q) (sym m) (created p q name schema line none room c)
+
+-- ---- a form that isn't played
+
+pub unplayed-refused : (p : PlayerView) (statement : Statement) (first : ℕ) → is_played (length p.tables) statement ≡ false → Moves p (Executes statement first (lines.Refused (Syntax first))) p
+unplayed-refused p statement first e w i =
+    let refused : refusal_of w statement first ≡ Some (Syntax first) =
+    ap (λ (b : Bool). first_of (cond b None (Some (Syntax first)) ∷ refusals w statement)) (ap (λ n. is_played n statement) (length-shown p.tables w.tables i.tables) ∙ e) in
+    record {
+      world = w;
+      holds = subst (λ (o : Option Refusal). MatchOption o (Performs w statement (lines.Refused (Syntax first)) w) (λ why. Refuses w why (lines.Refused (Syntax first)) w)) (sym refused)
+          (record { reply = refl; unchanged = refl });
+      is_in = i;
+    }
+
+-- one that is played
+pub played : (p q : PlayerView) (statement : Statement) (first : ℕ) (line : Line) → is_played (length p.tables) statement ≡ true → Moves p (ExecutesPlayed statement line) q → Moves p (Executes statement first line) q
+played p q statement first line e m w i =
+    let same : refusal_of w statement first ≡ first_of (refusals w statement) =
+    ap (λ (b : Bool). first_of (cond b None (Some (Syntax first)) ∷ refusals w statement)) (ap (λ n. is_played n statement) (length-shown p.tables w.tables i.tables) ∙ e) in
+    subst (λ (o : Option Refusal). ComesTo q (λ v. MatchOption o (Performs w statement line v) (λ why. Refuses w why line v))) (sym same) (m w i)
+
+-- ---- whether a name is taken
+
+pub place-there : (tables : List NamedCluster) (name : List ℕ) (o : Option ℕ) → is_some o ≡ true → IsFound tables name o → (place : ℕ) × IsPlaceOf tables name place
+place-there tables name None t m = absurd (cc)
+place-there tables name (Some place) t m = (place, m)
+
+pub nothing-there : (tables : List NamedCluster) (name : List ℕ) (o : Option ℕ) → is_some o ≡ false → IsFound tables name o → HasNone tables name
+nothing-there tables name None t m = m
+nothing-there tables name (Some place) t m = absurd (cc)
+
+-- ---- the cluster of a new table
+
+nothing-known : (number : ℕ) (up : Bool) → Knows (new_replica number up) (λ i. false)
+nothing-known number up = record {
+  within = λ i l. refl;
+  fair = record { apart = tt; made_here = tt; kept = tt; answered = λ a m. absurd m };
+}
+
+all-up : (rs : List Replica) (up : List Bool) → map (λ r. r.up) rs ≡ up → Each (λ b. b ≡ true) up → Each (λ x. x.up ≡ true) rs
+all-up [] up e all = tt
+all-up (r ∷ rs) [] e all = absurd (cc)
+all-up (r ∷ rs) (b ∷ up) e all =
+    let first : r.up ≡ b = cc in
+    let rest : map (λ x. x.up) rs ≡ up = cc in
+    (first ∙ all.0, all-up rs up rest all.1)
+
+pub new-table : (schema : Shape) (count : ℕ) (up : List Bool) (c : Cluster) → IsNewCluster schema up c → length c.replicas ≡ count → Each (λ b. b ≡ true) up → IsNewTable schema count c
+new-table schema count up c k n all = record {
+  shows = record {
+    schema = sym (ap (λ (d : Cluster). d.table.schema) k.is_new);
+    log = sym (ap (λ (d : Cluster). d.table.log) k.is_new);
+    next = sym (ap (λ (d : Cluster). d.table.next) k.is_new);
+    blocks = sym (ap accepted k.is_new);
+    knows = λ x h. subst (λ (y : Replica). Knows y (λ i. false)) (sym (k.replicas.each x h).0) (nothing-known x.number x.up);
+  };
+  all = n;
+  idle = record { up = all-up c.replicas up k.up_ones all; free = ap (λ (d : Cluster). d.table.locks) k.is_new };
+}
+
+pub Each-take : {A : Type 0} (P : A → Type 0) (n : ℕ) (xs : List A) → Each P xs → Each P (take n xs)
+Each-take P zero xs e = tt
+Each-take P (suc n) [] e = tt
+Each-take P (suc n) (x ∷ xs) e = (e.0, Each-take P n xs e.1)
+
+pub new-tables : {E : Type 0} (r : Result Cluster E) (made schema : Shape) (count : ℕ) (up : List Bool) → made ≡ schema → length up ≡ count → Each (λ b. b ≡ true) up
+    → IfOk r (IsNewCluster made up) → IfOk r (λ c. length c.replicas ≡ length up) → IfOk r (IsNewTable schema count)
+new-tables (Ok c) made schema count up m n all k l = subst (λ (s : Shape). IsNewTable s count c) m (new-table made count up c k (l ∙ n) all)
+new-tables (Err e) made schema count up m n all k l = tt

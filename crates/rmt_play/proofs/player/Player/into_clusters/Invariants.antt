@@ -1,0 +1,5 @@
+use Rattle.std.proofs.Common.{◌≡◌, ◌++◌, map}
+use Rattle.rmt_play.proofs.player.Player.into_clusters.Given as goal
+
+abbrev pub invariant-tables : goal.invariant-tables
+invariant-tables l = l.clusters.items ++ map (λ t. t.cluster) l.table-iterator.rest.items ≡ map (λ t. t.cluster) l.fn.self.tables

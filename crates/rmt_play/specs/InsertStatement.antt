@@ -1,0 +1,46 @@
+-- INSERT INTO.
+-- ClickHouse documentation: INSERT INTO; MergeTree, custom partitioning key: rows of different partitions go into different
+-- blocks.
+use Rattle.std.specs.Prelude.{◌≡◌, ◌⊎◌, ℕ, List, map}
+use Rattle.std.specs.declared.option.Option.{Option}
+use Rattle.rmt_block.specs.Blocks.{BlockView}
+use Rattle.rmt_block.specs.Splits.{IsSplit}
+use Rattle.rmt_model.specs.Content.{Row}
+use Rattle.rmt_events.specs.Clusters.{without_kinds}
+use Rattle.rmt_statement_model.specs.TableStates.{TableState}
+use Rattle.rmt_statement_model.specs.Inserts.{InsertsAll}
+use Rattle.rmt_statements.specs.declared.insert.Insert.{Insert}
+use Rattle.rmt_sql_rows.specs.declared.rows_error.RowsError.TheVariants as errors
+use Rattle.rmt_sql_rows.specs.InsertedRows.{all_names}
+use Rattle.rmt_sql_rows.specs.Inserts.{AreInsertedRows, IsBadInsertRow}
+use Rattle.rmt_reply.specs.declared.line.Line.{Line}
+use Rattle.rmt_reply.specs.declared.line.Line.TheVariants as lines
+use Rattle.rmt_reply.specs.declared.piece.Piece.{Piece}
+use Rattle.rmt_reply.specs.declared.refusal.Refusal.{Refusal}
+use Rattle.rmt_reply.specs.declared.refusal.Refusal.TheVariants.{BadRow}
+
+-- the rows are split into a block for each partition, and the blocks go in one after the other, until one is refused
+pub record InsertsRows (t : TableState) (r : ℕ) (rows : List Row) (line : Line) (u : TableState) : Type 0 where
+  pub blocks : List BlockView
+  pub split : IsSplit t.schema rows blocks
+  pub all : List Piece
+  pub refused : Option Refusal
+  pub inserts : InsertsAll t r (map without_kinds blocks) all refused u
+  pub reply : line ≡ lines.Inserted all refused
+
+-- the rows of the INSERT are inserted
+pub record Takes (t : TableState) (r : ℕ) (insert : Insert) (line : Line) (u : TableState) : Type 0 where
+  pub rows : List Row
+  pub read : AreInsertedRows t.schema.columns (all_names t.schema.columns insert.columns) insert.rows rows
+  pub inserts : InsertsRows t r rows line u
+
+-- one of the rows of the INSERT is bad, and this is the first; nothing changes
+pub record MeetsBadRow (t : TableState) (insert : Insert) (line : Line) (u : TableState) : Type 0 where
+  pub row : ℕ
+  pub refused : IsBadInsertRow t.schema.columns (all_names t.schema.columns insert.columns) insert.rows (errors.BadRow row)
+  pub reply : line ≡ lines.Refused (BadRow row)
+  pub unchanged : u ≡ t
+
+-- INSERT at the replica of a number
+abbrev pub InsertsInto : TableState → ℕ → Insert → Line → TableState → Type 0
+InsertsInto t r insert line u = Takes t r insert line u ⊎ MeetsBadRow t insert line u

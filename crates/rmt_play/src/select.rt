@@ -1,0 +1,103 @@
+//! SELECT in its table.
+ghost use Rattle.std.specs.Prelude.{◌≡◌, length, IfOk};
+ghost use Rattle.rmt_partset.specs.Snapshots.{names_in};
+ghost use Rattle.rmt_cluster.specs.Clusters.{IsNumber};
+ghost use Rattle.rmt_statement_model.specs.Shows.{IsIdle};
+ghost use Rattle.rmt_play.specs.SelectStatement.{Syncs, Reads};
+ghost use Rattle.rmt_play.specs.QueryAnswers.{IsSelection};
+ghost use Rattle.rmt_play.specs.PlayerSteps.{ExecutesQuery};
+
+use crate::query::check;
+use rmt_acts::{answer_up_to_date, read_parts, schema_of, sync_replica};
+use rmt_cluster::Cluster;
+use rmt_list::List;
+use rmt_names::PartName;
+use rmt_partset::NamedPart;
+use rmt_query::{Tuple, answer};
+use rmt_reply::Line;
+use rmt_values::{CheckedQuery, Query, ReplicaId};
+use std::alloc::{AllocError, Global};
+
+/// The parts that were read, and the answer over their rows.
+#[derive(Drop)]
+struct Selection {
+    parts: List<PartName>,
+    rows: List<Tuple>,
+}
+
+/// The names of parts.
+fn names_of(alloc: Global, parts: &[NamedPart]) -> Result<List<PartName>, AllocError>
+    ensures { IfOk result (λ names. names ≡ names_in parts.now) }
+{
+    let mut names = Vec::with_capacity(alloc, parts.len())?;
+    'parts: for part in parts {
+        names.push(*part.name())?;
+    }
+    Ok(List::new(names))
+}
+
+/// What a query answers over a replica's active parts.
+fn select(
+    alloc: Global,
+    cluster: &Cluster,
+    replica: ReplicaId,
+    query: &CheckedQuery,
+) -> Result<Selection, AllocError>
+    requires here { IsNumber replica (length cluster.now.replicas) }
+    requires idle { IsIdle cluster.now }
+    ensures { IfOk result (λ s. IsSelection cluster.now replica query.now s.parts s.rows) }
+{
+    let snapshot = read_parts(alloc, cluster, replica)?;
+    let parts = names_of(alloc, snapshot.parts())?;
+    let tuples = answer(alloc, &snapshot, query, schema_of(cluster), &[])?;
+    Ok(Selection {
+        parts,
+        rows: List::new(tuples),
+    })
+}
+
+/// Brings the replica up to date and answers a query.
+pub(crate) fn sync_in(
+    alloc: Global,
+    cluster: &mut Cluster,
+    replica: ReplicaId,
+    query: &Query,
+) -> Result<Line, AllocError>
+    requires here { IsNumber replica (length cluster.old.replicas) }
+    requires idle { IsIdle cluster.old }
+    ensures executes { IfOk result (λ line. ExecutesQuery cluster.old query.now
+        (λ t. Syncs t replica query.now) line cluster.new) }
+    ensures idle { IfOk result (λ _. IsIdle cluster.new) }
+    ensures replicas { length cluster.new.replicas ≡ length cluster.old.replicas }
+{
+    match check(alloc, query, schema_of(cluster))? {
+        Ok(query) => {
+            sync_replica(alloc, cluster, replica)?;
+            let tuples = answer_up_to_date(alloc, cluster, replica, &query)?;
+            Ok(Line::Rows(List::new(tuples)))
+        }
+        Err(refusal) => Ok(Line::Refused(refusal)),
+    }
+}
+
+/// Answers a query over what the replica has.
+pub(crate) fn read_in(
+    alloc: Global,
+    cluster: &Cluster,
+    replica: ReplicaId,
+    query: &Query,
+) -> Result<Line, AllocError>
+    requires here { IsNumber replica (length cluster.now.replicas) }
+    requires idle { IsIdle cluster.now }
+    ensures { IfOk result (λ line. ExecutesQuery cluster.now query.now
+        (λ t. Reads t replica query.now) line cluster.now) }
+{
+    match check(alloc, query, schema_of(cluster))? {
+        Ok(query) => {
+            let selection = select(alloc, cluster, replica, &query)?;
+            let (parts, rows) = (selection.parts, selection.rows);
+            Ok(Line::Read { parts, rows })
+        }
+        Err(refusal) => Ok(Line::Refused(refusal)),
+    }
+}
