@@ -1,8 +1,12 @@
 #!/usr/bin/env python3
 """The language of scripts once more, written from its description and not from the program: reads a script from standard
 input, writes its replies and ends with the program's code. It is slow and shares nothing with the program, so that the
-two can be compared (reference/check). Where the description leaves a choice it is that of docs/DECISIONS.md."""
+two can be compared (reference/check). Where the description leaves a choice it is that of docs/DECISIONS.md. What
+happens to a table is in cluster.py."""
 import sys
+
+import cluster
+from cluster import Refusal
 
 WHITE = b" \t\r\n"
 DIGITS = b"0123456789"
@@ -328,41 +332,65 @@ PLAIN_SELECT = says(
     ),
     lambda said: {"table": said[3], "items": said[1], "filter": said[4], "group": said[5] or []},
 )  # fmt: skip
-SELECT = says(sequence(PLAIN_SELECT, maybe(keyword("sync"))), lambda said: ("select", said[0], bool(said[1])))
+SELECT = says(
+    sequence(PLAIN_SELECT, maybe(keyword("sync"))), lambda said: ("select", said[0]["table"], said[0], bool(said[1]))
+)
 SEQUENTIAL = sequence(keyword("settings"), exactly("select_sequential_consistency"), symbol("="), NUMBER)
 INDEXES = sequence(exactly("indexes"), symbol("="), number_of(1, 1))
-EXPLAIN = says(sequence(keyword("explain"), maybe(INDEXES), PLAIN_SELECT), lambda said: ("explain", said[2]))
+EXPLAIN = says(
+    sequence(keyword("explain"), maybe(INDEXES), PLAIN_SELECT), lambda said: ("explain", said[2]["table"], said[2])
+)
 
-RIGHT = choice(LITERAL, sequence(WORD, maybe(sequence(choice(symbol("+"), symbol("-")), NUMBER))))
-PARTITION = choice(NUMBER, sequence(exactly("tuple"), TUPLE), sequence(keyword("id"), TEXT))
-ALTER = unbuilt(
-    keyword("alter"), keyword("table"), WORD,
-    choice(
-        sequence(keyword("update"), listed(sequence(WORD, symbol("="), RIGHT)), keyword("where"), FILTER),
-        sequence(keyword("delete"), keyword("where"), FILTER),
-        sequence(keyword("drop"), keyword("partition"), PARTITION),
-    ),
-)  # fmt: skip
+SIGN = token(lambda t: t.value if t.kind == "symbol" and t.value in ("+", "-") else None)
+RIGHT = choice(
+    LITERAL,
+    says(WORD, lambda column: ("column", column)),
+    says(sequence(WORD, SIGN, NUMBER), lambda said: (said[1], said[0], ("number", False, said[2]))),
+)
+SET = says(sequence(WORD, symbol("="), RIGHT), lambda said: (said[0], said[2]))
+PARTITION = choice(
+    says(NUMBER, lambda number: ("number", number)),
+    says(sequence(exactly("tuple"), TUPLE), lambda _: ("tuple", None)),
+    says(sequence(keyword("id"), TEXT), lambda said: ("id", said[1])),
+)
+CHANGE = choice(
+    says(sequence(keyword("update"), listed(SET), keyword("where"), FILTER), lambda said: ("alter", said[1], said[3])),
+    says(sequence(keyword("delete"), keyword("where"), FILTER), lambda said: ("alter", None, said[2])),
+    says(sequence(keyword("drop"), keyword("partition"), PARTITION), lambda said: ("drop", said[2])),
+)
+ALTER = says(
+    sequence(keyword("alter"), keyword("table"), WORD, CHANGE), lambda said: said[3][:1] + said[2:3] + said[3][1:]
+)
 
 
 def words(text):
     return sequence(*(keyword(word) for word in text.split()))
 
 
-SYSTEM = choice(words("sync replica"), words("restart replica"), words("stop fetches"), words("start fetches"))
+def over_table(how, text, *rules):
+    """An act of these words, a table and what comes after it."""
+    return says(sequence(words(text), WORD, *rules), lambda said: (how,) + said[1:])
+
+
+PARTITION_FINAL = only(sequence(maybe(only(sequence(keyword("partition"), PARTITION), 1)), keyword("final")), 0)
 ACT = choice(
     INSERT, unbuilt(INTO, QUORUM, OFFERED), SELECT, unbuilt(PLAIN_SELECT, SEQUENTIAL), EXPLAIN, ALTER,
-    unbuilt(words("optimize table"), WORD, maybe(sequence(keyword("partition"), PARTITION)), keyword("final")),
-    unbuilt(words("show parts from"), WORD), unbuilt(words("check table"), WORD),
-    unbuilt(words("wait mutation"), WORD, NUMBER), unbuilt(keyword("system"), SYSTEM, WORD),
+    over_table("optimize", "optimize table", PARTITION_FINAL),
+    over_table("show", "show parts from"), over_table("wait", "wait mutation", NUMBER),
+    over_table("sync", "system sync replica"), over_table("restart", "system restart replica"),
+    unbuilt(words("check table"), WORD),
+    unbuilt(keyword("system"), choice(words("stop fetches"), words("start fetches")), WORD),
 )  # fmt: skip
 REPLICA = maybe(only(sequence(symbol("@"), WORD), 1))
+RUN = says(
+    sequence(keyword("run"), WORD, NUMBER, keyword("seed"), NUMBER), lambda said: ("run", said[1], said[2], said[4])
+)
 LANE = sequence(keyword("lane"), END, times(sequence(REPLICA, choice(INSERT, SELECT, ALTER), END)))
 LATER = choice(
     CREATE,
     says(sequence(REPLICA, ACT), lambda said: said[1] if said[1][0] == "unbuilt" else ("at", said[0], said[1])),
     unbuilt(keyword("kill"), WORD), unbuilt(keyword("restart"), WORD),
-    unbuilt(keyword("run"), WORD, NUMBER, keyword("seed"), NUMBER),
+    RUN,
     unbuilt(keyword("lanes"), END, LANE, times(LANE, 7), keyword("end")),
 )  # fmt: skip
 REPLICAS = says(sequence(keyword("replicas"), number_of(1, 8)), lambda said: ("replicas", said[1]))
@@ -454,83 +482,6 @@ def printed_field(field, is_alone):
 # ---- playing
 
 
-class Refusal(Exception):
-    def __init__(self, number, name, *kept):
-        kept = [each if isinstance(each, bytes) else str(each).encode() for each in kept]
-        self.line = b" ".join([b"refused %d %s" % (number, name.encode())] + kept)
-
-
-# the limits: partitions of a table, numbers of a partition, accepted blocks of a table, and values in these
-PARTITIONS, NUMBERS, CLIENT_ENTRIES, VALUES = 1024, 65536, 32768, 8388608
-
-
-class Block:
-    """An accepted block: the number of its partition (None without a rule), its own number there, and its rows."""
-
-    def __init__(self, partition, number, rows):
-        self.partition, self.number, self.rows = partition, number, rows
-        self.name = b"%s_%d_%d_0" % (b"all" if partition is None else b"%d" % partition, number, number)
-
-
-class Table:
-    """The blocks that were accepted, in that order; the next number of each partition that there is; how many values
-    are held; and for each replica the places of the blocks that it has a part of."""
-
-    def __init__(self, columns, rule, key, granularity, window):
-        self.columns, self.rule, self.key, self.granularity, self.window = columns, rule, key, granularity, window
-        self.kinds = dict(columns)
-        self.places = {name: place for place, (name, _) in enumerate(columns)}
-        self.blocks, self.next, self.values, self.known = [], {}, 0, [set() for _ in range(8)]
-
-    def value(self, row, column):
-        return row[self.places[column]]
-
-    def split(self, rows):
-        """The partitions of the rows, in order, each with its rows in the order in which they were offered."""
-        partitions = {}
-        for row in rows:
-            partition = None if self.rule is None else self.value(row, self.rule[0]) // self.rule[1]
-            partitions.setdefault(partition, []).append(row)
-        return sorted(partitions.items())
-
-    def kept(self):
-        """The blocks whose ids are kept: as many of those accepted last as the window says."""
-        return self.blocks[max(0, len(self.blocks) - self.window) :]
-
-    def take_number(self, partition):
-        number = self.next.get(partition, 0)
-        if partition not in self.next and len(self.next) == PARTITIONS:
-            raise Refusal(18, "LimitReached", "partitions", len(self.next))
-        if number == NUMBERS:
-            raise Refusal(18, "LimitReached", "numbers", number)
-        if len(self.blocks) == CLIENT_ENTRIES:
-            raise Refusal(18, "LimitReached", "client_entries", len(self.blocks))
-        self.next[partition] = number + 1
-        return number
-
-    def insert(self, at, partition, rows):
-        """What a block is answered that is inserted at a replica. Two blocks have one id where they have the same rows
-        in the same order in the same partition."""
-        for block in self.kept():
-            if (block.partition, block.rows) == (partition, rows):
-                return b"duplicate " + block.name
-        number, values = self.take_number(partition), len(rows) * len(self.columns)
-        if self.values + values > VALUES:
-            raise Refusal(18, "LimitReached", "values", self.values)
-        self.values += values
-        self.known[at].add(len(self.blocks))
-        self.blocks.append(Block(partition, number, rows))
-        return b"part " + self.blocks[-1].name
-
-    def sync(self, at):
-        self.known[at] = set(range(len(self.blocks)))
-
-    def read(self, at):
-        """The blocks that a replica has a part of, by partition and then by number."""
-        blocks = [self.blocks[place] for place in self.known[at]]
-        return sorted(blocks, key=lambda block: (block.partition, block.number))
-
-
 def first_double(names):
     return next((name for place, name in enumerate(names) if name in names[place + 1 :]), None)
 
@@ -567,6 +518,79 @@ COMPARES = {
 }  # fmt: skip
 
 
+def check_columns(table, names):
+    for name in names:
+        if name not in table.kinds:
+            raise Refusal(5, "UnknownColumn", name)
+
+
+def check_literals(table, filter):
+    for _, name, _, literal in comparisons_in(filter):
+        if literal_value(table.kinds[name], literal) is None:
+            raise Refusal(6, "WrongType", name)
+
+
+def keeps(table, row, tree):
+    """Whether a filter keeps a row."""
+    if tree is None:
+        return True
+    if tree[0] == "not":
+        return not keeps(table, row, tree[1])
+    if tree[0] == "and":
+        return keeps(table, row, tree[1]) and keeps(table, row, tree[2])
+    if tree[0] == "or":
+        return keeps(table, row, tree[1]) or keeps(table, row, tree[2])
+    _, name, sign, literal = tree
+    return COMPARES[sign](table.value(row, name), literal_value(table.kinds[name], literal))
+
+
+class Command:
+    """A command that was checked against its table: the sets of an UPDATE, or None for a DELETE, and the filter."""
+
+    def __init__(self, table, sets, filter):
+        self.table, self.sets, self.filter = table, sets, filter
+        lefts = [left for left, _ in sets or []]
+        for left, right in sets or []:
+            check_columns(table, [left] + ([right[1]] if right[0] in ("column", "+", "-") else []))
+        check_columns(table, [comparison[1] for comparison in comparisons_in(filter)])
+        if first_double(lefts) is not None:
+            raise Refusal(20, "DoubleColumn", first_double(lefts))
+        for left, right in sets or []:
+            if not self.may_set(table.kinds[left], right):
+                raise Refusal(6, "WrongType", left)
+        check_literals(table, filter)
+        for left in lefts:
+            if left in table.key or (table.rule is not None and left == table.rule[0]):
+                raise Refusal(8, "KeyColumn", left)
+
+    def may_set(self, kind, right):
+        """Whether a column of this type may be set so: to a value of the type, to a column of it, or to such a column
+        plus or minus such a number."""
+        if right[0] in ("text", "number"):
+            return literal_value(kind, right) is not None
+        if self.table.kinds[right[1]] != kind:
+            return False
+        return right[0] == "column" or literal_value(kind, right[2]) is not None and kind != "String"
+
+    def changed(self, row):
+        """The row after the command; None where it is deleted."""
+        if not keeps(self.table, row, self.filter):
+            return row
+        if self.sets is None:
+            return None
+        values = {left: self.right_value(row, self.table.kinds[left], right) for left, right in self.sets}
+        return [values.get(name, self.table.value(row, name)) for name, _ in self.table.columns]
+
+    def right_value(self, row, kind, right):
+        if right[0] in ("text", "number"):
+            return literal_value(kind, right)
+        value = self.table.value(row, right[1])
+        if right[0] == "column":
+            return value
+        by, least = literal_value(kind, right[2]), 0 if kind == "UInt64" else -(2**63)
+        return (value + (by if right[0] == "+" else -by) - least) % 2**64 + least
+
+
 class Query:
     """A query that was checked against its table."""
 
@@ -575,30 +599,13 @@ class Query:
         self.items = said["items"] or [("column", name) for name, _ in table.columns]
         self.is_grouping = bool(self.group) or any(how != "column" for how, _ in self.items)
         named = [name for _, name in said["items"] if name is not None]
-        compared = comparisons_in(self.filter)
-        for name in named + [comparison[1] for comparison in compared] + self.group:
-            if name not in table.kinds:
-                raise Refusal(5, "UnknownColumn", name)
+        check_columns(table, named + [comparison[1] for comparison in comparisons_in(self.filter)] + self.group)
         for how, name in self.items:
             if how == "sum" and table.kinds[name] == "String":
                 raise Refusal(6, "WrongType", name)
             if how == "column" and self.is_grouping and name not in self.group:
                 raise Refusal(6, "WrongType", name)
-        for _, name, _, literal in compared:
-            if literal_value(table.kinds[name], literal) is None:
-                raise Refusal(6, "WrongType", name)
-
-    def keeps(self, row, tree):
-        if tree is None:
-            return True
-        if tree[0] == "not":
-            return not self.keeps(row, tree[1])
-        if tree[0] == "and":
-            return self.keeps(row, tree[1]) and self.keeps(row, tree[2])
-        if tree[0] == "or":
-            return self.keeps(row, tree[1]) or self.keeps(row, tree[2])
-        _, name, sign, literal = tree
-        return COMPARES[sign](self.table.value(row, name), literal_value(self.table.kinds[name], literal))
+        check_literals(table, self.filter)
 
     def cell(self, how, name, rows):
         if how == "count":
@@ -611,7 +618,7 @@ class Query:
         return max(values) if how == "max" else min(values)
 
     def answer(self, rows):
-        rows = [row for row in rows if self.keeps(row, self.filter)]
+        rows = [row for row in rows if keeps(self.table, row, self.filter)]
         if not self.is_grouping:
             return sorted([self.table.value(row, name) for _, name in self.items] for row in rows)
         groups = {} if self.group else {(): []}
@@ -622,8 +629,7 @@ class Query:
     def granules(self, rows):
         """How many granules of a part the filter chooses, and how many there are."""
         table = self.table
-        ordered = sorted(rows, key=lambda row: [table.value(row, name) for name in table.key])
-        marks = ordered[:: table.granularity]
+        marks = table.in_key_order(rows)[:: table.granularity]
         if not table.key:
             return len(marks), len(marks)
         marks = [table.value(row, table.key[0]) for row in marks]
@@ -646,18 +652,34 @@ class Query:
         return (bound if tree[2] in ("=", ">", ">=") else []), (bound if tree[2] in ("=", "<", "<=") else [])
 
 
+def partition_of(table, word):
+    """The partition that a word says: its number, or None where the table has no rule."""
+    how, value = word
+    if table.rule is None and (how == "tuple" or (how, value) == ("id", b"all")):
+        return None
+    if how == "id" and 1 <= len(value) <= 20 and all(byte in DIGITS for byte in value) and value == b"%d" % int(value):
+        how, value = "number", int(value)
+    if table.rule is None or how != "number" or value >= 2**64:
+        raise Refusal(6, "WrongType", "partition")
+    return value
+
+
 class World:
     def __init__(self):
         self.replicas, self.tables, self.lines, self.refused = 2, {}, [], 0
 
     def play(self, statement):
+        """A statement and what it says; an act is sent to a replica."""
         if statement[0] == "replicas":
             self.replicas = statement[1]
             self.lines.append(b"ok")
         elif statement[0] == "create":
             self.create(*statement[1:])
+        elif statement[0] == "run":
+            self.run(*statement[1:])
         else:
-            self.act(*statement[1:])
+            _, replica, (how, table, *said) = statement
+            getattr(self, how)(self.table(table), self.replica(replica), *said)
 
     def create(self, name, columns, rule, key, granularity, window):
         if name in self.tables:
@@ -674,47 +696,113 @@ class World:
             raise Refusal(18, "LimitReached", "tables", 4)
         if len(columns) > 64:
             raise Refusal(18, "LimitReached", "columns", 64)
-        self.tables[name] = Table(columns, rule, key, granularity, window)
+        self.tables[name] = cluster.Table(columns, rule, key, granularity, window, self.replicas)
         self.lines.append(b"ok")
 
-    def act(self, replica, act):
-        name = act[1] if act[0] == "insert" else act[1]["table"]
+    def table(self, name):
         if name not in self.tables:
             raise Refusal(2, "UnknownTable", name)
-        replicas = [b"r%d" % (number + 1) for number in range(self.replicas)]
-        replica = b"r1" if replica is None else replica
-        if replica not in replicas:
-            raise Refusal(4, "UnknownReplica", replica)
-        table, at = self.tables[name], replicas.index(replica)
-        if act[0] == "insert":
-            self.insert(table, at, rows_of(table, act[2], act[3]))
-        elif act[0] == "select":
-            self.select(table, at, Query(table, act[1]), act[2])
-        else:
-            self.explain(table, at, Query(table, act[1]))
+        return self.tables[name]
 
-    def insert(self, table, at, rows):
+    def replica(self, name):
+        """The place of a replica; without a name it is the first."""
+        replicas = [b"r%d" % (number + 1) for number in range(self.replicas)]
+        if name is not None and name not in replicas:
+            raise Refusal(4, "UnknownReplica", name)
+        return 0 if name is None else replicas.index(name)
+
+    # ---- acts, at a replica of a table
+
+    def insert(self, table, at, columns, offered):
+        rows = rows_of(table, columns, offered)
         if not rows:
             self.lines.append(b"nothing")
         for partition, block in table.split(rows):
             self.lines.append(table.insert(at, partition, block))
 
-    def select(self, table, at, query, is_sync):
+    def select(self, table, at, said, is_sync):
+        query = Query(table, said)
         if is_sync:
-            table.sync(at)
-        parts = table.read(at)
-        if not is_sync:
-            self.lines.append(b" ".join([b"parts"] + [part.name for part in parts]))
-        rows = query.answer([row for part in parts for row in part.rows])
-        self.lines += [b"rows %d" % len(rows)] + [printed_record(row) for row in rows]
+            table.drain(at)
+            rows = table.synced_rows(at)
+            assert sorted(rows) == sorted(table.plain_rows()), "the parts hold other rows than the accepted blocks"
+        else:
+            self.show(table, at)
+            rows = [row for _, part in table.read(at) for row in part.rows]
+        answer = query.answer(rows)
+        self.lines += [b"rows %d" % len(answer)] + [printed_record(row) for row in answer]
 
-    def explain(self, table, at, query):
-        total_chosen = total = 0
-        for part in table.read(at):
+    def explain(self, table, at, said):
+        query, total_chosen, total = Query(table, said), 0, 0
+        for name, part in table.read(at):
             chosen, count = query.granules(part.rows)
-            self.lines.append(b"granules %s %d/%d" % (part.name, chosen, count))
+            self.lines.append(b"granules %s %d/%d" % (cluster.text(name), chosen, count))
             total_chosen, total = total_chosen + chosen, total + count
         self.lines.append(b"granules total %d/%d" % (total_chosen, total))
+
+    def show(self, table, at):
+        self.lines.append(b" ".join([b"parts"] + [cluster.text(name) for name, _ in table.read(at)]))
+
+    def alter(self, table, at, sets, filter):
+        self.lines.append(b"mutation %010d" % table.alter(Command(table, sets, filter)))
+
+    def drop(self, table, at, word):
+        partition = partition_of(table, word)
+        below = table.drop(at, partition)
+        self.lines.append(b"dropped %s below %d" % (cluster.partition_text(partition), below))
+
+    def optimize(self, table, at, word):
+        partitions = None if word is None else [partition_of(table, word)]
+        table.drain(at)
+        names = [name for name in cluster.live(table.log) if partitions is None or name.partition in partitions]
+        if not names:
+            self.lines.append(b"nothing")
+        for partition in sorted(set(name.partition for name in names)):
+            sources = [name for name in names if name.partition == partition]
+            if len(sources) > 1:
+                table.merge(at, sources)
+                table.drain(at)
+            (name,) = [name for name in cluster.live(table.log) if name.partition == partition]
+            self.lines.append(b"optimized " + cluster.text(name))
+
+    def wait(self, table, at, id_):
+        """Brings each part to the mutation, the first one first."""
+        mutations = [place for place, entry in enumerate(table.log) if isinstance(entry, cluster.Mutation)]
+        if id_ >= len(mutations):
+            raise Refusal(17, "UnknownMutation", id_)
+        table.drain(at)
+        next_ = cluster.next_to_mutate(table.log, mutations[id_] + 1)
+        while next_ is not None:
+            table.mutate(at, *next_)
+            table.drain(at)
+            next_ = cluster.next_to_mutate(table.log, mutations[id_] + 1)
+        self.lines.append(b"done %010d" % id_)
+
+    def sync(self, table, at):
+        table.drain(at)
+        self.lines.append(b"ok")
+
+    def restart(self, table, at):
+        table.restart(at)
+        self.lines.append(b"ok")
+
+    # ---- what is sent to no replica
+
+    def run(self, name, turns, seed):
+        table = self.table(name)
+        if turns > 1000000 or seed >= 2**31:
+            raise Refusal(6, "WrongType", "RUN")
+        for _ in table.run(turns, cluster.Draws(seed)):
+            pass
+        self.lines.append(b"ran %d" % turns)
+
+
+# what the program doesn't play yet
+NOT_PLAYED = {"alter", "drop", "optimize", "show", "wait", "sync", "restart", "run"}
+
+
+def is_played(statement):
+    return (statement[2][0] if statement[0] == "at" else statement[0]) not in NOT_PLAYED
 
 
 def played(script):
@@ -736,7 +824,7 @@ def played(script):
                 at = len(script) if end < 0 else end + 1
                 raise Refusal(1, "Syntax", text.furthest)
             at, (statement, _) = max(ways, key=lambda way: way[0])
-            if statement[0] == "unbuilt":
+            if statement[0] == "unbuilt" or not is_played(statement):
                 raise Refusal(1, "Syntax", first.start)
             world.play(statement)
         except Refusal as refusal:

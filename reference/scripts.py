@@ -1,5 +1,7 @@
-"""Random scripts: mostly statements that are played, among them INSERTs that are sent again; some that are refused, and
-some with a token too few, too many or out of place."""
+"""Random scripts: mostly statements that are played, some that are refused, and some with a token too few, too many or
+out of place. Nine of ten scripts are INSERTs for the most part, among them some that are sent again, SELECTs and
+EXPLAINs; the busy tenth changes what was inserted, by commands, drops, merges and background work at all replicas, most
+of which isn't played yet."""
 import random
 
 COLUMNS = ["a", "b", "c", "d", "k", "day", "page"]
@@ -15,6 +17,13 @@ NO_GRANULARITIES = ["0", "65537", "5000000000"]
 TEXTS = ["''", "'a'", "'b'", "'ab'", "'x,y'", "'it''s'", "'q\"q'", r"'\n'", r"'\\'", r"'\''", r"'\0'", r"'z\tz'", "'A'"]
 FIELDS = ["", "a", "b", "x y", '"q"', '"a,b"', '"say ""hi"""', 'a"b', '"ab"c', '"l1\nl2"', " s ", "-", "'x'", "\u00e9"]
 STRAY = ["", " 1", "+1", "1 ", "-0", "00", "0" * 40]
+NO_PARTITIONS = ["0", str(2**64), "tuple()", "ID 'all'", "ID 'All'", "ID ''", "ID '00'", "ID '01'", "ID '-1'"]
+NO_PARTITIONS += ["ID '1 '", f"ID '{2**64}'", f"ID '{10**30}'"]
+# how many of the statements of a busy script are of each kind
+BUSY = {
+    "insert": 26, "many": 1, "reload": 5, "update": 9, "delete": 3, "drop": 4, "optimize": 8, "wait": 8, "work": 12,
+    "show": 8, "system": 5, "select": 14, "explain": 4, "create": 2, "other": 2,
+}  # fmt: skip
 NOISE = (
     "( ) , ; = < - @ * ! + WHERE SELECT FROM a t 1 'x' GROUP BY VALUES FORMAT CSV TABLE 'open 'bad\\q' -- and SYNC"
     " indexes SETTINGS count tuple END LANE"
@@ -30,6 +39,9 @@ class Scripts:
     def __init__(self, seed):
         self.random = random.Random(seed)
         self.tables, self.replicas = {}, 2
+        self.keys, self.rules = {}, {}  # of each table the columns that no UPDATE sets, and its rule's divisor or None
+        self.commands = {}  # how many commands were made for each table, those left out that are likely to be refused
+        self.is_busy, self.next = False, []  # and how the statements are made that come next in a busy script
         self.inserts, self.share = {}, 0.45  # the INSERTs of each table so far, and how many of the statements are one
         self.is_wild = False  # whether a statement may have values that are none of their column
 
@@ -73,37 +85,41 @@ class Scripts:
     # ---- statements, as lists of tokens
 
     def create(self):
-        table, is_right = self.one(["t", "u", "v", "w", "x"]), self.chance(0.75)
-        count = self.one([1, 2, 3, 4])
+        table, is_right = self.one(["t", "u", "v", "w", "x"]), self.chance(0.95 if self.is_busy else 0.75)
+        count = self.one([3, 4] if self.is_busy else [1, 2, 3, 4])
         names = COLUMNS[:count] if self.chance(0.8) else self.random.sample(COLUMNS, count)
         names = [self.one(names) for _ in names] if not is_right and self.chance(0.2) else names
         if self.chance(0.02):
             names = ["c%d" % i for i in range(self.one([64] if is_right else [64, 65]))]
         columns = [(name, self.one(["UInt64"] + TYPES)) for name in names]
         key = self.random.sample(names, self.random.randint(0, min(3, len(names))))
+        key = key[: self.one([0, 1, 1])] if self.is_busy else key
         key += [self.one([names[0], "zz"])] if not is_right and self.chance(0.3) else []
         tokens = self.keywords("CREATE TABLE") + [table, "("] + self.commas([list(column) for column in columns])
         tokens += [")", self.keyword("ENGINE"), "=", "ReplicatedMergeTree"]
         tokens += self.one([[], [], [], ["(", ")"], ["(", "'/p'", ",", "'{replica}'", ")"]])
-        tokens += self.rule(columns, is_right) + self.keywords("ORDER BY")
+        rule, column, divisor = self.rule(columns, is_right)
+        tokens += rule + self.keywords("ORDER BY")
         if not key:
             tokens += ["tuple", "(", ")"]
         else:
             is_bare = len(key) == 1 and self.chance(0.6)
             tokens += key if is_bare else ["("] + self.commas([[name] for name in key]) + [")"]
         if is_right and table not in self.tables and len(self.tables) < 4:
-            self.tables[table] = columns
+            self.tables[table], self.keys[table], self.rules[table] = columns, key + [column], divisor
         return tokens + self.settings(is_right)
 
     def rule(self, columns, is_right):
-        """PARTITION BY, or nothing. Partitions are few, so that INSERTs are over some of them and meet them again."""
+        """PARTITION BY, or nothing; its column and divisor. Partitions are few, so that INSERTs are over some of them
+        and meet them again."""
         names = [name for name, kind in columns if kind == "UInt64"]
         names += [] if is_right else [name for name, _ in columns] + ["yy"]
-        if not names or self.chance(0.35):
-            return self.keywords("PARTITION BY") + ["tuple", "(", ")"] if self.chance(0.1) else []
+        if not names or self.chance(0.45 if self.is_busy else 0.35):
+            return self.keywords("PARTITION BY") + ["tuple", "(", ")"] if self.chance(0.1) else [], None, None
         column, divisor = self.one(names), self.one(DIVISORS if is_right or self.chance(0.6) else NO_DIVISORS)
-        divided = ["intDiv", "(", column, ",", divisor, ")"]
-        return self.keywords("PARTITION BY") + ([column] if self.chance(0.45) else divided)
+        if self.chance(0.15 if self.is_busy else 0.45):
+            return self.keywords("PARTITION BY") + [column], column, "1"
+        return self.keywords("PARTITION BY") + ["intDiv", "(", column, ",", divisor, ")"], column, divisor
 
     def settings(self, is_right):
         granularity = self.one(GRANULARITIES if is_right or self.chance(0.6) else NO_GRANULARITIES)
@@ -113,10 +129,11 @@ class Scripts:
         chosen += [self.one(both)] if chosen and self.chance(0.02) else []
         return [self.keyword("SETTINGS")] + self.commas(chosen) if chosen else []
 
-    def insert(self):
-        table = self.table()
+    def insert(self, table=None, share=0.45):
+        """An INSERT; such a share of them are earlier ones once more."""
+        table = self.table() if table is None else table
         earlier = self.inserts.setdefault(table, [])
-        is_again = earlier and self.chance(0.45)
+        is_again = earlier and self.chance(share)
         last = earlier[-self.one([2, 4, 40]) :]
         names, is_csv, rows = self.again(*self.one(last)) if is_again else self.offered(table)
         earlier.append((names, is_csv, rows))
@@ -211,6 +228,113 @@ class Scripts:
         indexes = ["indexes", "=", "1"] if self.chance(0.4) else []
         return self.replica() + [self.keyword("EXPLAIN")] + indexes + self.plain_select()
 
+    # ---- what changes rows and parts
+
+    def alter(self, table):
+        return self.replica() + self.keywords("ALTER TABLE") + [table]
+
+    def command(self, table, tokens):
+        """A command of these words over some of the rows."""
+        self.commands[table] = self.commands.get(table, 0) + (0 if self.is_wild else 1)
+        return self.alter(table) + tokens + [self.keyword("WHERE")] + self.filter(table, 2)
+
+    def update(self):
+        table = self.table()
+        free = [column for column in self.columns(table) if column[0] not in self.keys.get(table, [])]
+        sets = self.random.sample(free, min(len(free), self.one([1, 1, 2, 3])))
+        if not sets or self.is_wild and self.chance(0.3):
+            sets = [self.one(self.columns(table) + [("zz", "UInt64")]) for _ in range(self.one([1, 2]))]
+        elif self.chance(0.04):
+            sets.append(self.one([column for column in self.columns(table) if column not in free] or sets))
+        assignments = [[name, "="] + self.right(table, kind) for name, kind in sets]
+        return self.command(table, [self.keyword("UPDATE")] + self.commas(assignments))
+
+    def right(self, table, kind):
+        same = [name for name, other in self.columns(table) if other == kind or self.is_wild and self.chance(0.1)]
+        turn = self.random.random()
+        if turn < 0.35 or not same:
+            return self.literal(kind)
+        if turn < 0.55 or kind == "String" and not self.is_wild:
+            return [self.one(same)]
+        return [self.one(same), self.one("+-"), self.one(NUMBERS if self.chance(0.85) else WIDE)]
+
+    def delete(self):
+        return self.command(self.table(), [self.keyword("DELETE")])
+
+    def partition(self, table):
+        rule, number = self.rules.get(table), int(self.one(NUMBERS))
+        if self.is_wild and self.chance(0.7):
+            return [self.one(NO_PARTITIONS)]
+        if rule is None:
+            return self.one([["tuple", "(", ")"], [self.keyword("ID"), "'all'"]])
+        number = str(number // max(1, int(rule)))
+        return self.one([[number], ["0" + number], [self.keyword("ID"), f"'{number}'"]])
+
+    def drop(self, table=None):
+        if table is None:
+            table = self.table()
+            self.next += [lambda: self.work(table)] if self.chance(0.4) else []
+        return self.alter(table) + self.keywords("DROP PARTITION") + self.partition(table)
+
+    def many(self):
+        """Blocks of one row each, of one partition if it may be, and background work after them."""
+        table, at = self.table(), self.replica()
+        rule = self.keys.get(table, [None])[-1]
+        values = [["''"] if kind == "String" else ["0"] for _, kind in self.columns(table)]
+        free = [place for place, (name, kind) in enumerate(self.columns(table)) if kind != "String" and name != rule]
+        for number in range(self.random.randint(9, 13)):
+            row = self.commas([[str(number)] if [place] == free[:1] else value for place, value in enumerate(values)])
+            self.next.append(lambda row=row: at + ["INSERT", "INTO", table, "VALUES", "("] + row + [")"])
+        self.next += [lambda: self.work(table)] * 2
+        return at + ["SHOW", "PARTS", "FROM", table]
+
+    def reload(self):
+        """A drop, and then an INSERT of what may have been dropped."""
+        table = self.table()
+        self.next.append(lambda: self.insert(table, 1))
+        return self.drop(table)
+
+    def optimize(self, table=None):
+        table = self.table() if table is None else table
+        partition = [self.keyword("PARTITION")] + self.partition(table) if self.chance(0.25) else []
+        return self.replica() + self.keywords("OPTIMIZE TABLE") + [table] + partition + [self.keyword("FINAL")]
+
+    def wait(self):
+        """A wait for a mutation, often the last one; sometimes all parts are merged afterwards."""
+        table = self.table()
+        if table not in self.commands and self.chance(0.9):
+            return self.insert()
+        last = max(0, self.commands.get(table, 0) - 1)
+        id_ = self.one([last, last, self.random.randint(0, last), last + 1 if self.chance(0.3) else last])
+        id_ = self.one(WIDE) if self.is_wild and self.chance(0.2) else str(id_)
+        self.next += [lambda: self.optimize(table)] if self.chance(0.4) else []
+        return self.replica() + self.keywords("WAIT MUTATION") + [table, id_]
+
+    def work(self, table=None):
+        """Background work, and often a look at what came of it."""
+        table = self.table() if table is None else table
+        turns, seed = self.random.randint(0, 60), self.random.randrange(2**31)
+        turns = self.one(["1000001", str(2**32), str(2**128 - 1)]) if self.is_wild and self.chance(0.1) else str(turns)
+        seed = self.one([str(2**31), str(2**64), str(2**128 - 1)]) if self.is_wild and self.chance(0.1) else str(seed)
+        if self.chance(0.5):
+            self.next += [lambda number=number: self.show(table, number + 1) for number in range(self.replicas)]
+        return [self.keyword("RUN"), table, turns, self.keyword("SEED"), seed]
+
+    def show(self, table=None, number=None):
+        at = self.replica() if number is None else ["@", f"r{number}"]
+        return at + self.keywords("SHOW PARTS FROM") + [self.table() if table is None else table]
+
+    def system(self):
+        words = self.one(["SYSTEM SYNC REPLICA", "SYSTEM RESTART REPLICA"])
+        return self.replica() + self.keywords(words) + [self.table()]
+
+    def everywhere(self):
+        """What there is of a table in the end, at each replica: its parts, and all its rows."""
+        table = self.table()
+        for number in range(1, self.replicas + 1):
+            yield self.show(table, number)
+            yield ["@", f"r{number}", "SELECT", "*", "FROM", table, "SYNC"]
+
     def other(self):
         table = self.table()
         alter = self.keywords("ALTER TABLE") + [table]
@@ -221,10 +345,20 @@ class Scripts:
             alter + ["DROP", "PARTITION", "ID", "'all'"], ["OPTIMIZE", "TABLE", table, "FINAL"],
             ["SHOW", "PARTS", "FROM", table], ["CHECK", "TABLE", table], ["WAIT", "MUTATION", table, "0"],
             ["SYSTEM", "SYNC", "REPLICA", table], ["KILL", "r1"], ["RESTART", "r1"], ["RUN", table, "3", "SEED", "4"],
-            ["REPLICAS", "3"], lanes,
+            ["SYSTEM", "STOP", "FETCHES", table], ["SYSTEM", "START", "FETCHES", table], ["REPLICAS", "3"], lanes,
         ])  # fmt: skip
 
+    def busy_statement(self):
+        self.is_wild = self.chance(0.12)
+        if self.next:
+            return self.next.pop(0)()
+        if not self.tables:
+            return self.create()
+        return getattr(self, self.random.choices(list(BUSY), BUSY.values())[0])()
+
     def statement(self):
+        if self.is_busy:
+            return self.busy_statement()
         self.is_wild = self.chance(0.3)
         if not self.tables or self.chance(0.08):
             return self.create()
@@ -258,19 +392,26 @@ class Scripts:
             text += token
         return text
 
+    def ended(self, tokens):
+        ends_itself = bool(tokens) and isinstance(tokens[-1], Raw)
+        return self.spelled(tokens) + ("" if ends_itself else self.one([";", ";\n", "; "]))
+
     def script(self):
         text = ""
         if self.chance(0.01):
             return f"REPLICAS {self.random.randint(1, 9)}{self.one(SPACES)}".encode()
-        if self.chance(0.4):
-            self.replicas = self.random.randint(1, 8)
+        self.is_busy = self.chance(0.1)
+        if self.chance(0.8 if self.is_busy else 0.4):
+            self.replicas = self.random.randint(1, 4 if self.is_busy else 8)
             text += self.spelled([self.keyword("REPLICAS"), str(self.replicas), ";"])
         count = self.random.randint(3, 14)
         if self.chance(0.3):
             count, self.share = self.random.randint(15, 40), 0.7
-        for _ in range(count):
+        count = self.random.randint(15, 45) if self.is_busy else count
+        for place in range(count):
+            noisy = 0.06 if not self.is_busy else 0.025 if place > 0 else 0
             tokens = self.statement()
-            tokens = self.with_noise(tokens) if self.chance(0.06) else tokens
-            ends_itself = bool(tokens) and isinstance(tokens[-1], Raw)
-            text += self.spelled(tokens) + ("" if ends_itself else self.one([";", ";\n", "; "]))
+            text += self.ended(self.with_noise(tokens) if self.chance(noisy) else tokens)
+        for tokens in self.everywhere() if self.is_busy and self.chance(0.7) else []:
+            text += self.ended(tokens)
         return (text.rstrip().rstrip(";") if self.chance(0.3) else text).encode()
