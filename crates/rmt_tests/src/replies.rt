@@ -156,6 +156,29 @@ fn add_others(alloc: Global, table: &mut Table) -> Result<(), AllocError> {
     )
 }
 
+fn add_commands(alloc: Global, table: &mut Table) -> Result<(), AllocError> {
+    table.add(Line::Mutation(0), "mutation 0000000000\n")?;
+    table.add(Line::Mutation(u32::MAX), "mutation 4294967295\n")?;
+    table.add(Line::Done(1023), "done 0000001023\n")?;
+    table.add(Line::Ran(1_000_000), "ran 1000000\n")?;
+    let (partition, below) = (None, 1);
+    table.add(Line::Dropped { partition, below }, "dropped all below 1\n")?;
+    let (partition, below) = (Some(202401), 0);
+    table.add(
+        Line::Dropped { partition, below },
+        "dropped 202401 below 0\n",
+    )?;
+    let (names, refused) = (List::new(Vec::new(alloc)), None);
+    table.add(Line::Optimized { names, refused }, "nothing\n")?;
+    let one = vec![in alloc; PartName::new(Some(9), 0, 2, 1, 0)]?;
+    let (left, right) = (block(0), PartName::new(None, 1, 1, 0, 2));
+    let (names, refused) = (List::new(one), Some(Refusal::Unmergeable { left, right }));
+    table.add(
+        Line::Optimized { names, refused },
+        "optimized 9_0_2_1\nrefused 16 Unmergeable all_0_0_0 all_1_1_0_2\n",
+    )
+}
+
 fn add_refused_names(alloc: Global, table: &mut Table) -> Result<(), AllocError> {
     table.refused(
         Refusal::UnknownTable(hits(alloc)?),
@@ -262,6 +285,7 @@ fn all_cases(alloc: Global) -> Result<Table, AllocError> {
     add_answers(alloc, &mut table)?;
     add_numbers(alloc, &mut table)?;
     add_others(alloc, &mut table)?;
+    add_commands(alloc, &mut table)?;
     add_refused_names(alloc, &mut table)?;
     add_refused_replicas(&mut table)?;
     add_refused_parts(&mut table)?;
@@ -278,7 +302,7 @@ fn each_reply_is_printed_as_its_bytes(rt: HostRuntime) -> Result<(), Fail> {
         assert_eq!(rt; printed.as_slice(), text.as_bytes(), "of {line:?}");
         whole.extend_from_slice(printed.as_slice())?;
     }
-    assert_eq!(rt; table.lines.len(), 43);
+    assert_eq!(rt; table.lines.len(), 51);
     assert_eq!(rt;
         print(rt.alloc(), &table.lines)?.as_slice(),
         whole.as_slice()
