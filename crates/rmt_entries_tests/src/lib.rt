@@ -1,4 +1,4 @@
-//! Tests of part names, marks, blocks and log entries, which need public calls alone.
+//! Tests of part names, marks, blocks, parts and log entries, which need public calls alone.
 #![tactic(auto)]
 
 #[cfg(test)]
@@ -7,5 +7,7 @@ mod blocks;
 mod entries;
 #[cfg(test)]
 mod names;
+#[cfg(test)]
+mod parts;
 #[cfg(test)]
 mod queue;

@@ -1,0 +1,3 @@
+pub mod PartBytes
+pub mod PartDecoding
+pub mod StoredBytes
