@@ -24,7 +24,6 @@ pub mod OptimizeRows
 pub mod StillLive
 pub mod MutationIds
 pub mod PendingPlaces
-pub mod NameCounts
 pub mod PendingLaws
 pub mod WaitRows
 pub mod WaitLeads

@@ -1,12 +1,12 @@
 -- The ids of a log's mutations are counted in the order of their places.
-use Rattle.std.proofs.Common.{◌≡◌, ℕ, ◌+◌, ◌<◌, ◌≤◌, inl, inr, Bool, true, false, cond, List, [], ◌∷◌, ap, subst, arith, ◌∙◌}
+use Rattle.std.proofs.Common.{◌≡◌, ℕ, ◌+◌, ◌<◌, ◌≤◌, inl, inr, Bool, true, false, cond, List, [], ◌∷◌, filter, length, refl, ap, subst, arith, ◌∙◌}
 use Rattle.std.proofs.lemmas.List.Sums.{sum_by-cons}
 use Rattle.std.specs.declared.option.Option.{Option}
 use Rattle.std.specs.declared.option.Option.TheVariants.{Some}
 use Rattle.rmt_values.specs.declared.checked_mutation.CheckedMutation.{CheckedMutation}
 use Rattle.rmt_values.specs.Rows.{Shape}
 use Rattle.rmt_entries.specs.declared.entry.Entry.{Entry}
-use Rattle.rmt_entries.specs.declared.entry.Entry.TheVariants.{Mutation}
+use Rattle.rmt_entries.specs.declared.entry.Entry.TheVariants.{Get, Merge, Mutate, Mutation, DropRange}
 use Rattle.rmt_model.specs.Words.{Has}
 use Rattle.rmt_model.specs.Lawful.{Lawful, Meets, IsMutation, entry_at, is_mutation, mutation_count}
 use Rattle.rmt_model.proofs.Drops.{entry-below, entry-cases, entry-has}
@@ -55,3 +55,30 @@ one-place schema log i j id old new first second l e f =
     let p = ids-rise schema log i j id id old new first second l e f (omega arith) in
     let q = ids-rise schema log j i id id new old second first l f e (omega arith) in
     omega (arith, p, q)
+
+-- ---- in the order of their ids
+
+-- the entry is the mutation of this id
+abbrev pub IsMutationOf : ℕ → Entry → Type 0
+IsMutationOf id e = (numbers : List (Option ℕ × ℕ)) × (command : CheckedMutation) × (e ≡ Mutation id numbers command)
+
+-- the entries are mutations whose ids count down to k
+abbrev pub CountsDown : ℕ → List Entry → Type 0
+CountsDown k [] = Unit {0}
+CountsDown k (e ∷ rest) = IsMutationOf (length rest + k) e × CountsDown k rest
+
+-- a log's mutations are as many as there are ids, and these count down to 0
+pub counted-down : (schema : Shape) (log : List Entry) → Lawful schema log → CountsDown 0 (filter is_mutation log) × (length (filter is_mutation log) ≡ mutation_count log)
+counted-down schema [] l = (tt, refl)
+counted-down schema (e ∷ log) l = go e l.1 (count-next e log) (counted-down schema log l.0)
+  where
+    go : (x : Entry) → Meets schema log x → mutation_count (x ∷ log) ≡ cond (is_mutation x) 1 0 + mutation_count log → CountsDown 0 (filter is_mutation log) × (length (filter is_mutation log) ≡ mutation_count log)
+        → CountsDown 0 (filter is_mutation (x ∷ log)) × (length (filter is_mutation (x ∷ log)) ≡ mutation_count (x ∷ log))
+    go (Mutation id numbers command) m n r =
+        let q = r.1 in
+        let i = newest-id schema log (Mutation id numbers command) id numbers command m refl in
+        (((numbers, command, ap (λ (k : ℕ). Mutation k numbers command) (omega (arith, i, q))), r.0), omega (arith, q, n))
+    go (Get p k digest source need) m n r = (r.0, let q = r.1 in omega (arith, q, n))
+    go (Merge new sources count) m n r = (r.0, let q = r.1 in omega (arith, q, n))
+    go (Mutate old new upto count mcount) m n r = (r.0, let q = r.1 in omega (arith, q, n))
+    go (DropRange p k) m n r = (r.0, let q = r.1 in omega (arith, q, n))

@@ -1,5 +1,5 @@
 -- OPTIMIZE .. FINAL, partition by partition: one more, the one at which it ends, and what the event for one partition comes to.
-use Rattle.std.proofs.Common.{◌≡◌, ℕ, inl, inr, List, [], ◌∷◌, ◌++◌, refl, sym, ap, subst, ◌∙◌}
+use Rattle.std.proofs.Common.{◌≡◌, ℕ, ◌≤◌, inl, inr, List, [], ◌∷◌, ◌++◌, length, refl, sym, ap, subst, ◌∙◌}
 use Rattle.std.specs.declared.option.Option.{Option}
 use Rattle.std.specs.declared.option.Option.TheVariants.{Some, None}
 use Rattle.rmt_values.specs.Rows.{Shape}
@@ -185,11 +185,15 @@ differ-row s u k p names left right w e step t h =
     }
 
 -- one more entry would pass a limit
-pub no-entry-row : (s u : Cluster) (k : ℕ) (p : Option ℕ) (names : List Name) (limit : Limit) (value : ℕ) → IsWhole s → live_of s.table.log p ≡ names → Step s (ev.Merge k names) (rp.Refused (rf.LimitReached limit value)) u → (t : TableState) → Shows s t → Leads u (λ v. CantOptimize t p (LimitReached limit value) × (v ≡ t))
-no-entry-row s u k p names limit value w e step t h =
+pub no-entry-row : (s u : Cluster) (k : ℕ) (p : Option ℕ) (names : List Name) (limit : Limit) (value : ℕ) → IsWhole s → 2 ≤ length names → live_of s.table.log p ≡ names → Step s (ev.Merge k names) (rp.Refused (rf.LimitReached limit value)) u → (t : TableState) → Shows s t → Leads u (λ v. CantOptimize t p (LimitReached limit value) × (v ≡ t))
+no-entry-row s u k p names limit value w n e step t h =
     let r = refuses s u k names (rf.LimitReached limit value) w step in
     record {
       state = t;
-      holds = (subst (λ (l : List Entry). AreAlike l (live_of l p) × (worker_limit l ≡ Some (limit, value))) (sym h.log) (subst (λ (xs : List Name). AreAlike s.table.log xs) (sym e) r.cause.1, r.cause.3), refl);
+      holds = (
+        subst (λ (l : List Entry). (2 ≤ length (live_of l p)) × AreAlike l (live_of l p) × (worker_limit l ≡ Some (limit, value))) (sym h.log)
+            (subst (λ (xs : List Name). 2 ≤ length xs) (sym e) n, subst (λ (xs : List Name). AreAlike s.table.log xs) (sym e) r.cause.1, r.cause.3),
+        refl,
+      );
       shows = r.shows t h;
     }

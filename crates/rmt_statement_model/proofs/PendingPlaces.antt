@@ -1,4 +1,4 @@
--- The last mutation below a place that is pending for a name, and the first of some names that has one.
+-- The last mutation below a place that is pending for a name.
 use Rattle.std.proofs.Common.{◌≡◌, ℕ, ◌<◌, inl, inr, ◌&&◌, Bool, true, false, cond, List, [], ◌∷◌, length, refl, sym, ap, subst, arith, ◌∙◌, nat_eq, nat_lt}
 use Rattle.std.proofs.lemmas.Bool.Decides.{nat_tests}
 use Rattle.std.specs.declared.option.Option.{Option}
@@ -7,12 +7,10 @@ use Rattle.rmt_values.specs.Rows.{Shape}
 use Rattle.rmt_names.specs.Names.{Name, data_version}
 use Rattle.rmt_entries.specs.declared.entry.Entry.{Entry}
 use Rattle.rmt_entries.specs.declared.entry.Entry.TheVariants.{Mutate}
-use Rattle.rmt_model.specs.Words.{Has}
 use Rattle.rmt_model.specs.Lawful.{Lawful, IsMutationWith, entry_at}
 use Rattle.rmt_model.proofs.Drops.{some-same, entry-below, entry-cases, entry-older}
 use Rattle.rmt_history.specs.Mutations.{number_in, is_pending, last_pending}
 use Rattle.rmt_history.proofs.NumberLemmas.{passes, pending-number, pending-mutation, with-in, log-order, pending-later}
-use Rattle.rmt_pick.specs.Choices.{or_next, next_among}
 
 -- ---- the last mutation that is pending for a name
 
@@ -87,31 +85,6 @@ last-same log a old name upto i count mcount = go (nat_lt (length log) upto)
     go : (b : Bool) → cond (b && false) (Some (length log)) (last_pending log a upto) ≡ last_pending log a upto
     go true = refl
     go false = refl
-
--- ---- the next name for which one is pending
-
--- none is pending for any of the names
-pub among-none : (log : List Entry) (upto : ℕ) (names : List Name) (a : Name) → next_among log upto names ≡ None → Has names a → last_pending log a upto ≡ None
-among-none log upto [] a e h = absurd h
-among-none log upto (x ∷ names) a e h = go (last_pending log x upto) refl e h (among-none log upto names a)
-  where
-    go : (o : Option ℕ) → last_pending log x upto ≡ o → or_next x o (next_among log upto names) ≡ None → Has (x ∷ names) a → (next_among log upto names ≡ None → Has names a → last_pending log a upto ≡ None) → last_pending log a upto ≡ None
-    go None q k (inl s) f = subst (λ (y : Name). last_pending log y upto ≡ None) s q
-    go None q k (inr m) f = f k m
-    go (Some i) q k m f = absurd (cc)
-
--- it is one of the names, with the place of the last one that is pending
-pub among-some : (log : List Entry) (upto : ℕ) (names : List Name) (a : Name) (i : ℕ) → next_among log upto names ≡ Some (a, i) → Has names a × (last_pending log a upto ≡ Some i)
-among-some log upto [] a i e = absurd (cc)
-among-some log upto (x ∷ names) a i e = go (last_pending log x upto) refl e (among-some log upto names a i)
-  where
-    go : (o : Option ℕ) → last_pending log x upto ≡ o → or_next x o (next_among log upto names) ≡ Some (a, i) → (next_among log upto names ≡ Some (a, i) → Has names a × (last_pending log a upto ≡ Some i)) → Has (x ∷ names) a × (last_pending log a upto ≡ Some i)
-    go None q k f = let r = f k in (inr r.0, r.1)
-    go (Some j) q k f =
-        let s : (x, j) ≡ (a, i) = some-same (x, j) (a, i) k in
-        let n : x ≡ a = ap (λ (v : Name × ℕ). v.0) s in
-        let m : j ≡ i = ap (λ (v : Name × ℕ). v.1) s in
-        (inl n, subst (λ (y : Name). last_pending log y upto ≡ Some i) n (q ∙ ap Some m))
 
 -- ---- once the last one is done
 

@@ -1,7 +1,7 @@
 -- OPTIMIZE .. FINAL: partition by partition, until one can't be merged.
 -- ClickHouse documentation, OPTIMIZE: FINAL merges all parts of a partition into one. That a single part stays as it is, and that
 -- parts of different mutations aren't merged, is this program's own.
-use Rattle.std.specs.Prelude.{◌≡◌, ◌⊎◌, ℕ, cond, nat_eq, List, [], ◌∷◌, filter}
+use Rattle.std.specs.Prelude.{◌≡◌, ◌⊎◌, ℕ, ◌≤◌, cond, nat_eq, List, [], ◌∷◌, length, filter}
 use Rattle.std.specs.declared.option.Option.{Option}
 use Rattle.std.specs.declared.option.Option.TheVariants.{Some, None}
 use Rattle.rmt_names.specs.Names.{Name, rank}
@@ -48,10 +48,10 @@ pub record MergesLive (t : TableState) (p : Option ℕ) (name : Name) (u : Table
 abbrev pub Optimizes : TableState → Option ℕ → Name → TableState → Type 0
 Optimizes t p name u = ((live_of t.log p ≡ name ∷ []) × (u ≡ t)) ⊎ MergesLive t p name u
 
--- why the partition's live names aren't merged: the first neighbours whose versions differ, or a limit
+-- why the partition's live names, two or more, aren't merged: the first neighbours whose versions differ, or a limit
 abbrev pub CantOptimize : TableState → Option ℕ → Refusal → Type 0
 CantOptimize t p (Unmergeable left right) = AreFirstToDiffer t.log (live_of t.log p) left right
-CantOptimize t p (LimitReached limit value) = AreAlike t.log (live_of t.log p) × (worker_limit t.log ≡ Some (limit, value))
+CantOptimize t p (LimitReached limit value) = (2 ≤ length (live_of t.log p)) × AreAlike t.log (live_of t.log p) × (worker_limit t.log ≡ Some (limit, value))
 CantOptimize t p refusal = ⊥
 
 -- one partition after the other, the replica brought up to date after each: its one name, or why there is none, after which no

@@ -1,7 +1,7 @@
 -- WAIT MUTATION: every live part is brought to a mutation.
 -- ClickHouse documentation, ALTER, "Mutations" (`mutations_sync`): a query can wait until a mutation is done. That it does the work
 -- itself is this program's own.
-use Rattle.std.specs.Prelude.{◌≡◌, ℕ, ◌≤◌, List, ◌++◌}
+use Rattle.std.specs.Prelude.{◌≡◌, ℕ, ◌<◌, ◌≤◌, List, ◌++◌}
 use Rattle.std.specs.declared.option.Option.{Option}
 use Rattle.std.specs.declared.option.Option.TheVariants.{Some}
 use Rattle.rmt_values.specs.declared.checked_mutation.CheckedMutation.{CheckedMutation}
@@ -21,6 +21,19 @@ use Rattle.rmt_statement_model.specs.TableStates.{TableState, synced}
 abbrev pub NonePending : List Entry → ℕ → Type 0
 NonePending log id =
     (k n : ℕ) (numbers : List (Option ℕ × ℕ)) (command : CheckedMutation) (a : Name) → Has log (Mutation k numbers command) → k ≤ id → Has (live log) a → Has numbers (a.partition, n) → n ≤ data_version a
+
+-- a mutation with an id up to this one has a number above the data version of a live name
+pub record SomePending (log : List Entry) (id : ℕ) : Type 0 where
+  pub mutation : ℕ
+  pub number : ℕ
+  pub numbers : List (Option ℕ × ℕ)
+  pub command : CheckedMutation
+  pub name : Name
+  pub is_there : Has log (Mutation mutation numbers command)
+  pub up_to : mutation ≤ id
+  pub is_live : Has (live log) name
+  pub numbered : Has numbers (name.partition, number)
+  pub above : data_version name < number
 
 -- the entry mutates a part, up to the mutation at a place that isn't past this one
 abbrev pub MutatesUpTo : ℕ → Entry → Type 0
@@ -46,9 +59,10 @@ pub record WaitsFor (t : TableState) (r id : ℕ) (u : TableState) : Type 0 wher
   pub mutates : MutatesParts t r id u
   pub carried : NonePending u.log id
 
--- one more entry would pass a limit; what was mutated stays so
+-- a part waits still, and one more entry would pass a limit; what was mutated stays so
 pub record LacksEntries (t : TableState) (r id : ℕ) (refusal : Refusal) (u : TableState) : Type 0 where
   pub mutates : MutatesParts t r id u
+  pub waits : SomePending u.log id
   pub limit : Limit
   pub value : ℕ
   pub reached : worker_limit u.log ≡ Some (limit, value)
