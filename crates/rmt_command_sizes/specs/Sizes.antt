@@ -1,6 +1,6 @@
 -- Sizes of commands as statements write them.
 -- No public source: that a filter in a log entry nests at most 512 deep is this program's own.
-use Rattle.std.specs.Prelude.{ℕ, ◌+◌, ◌^◌, ◌&&◌, Bool, max, nat_le, nat_lt, length}
+use Rattle.std.specs.Prelude.{ℕ, ◌+◌, ◌&&◌, Bool, max, nat_le, length}
 use Rattle.rmt_values.specs.declared.filter.Filter.{Filter}
 use Rattle.rmt_values.specs.declared.filter.Filter.TheOpen.{Filter-F, Test, Both, Either, Not}
 use Rattle.rmt_values.specs.declared.filter.Filter.TheFolds.{fold-Filter}
@@ -18,7 +18,7 @@ level_nesting (Not f) = f + 1
 abbrev pub nesting : Filter → ℕ
 nesting filter = fold-Filter ℕ level_nesting filter
 
--- the command is small: its filter nests at most 512 deep, and an UPDATE sets at least one column and fewer than 2^16
+-- the command is small: its filter nests at most 512 deep, and an UPDATE sets at least one column
 abbrev pub is_small_command : Mutation → Bool
-is_small_command (commands.Update sets filter) = (nat_le 1 (length sets) && nat_lt (length sets) (2 ^ 16)) && nat_le (nesting filter) 512
+is_small_command (commands.Update sets filter) = nat_le 1 (length sets) && nat_le (nesting filter) 512
 is_small_command (commands.Delete filter) = nat_le (nesting filter) 512

@@ -1,22 +1,25 @@
 //! Ranges of checked commands.
 ghost use Rattle.std.specs.Prelude.{◌≡◌, ◌≤◌, ℕ, true};
 ghost use Rattle.std.specs.List.{AllByRecursion};
+ghost use Rattle.std.specs.declared.option.Option.TheVariants.{None};
 ghost use Rattle.rmt_values.specs.Rows.{Shape, is_value};
+ghost use Rattle.rmt_values.specs.Schemas.{IsSchema};
 ghost use Rattle.rmt_values.specs.Filters.{FilterFits};
 ghost use Rattle.rmt_values.specs.Commands.{CommandFits, SetsFit, RightFits};
 ghost use Rattle.rmt_values.specs.declared.value.Value.TheVariants.{Text};
 ghost use Rattle.rmt_values.specs.declared.mutation.Mutation.{Mutation as Written};
 ghost use Rattle.rmt_bytes.specs.Encoding.{IsInRange};
 ghost use Rattle.rmt_entries.specs.EntryBytes.{CommandInRange, FilterInRange, RightInRange, SetInRange, depth};
-ghost use Rattle.rmt_expr.specs.Mutations.{IsCheckedMutation};
+ghost use Rattle.rmt_expr.specs.Mutations.{IsCheckedMutation, mutation_refusal};
 ghost use Rattle.rmt_command_sizes.specs.Sizes.{is_small_command};
 
 use rmt_values::{Checked, CheckedMutation, CheckedRight, Value};
 
-/// Says that the checked form of a small command has bytes. It looks at each value, whose width its type tells, and changes
-/// nothing.
+/// Says that the checked form of a small command that isn't refused has bytes. It looks at each value, whose width its type
+/// tells, and changes nothing.
 pub fn range_of_command(command: &CheckedMutation)
-    requires { (schema : Shape) × (m : Written) × IsCheckedMutation schema m command.now × CommandFits schema command.now × (is_small_command m ≡ true) }
+    requires { (schema : Shape) × (m : Written) × IsCheckedMutation schema m command.now × CommandFits schema command.now
+        × (is_small_command m ≡ true) × IsSchema schema × (mutation_refusal schema m ≡ None) }
     ensures { CommandInRange command.now }
 {
     match command {

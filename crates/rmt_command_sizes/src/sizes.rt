@@ -7,18 +7,13 @@ use rmt_values::{Filter, Mutation};
 /// How deep a filter nests at most in a log entry.
 const DEEPEST: u16 = 512;
 
-/// How many columns an UPDATE sets at most in a log entry.
-const MOST_SETS: usize = 65_535;
-
-/// Whether a command is of the size that the bytes of a log entry can hold: its filter nests at most 512 deep, and an UPDATE
-/// sets 1 to 65,535 columns.
+/// Whether a command is of a size that a log entry can hold: its filter nests at most 512 deep, and an UPDATE sets a column. That
+/// it doesn't set too many is a matter of its schema: one that sets no column twice sets at most 64.
 pub fn is_small(command: &Mutation) -> bool
     ensures { result ≡ is_small_command command.now }
 {
     match command {
-        Mutation::Update { sets, filter } => {
-            1 <= sets.len() && sets.len() <= MOST_SETS && nests_within(filter, DEEPEST)
-        }
+        Mutation::Update { sets, filter } => { 1 <= sets.len() && nests_within(filter, DEEPEST) }
         Mutation::Delete { filter } => nests_within(filter, DEEPEST),
     }
 }
