@@ -6,3 +6,5 @@ pub mod ChangeActs
 pub mod PartitionLists
 pub mod OptimizeActs
 pub mod OptimizeLoops
+pub mod MutationTokens
+pub mod WaitActs

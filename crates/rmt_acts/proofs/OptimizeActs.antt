@@ -1,5 +1,5 @@
 -- What the merge of all live names of one partition comes to.
-use Rattle.std.proofs.Common.{◌≡◌, ℕ, inl, inr, true, Bool, cond, List, [], ◌∷◌, length, refl, sym, ap, subst, arith, ◌∙◌, nat_eq, get_or}
+use Rattle.std.proofs.Common.{◌≡◌, ℕ, ◌≤◌, inl, inr, true, Bool, cond, List, [], ◌∷◌, length, refl, sym, ap, subst, arith, ◌∙◌, nat_eq, get_or}
 use Rattle.std.proofs.lemmas.Bool.Decides.{nat_tests}
 use Rattle.std.specs.declared.option.Option.{Option}
 use Rattle.std.specs.declared.option.Option.TheVariants.{Some}
@@ -118,7 +118,7 @@ pub refused-merge : (s u : Cluster) (r : ℕ) (p : Option ℕ) (names : List Nam
 refused-merge s u r p names why (Unmergeable left right) e m t h =
     differ-row s u r p names left right m.whole (sym m.live) (subst (λ (y : StepRefused). Step s (ev.Merge r names) (rp.Refused y) u) e m.step) t h
 refused-merge s u r p names why (LimitReached limit value) e m t h =
-    no-entry-row s u r p names limit value m.whole (sym m.live) (subst (λ (y : StepRefused). Step s (ev.Merge r names) (rp.Refused y) u) e m.step) t h
+    no-entry-row s u r p names limit value m.whole (subst (λ (ns : List Name). 2 ≤ length ns) (sym m.are.are) (omega arith)) (sym m.live) (subst (λ (y : StepRefused). Step s (ev.Merge r names) (rp.Refused y) u) e m.step) t h
 refused-merge s u r p names why x e m t h = absurd e
 
 -- a cluster of the same table and replicas is as much up to date

@@ -1,4 +1,5 @@
--- What mutations and drops come to. No public clause but those of `mutate` and `drop_partition` cites this module.
+-- What mutations, drops and restarts come to. No public clause but those of `mutate`, `drop_partition` and `restart_replica` cites
+-- this module.
 use Rattle.std.specs.Prelude.{◌≡◌, ◌⊎◌, ℕ, List}
 use Rattle.std.specs.declared.option.Option.{Option}
 use Rattle.std.specs.declared.option.Option.TheVariants.{Some}
@@ -9,6 +10,9 @@ use Rattle.rmt_entries.specs.declared.entry.Entry.{Entry}
 use Rattle.rmt_entries.specs.declared.entry.Entry.TheVariants.{DropRange}
 use Rattle.rmt_model.specs.Lawful.{entry_at}
 use Rattle.rmt_events.specs.Clusters.{Cluster}
+use Rattle.rmt_events.specs.Steps.{Step}
+use Rattle.rmt_events.specs.declared.event.Event.TheVariants as ev
+use Rattle.rmt_events.specs.declared.reply.Reply.{Reply}
 use Rattle.rmt_reply.specs.declared.refusal.Refusal.{Refusal}
 use Rattle.rmt_statement_model.specs.TableStates.{TableState, learned}
 use Rattle.rmt_statement_model.specs.Mutations.{Mutates, LacksMutation}
@@ -28,6 +32,14 @@ DropsSome t r p below u = Drops t r p below u ⊎ DropsNothing t p below u
 abbrev pub DropsTo : Cluster → ℕ → Option ℕ → Result ℕ Refusal → Cluster → Type 0
 DropsTo s r p (Ok below) u = (t : TableState) → Shows s t → Leads u (DropsSome t r p below)
 DropsTo s r p (Err refusal) u = (t : TableState) → Shows s t → Leads u (LacksDrop t p refusal)
+
+-- the replica's session ended, and another one began
+pub record BeginsAnew (s : Cluster) (r : ℕ) (u : Cluster) : Type 0 where
+  pub mid : Cluster
+  pub ended : Reply
+  pub ends : Step s (ev.Kill r) ended mid
+  pub begun : Reply
+  pub begins : Step mid (ev.Restart r) begun u
 
 -- ---- what only private functions cite
 

@@ -2,3 +2,4 @@ pub use Rattle.rmt_statement_model.specs.TableStates
 pub mod Inserting
 pub mod Changing
 pub mod Optimizing
+pub mod Waiting

@@ -1,9 +1,11 @@
 //! Background work, and a replica that is restarted.
 ghost use Rattle.std.specs.Prelude.{◌≡◌, ◌<◌, ◌^◌, length, OnOk};
 ghost use Rattle.rmt_cluster.specs.Clusters.{IsNumber};
+ghost use Rattle.rmt_cluster.specs.Runs.{RunsAll};
 ghost use Rattle.rmt_statement_model.specs.TableStates.{TableState};
 ghost use Rattle.rmt_statement_model.specs.BackgroundWork.{Works};
 ghost use Rattle.rmt_statement_model.specs.Shows.{IsIdle, Shows, Leads};
+ghost use Rattle.rmt_acts.specs.Changing.{BeginsAnew};
 
 use rmt_cluster::Cluster;
 use rmt_events::{Event, Reply, StepRefused};
@@ -19,6 +21,7 @@ pub fn run_turns(
 ) -> Result<(), AllocError>
     requires seed { seed < 2 ^ 31 }
     requires idle { IsIdle cluster.old }
+    ensures runs { OnOk result (RunsAll cluster.old seed turns cluster.new) }
     ensures works { OnOk result ((t : TableState) → Shows cluster.old t → Leads cluster.new (Works t)) }
     ensures idle { OnOk result (IsIdle cluster.new) }
     ensures schema { cluster.new.table.schema ≡ cluster.old.table.schema }
@@ -38,6 +41,7 @@ pub fn restart_replica(
 ) -> Result<(), AllocError>
     requires here { IsNumber replica (length cluster.old.replicas) }
     requires idle { IsIdle cluster.old }
+    ensures anew { OnOk result (BeginsAnew cluster.old replica cluster.new) }
     ensures restarts { OnOk result ((t : TableState) → Shows cluster.old t → Shows cluster.new t) }
     ensures idle { OnOk result (IsIdle cluster.new) }
     ensures schema { cluster.new.table.schema ≡ cluster.old.table.schema }

@@ -16,13 +16,15 @@ mod outcome;
 mod partitions;
 mod reading;
 mod syncing;
+mod waiting;
 
 pub use background::{restart_replica, run_turns};
 pub use drop::drop_partition;
 pub use insert::insert_blocks;
 pub use insertion::Insertion;
-pub use mutation::mutate;
+pub use mutation::{mutate, mutations_made};
 pub use optimization::Optimization;
 pub use optimizing::optimize;
 pub use reading::{answer_up_to_date, read_parts, schema_of};
 pub use syncing::sync_replica;
+pub use waiting::wait_for;

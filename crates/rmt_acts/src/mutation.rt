@@ -2,6 +2,7 @@
 ghost use Rattle.std.specs.Prelude.{◌≡◌, length, IfOk};
 ghost use Rattle.rmt_values.specs.Commands.{CommandFits};
 ghost use Rattle.rmt_entries.specs.EntryBytes.{CommandInRange};
+ghost use Rattle.rmt_model.specs.Lawful.{mutation_count};
 ghost use Rattle.rmt_statement_model.specs.Shows.{IsIdle};
 ghost use Rattle.rmt_acts.specs.Changing.{MutatesTo};
 
@@ -10,6 +11,13 @@ use rmt_events::{Event, Reply, StepRefused};
 use rmt_reply::Refusal;
 use rmt_values::CheckedMutation;
 use std::alloc::{AllocError, Global};
+
+/// How many mutations were made.
+pub fn mutations_made(cluster: &Cluster) -> u32
+    ensures { result ≡ mutation_count cluster.now.table.log }
+{
+    cluster.state().tree().mutations()
+}
 
 /// Makes a mutation, and gives its id; or the refusal, where it would pass a limit. At an error no memory was left, and
 /// nothing changed.
@@ -26,7 +34,7 @@ pub fn mutate(
     ensures schema { cluster.new.table.schema ≡ cluster.old.table.schema }
     ensures replicas { length cluster.new.replicas ≡ length cluster.old.replicas }
 {
-    let id = cluster.state().tree().mutations();
+    let id = mutations_made(cluster);
     let reply = cluster.step(alloc, Event::CreateMutation { command })?;
     match reply {
         Reply::Entry(_) => Ok(Ok(id)),

@@ -1,14 +1,17 @@
 //! What is read of a table at a replica.
-ghost use Rattle.std.specs.Prelude.{◌≡◌, length, IfOk};
+ghost use Rattle.std.specs.Prelude.{◌≡◌, ℕ, length, slice_get, IfOk};
+ghost use Rattle.std.specs.declared.option.Option.TheVariants.{Some};
 ghost use Rattle.std.specs.List.{All, filter};
 ghost use Rattle.rmt_cluster.specs.Clusters.{IsNumber};
-ghost use Rattle.rmt_model.specs.Lawful.{is_mutation};
+ghost use Rattle.rmt_row.specs.Token.{Token};
+ghost use Rattle.rmt_model.specs.Lawful.{is_mutation, mutation_count};
 ghost use Rattle.rmt_changes.specs.Changes.{entries_of};
 ghost use Rattle.rmt_changes.specs.Laws.{EntryFits};
 ghost use Rattle.rmt_query.specs.Answers.{answer_of};
 ghost use Rattle.rmt_statement_model.specs.TableStates.{TableState, plain_rows};
 ghost use Rattle.rmt_statement_model.specs.Reads.{IsReading, KnowsAll};
 ghost use Rattle.rmt_statement_model.specs.Shows.{IsIdle, Shows};
+ghost use Rattle.rmt_acts.specs.Waiting.{IsPlaceOf};
 
 use rmt_cluster::Cluster;
 use rmt_entries::Entry;
@@ -49,10 +52,13 @@ pub fn read_parts(
     }
 }
 
-/// The mutations of a copy, the oldest first.
-fn all_mutations(copy: &LogCopy) -> &[Seen<Entry>]
+/// The mutations of a copy, the oldest first: that of an id is at the index of the same number.
+pub(crate) fn all_mutations(copy: &LogCopy) -> &[Seen<Entry>]
     ensures entries { entries_of result.now ≡ filter is_mutation copy.now.log }
     ensures fit { All (λ token. EntryFits copy.now.schema token.value) result.now }
+    ensures count { length result.now ≡ mutation_count copy.now.log }
+    ensures places { (id : ℕ) (token : Token Entry) → slice_get result.now id ≡ Some token
+        → IsPlaceOf copy.now.log id token.place }
 {
     match copy.mutations(copy.len()) {
         Some(list) => list.as_slice(),

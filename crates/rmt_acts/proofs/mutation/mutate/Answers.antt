@@ -1,6 +1,4 @@
-use Rattle.std.proofs.Common.{◌≡◌, ◌∙◌, ℕ, ap, subst, sym}
-use Rattle.rmt_model.specs.Lawful.{mutation_count}
-use Rattle.rmt_events.specs.Views.{Table}
+use Rattle.std.proofs.Common.{◌∙◌, ℕ, ap, subst, sym}
 use Rattle.rmt_events.specs.Steps.{Step}
 use Rattle.rmt_events.specs.declared.event.Event.TheVariants as ev
 use Rattle.rmt_events.specs.declared.reply.Reply.{Reply}
@@ -14,9 +12,8 @@ pub returns-in-Entry-clause-mutates : goal.returns-in-Entry-clause-mutates
 returns-in-Entry-clause-mutates c = λ t h.
     let s = c.args.cluster.now in
     let u = c.step.new.self in
-    let id : c.mutations-id.result ≡ mutation_count s.table.log = c.mutations-id.ensures ∙ (ap (λ x. mutation_count x.log) c.tree.ensures ∙ ap (λ (x : Table). mutation_count x.log) c.state.ensures.table) in
     let k = subst (λ (y : Reply). Step s (ev.CreateMutation c.args.command) y u) c.in-Entry.is c.in_ok-reply.ensures.ok in
-    subst (λ (i : ℕ). Leads u (Mutates t c.args.command i)) (sym id) (mutation-row s u c.args.command c.in-Entry.field-0 c.step.ensures.whole k t h)
+    subst (λ (i : ℕ). Leads u (Mutates t c.args.command i)) (sym c.mutations_made-id.ensures) (mutation-row s u c.args.command c.in-Entry.field-0 c.step.ensures.whole k t h)
 
 pub returns-in-LimitReached-clause-mutates : goal.returns-in-LimitReached-clause-mutates
 returns-in-LimitReached-clause-mutates c =

@@ -1,7 +1,9 @@
-use Rattle.std.proofs.Common.{◌∙◌, ap, sym}
+use Rattle.std.proofs.Common.{◌∙◌, [], ap, subst, sym}
 use Rattle.rmt_changes.specs.Changes.{entries_of}
-use Rattle.rmt_history.specs.Mutations.{mutations_below}
+use Rattle.rmt_model.specs.Words.{Each}
+use Rattle.rmt_history.specs.Mutations.{IsTokenBelow, mutations_below}
 use Rattle.rmt_acts.proofs.ReadActs.{all-below, tokens-fit}
+use Rattle.rmt_acts.proofs.MutationTokens.{tokens-count, token-places}
 use Rattle.rmt_acts.proofs.reading.all_mutations.Goals as goal
 
 pub returns-in-Some-clause-entries : goal.returns-in-Some-clause-entries
@@ -14,6 +16,24 @@ returns-in-Some-clause-fit c =
     let log = c.args.copy.now.log in
     tokens-fit c.args.copy.now.schema log c.as_slice.result.now c.len.ensures.lawful
     (ap entries_of (c.as_slice.ensures ∙ c.deref.ensures) ∙ (c.in-Some.ensures.tokens.entries ∙ (ap (mutations_below log) c.len.ensures.len ∙ all-below log)))
+
+pub returns-in-Some-clause-count : goal.returns-in-Some-clause-count
+returns-in-Some-clause-count c =
+    let log = c.args.copy.now.log in
+    tokens-count c.args.copy.now.schema log c.as_slice.result.now c.len.ensures.lawful
+    (ap entries_of (c.as_slice.ensures ∙ c.deref.ensures) ∙ (c.in-Some.ensures.tokens.entries ∙ (ap (mutations_below log) c.len.ensures.len ∙ all-below log)))
+
+pub returns-in-Some-clause-places : goal.returns-in-Some-clause-places
+returns-in-Some-clause-places c =
+    let log = c.args.copy.now.log in
+    token-places c.args.copy.now _ c.as_slice.result.now c.len.ensures.lawful
+    (ap entries_of (c.as_slice.ensures ∙ c.deref.ensures) ∙ (c.in-Some.ensures.tokens.entries ∙ (ap (mutations_below log) c.len.ensures.len ∙ all-below log)))
+    (subst (Each (IsTokenBelow c.args.copy.now c.len.result)) (sym (c.as_slice.ensures ∙ c.deref.ensures)) c.in-Some.ensures.tokens.places)
+
+pub returns-in-None-clause-count : goal.returns-in-None-clause-count
+returns-in-None-clause-count c =
+    let log = c.args.copy.now.log in
+    tokens-count c.args.copy.now.schema log [] c.len.ensures.lawful (sym c.in-None.ensures.tokens ∙ (ap (mutations_below log) c.len.ensures.len ∙ all-below log))
 
 pub returns-in-None-clause-entries : goal.returns-in-None-clause-entries
 returns-in-None-clause-entries c =

@@ -1,0 +1,49 @@
+use Rattle.std.proofs.Common.{◌≡◌, ◌∙◌, ◌+◌, List, ◌∷◌, drop, ap, sym, subst}
+use Rattle.std.proofs.lemmas.List.{drop_all}
+use Rattle.std.specs.declared.option.Option.{Option}
+use Rattle.rmt_names.specs.Names.{Name}
+use Rattle.rmt_entries.specs.declared.entry.Entry.{Entry}
+use Rattle.rmt_model.specs.Live.{live}
+use Rattle.rmt_reply.specs.declared.refusal.Refusal.{Refusal}
+use Rattle.rmt_acts.specs.Waiting.{IsPlaceOf, Settles}
+use Rattle.rmt_acts.proofs.OptimizeActs.{whole-log}
+use Rattle.rmt_acts.proofs.WaitActs.{IsWaiting, waiting-begins, waiting-goes-on, waiting-ends, waiting-stops, next-part, place-below}
+use Rattle.rmt_acts.proofs.waiting.wait_for.Goals as goal
+use Rattle.rmt_acts.proofs.waiting.wait_for.Goals.{In_ok-refusal}
+
+pub parts-init : goal.parts-init
+parts-init c =
+    let u = c.sync_replica.new.cluster in
+    let done = c.in_ok-sync_replica.ensures in
+    let parts : c.deref-part-items.result.now ≡ live u.table.log =
+    c.deref-part-items.ensures.value ∙ (c.in_ok-parts.ensures.items ∙ (c.live.ensures ∙ ap live (whole-log u c.args.replica c.copy-2.result.now.log done.whole c.copy-2.ensures.log))) in
+    let place = subst (λ (l : List Entry). IsPlaceOf l c.args.id c.place_of-place.result) (whole-log u c.args.replica c.copy.result.now.log done.whole c.copy.ensures.log) c.place_of-place.ensures in
+    subst (λ (ps : List Name). IsWaiting c.args.cluster.now c.args.replica c.args.id c.place_of-place.result ps u) (sym parts)
+    (waiting-begins c.args.cluster.now u c.args.replica c.args.id c.place_of-place.result c.drained_replicas_agree.ensures.whole place done.idle done.whole done.schema done.replicas done.syncs)
+
+pub settle_part-requires-clause-below : goal.settle_part-requires-clause-below
+settle_part-requires-clause-below c = place-below c.parts.cluster.table.log c.args.id c.place_of-place.result c.parts.invariant.placed
+
+-- the next part and those behind it
+to-come : (c : In_ok-refusal) → IsWaiting c.args.cluster.now c.args.replica c.args.id c.place_of-place.result (c.part-item.result ∷ drop (c.parts.part-index + 1) c.deref-part-items.result.now) c.parts.cluster
+to-come c =
+    subst (λ (ps : List Name). IsWaiting c.args.cluster.now c.args.replica c.args.id c.place_of-place.result ps c.parts.cluster)
+    (next-part c.deref-part-items.result.now c.parts.part-index c.part-item.result c.parts-test.true c.part-item.is) c.parts.invariant
+
+pub returns-in-Some-clause-waits : goal.returns-in-Some-clause-waits
+returns-in-Some-clause-waits c =
+    waiting-stops c.args.cluster.now c.parts.cluster c.settle_part.new.cluster c.args.replica c.args.id c.place_of-place.result c.part-item.result (drop (c.parts.part-index + 1) c.deref-part-items.result.now) c.in-Some.refusal
+    c.drained_replicas_agree-in-parts.ensures.whole (subst (λ (o : Option Refusal). Settles c.parts.cluster c.args.replica c.part-item.result c.place_of-place.result o c.settle_part.new.cluster) c.in-Some.is c.in_ok-refusal.ensures.settles)
+    (to-come (goal.at.returns-in-Some-clause-waits c).In_ok-refusal)
+
+pub parts-preserved : goal.parts-preserved
+parts-preserved c =
+    let done = c.in_ok-refusal.ensures in
+    waiting-goes-on c.args.cluster.now c.parts.cluster c.settle_part.new.cluster c.args.replica c.args.id c.place_of-place.result c.part-item.result (drop (c.parts.part-index + 1) c.deref-part-items.result.now)
+    c.drained_replicas_agree-in-parts.ensures.whole (subst (λ (o : Option Refusal). Settles c.parts.cluster c.args.replica c.part-item.result c.place_of-place.result o c.settle_part.new.cluster) c.in_default.is done.settles)
+    done.idle done.schema done.replicas (to-come (goal.at.parts-preserved c).In_ok-refusal)
+
+pub returns-clause-waits : goal.returns-clause-waits
+returns-clause-waits c =
+    waiting-ends c.args.cluster.now c.parts.cluster c.args.replica c.args.id c.place_of-place.result c.drained_replicas_agree-2.ensures.whole
+    (subst (λ (ps : List Name). IsWaiting c.args.cluster.now c.args.replica c.args.id c.place_of-place.result ps c.parts.cluster) (drop_all c.parts.part-index c.deref-part-items.result.now c.parts-test.false) c.parts.invariant)

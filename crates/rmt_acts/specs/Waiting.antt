@@ -1,0 +1,53 @@
+-- What WAIT MUTATION comes to, part by part. No public clause but that of `wait_for` cites this module.
+use Rattle.std.specs.Prelude.{◌≡◌, ℕ, ◌+◌, List, ◌∷◌, MatchOption}
+use Rattle.std.specs.declared.option.Option.{Option}
+use Rattle.std.specs.declared.option.Option.TheVariants.{Some, None}
+use Rattle.rmt_values.specs.declared.checked_mutation.CheckedMutation.{CheckedMutation}
+use Rattle.rmt_names.specs.Names.{Name}
+use Rattle.rmt_entries.specs.declared.entry.Entry.{Entry}
+use Rattle.rmt_entries.specs.declared.entry.Entry.TheVariants.{Mutate, Mutation}
+use Rattle.rmt_model.specs.Lawful.{Lawful, entry_at}
+use Rattle.rmt_history.specs.Mutations.{last_pending}
+use Rattle.rmt_limits.specs.EntryLimits.{worker_limit}
+use Rattle.rmt_events.specs.Clusters.{Cluster}
+use Rattle.rmt_reply.specs.declared.refusal.Refusal.{Refusal}
+use Rattle.rmt_reply.specs.declared.refusal.Refusal.TheVariants.{LimitReached}
+use Rattle.rmt_statement_model.specs.TableStates.{TableState, synced}
+use Rattle.rmt_statement_model.specs.Waits.{WaitsFor, LacksEntries}
+use Rattle.rmt_statement_model.specs.Shows.{Shows, Leads, IsUpToDate}
+
+-- what waiting for a mutation comes to, whatever state the cluster shows: no part waits for it, or a refusal
+abbrev pub WaitsTo : Cluster → ℕ → ℕ → Option Refusal → Cluster → Type 0
+WaitsTo s r id None u = (t : TableState) → Shows s t → Leads u (WaitsFor t r id)
+WaitsTo s r id (Some refusal) u = (t : TableState) → Shows s t → Leads u (LacksEntries t r id refusal)
+
+-- ---- what only private functions cite
+
+-- the mutation of this id is at the place
+abbrev pub IsPlaceOf : List Entry → ℕ → ℕ → Type 0
+IsPlaceOf log id place = (numbers : List (Option ℕ × ℕ)) × (command : CheckedMutation) × (entry_at log place ≡ Some (Mutation id numbers command))
+
+-- a part is mutated up to the mutation at a place, and the replica is up to date
+pub record BecomesMutated (s : Cluster) (r : ℕ) (old : Name) (upto : ℕ) (u : Cluster) : Type 0 where
+  pub name : Name
+  pub count : ℕ
+  pub mcount : ℕ
+  pub log : u.table.log ≡ Mutate old name upto count mcount ∷ s.table.log
+  pub lawful : Lawful u.table.schema u.table.log
+  pub whole : IsUpToDate u r
+  pub shows : (t : TableState) → Shows s t → Shows u (synced r (record t { log = Mutate old name upto count mcount ∷ t.log }))
+
+-- one more entry would pass the limit that is told
+abbrev pub IsFull : TableState → Refusal → Type 0
+IsFull t (LimitReached limit value) = worker_limit t.log ≡ Some (limit, value)
+IsFull t refusal = ⊥
+
+-- what the mutate of a part comes to
+abbrev pub MutatesOne : Cluster → ℕ → Name → ℕ → Option Refusal → Cluster → Type 0
+MutatesOne s r old upto None u = BecomesMutated s r old upto u
+MutatesOne s r old upto (Some refusal) u = (t : TableState) → Shows s t → IsFull t refusal × Shows u t
+
+-- a part for which no mutation is pending that isn't past the place stays; another one is mutated up to the last such one
+abbrev pub Settles : Cluster → ℕ → Name → ℕ → Option Refusal → Cluster → Type 0
+Settles s r part place refused u =
+    MatchOption (last_pending s.table.log part (place + 1)) ((refused ≡ None) × (u ≡ s)) (λ last. MutatesOne s r part last refused u)

@@ -1,0 +1,126 @@
+//! WAIT MUTATION.
+ghost use Rattle.std.specs.Prelude.{◌≡◌, ◌<◌, length, IfOk};
+ghost use Rattle.rmt_model.specs.Words.{Has};
+ghost use Rattle.rmt_model.specs.Live.{live};
+ghost use Rattle.rmt_model.specs.Lawful.{mutation_count};
+ghost use Rattle.rmt_cluster.specs.Clusters.{IsNumber};
+ghost use Rattle.rmt_events.specs.LogEvents.{IsMutable};
+ghost use Rattle.rmt_statement_model.specs.Shows.{IsIdle, IsUpToDate};
+ghost use Rattle.rmt_acts.specs.Waiting.{IsPlaceOf, MutatesOne, Settles, WaitsTo};
+
+use crate::reading::all_mutations;
+use crate::syncing::sync_replica;
+use rmt_cluster::Cluster;
+use rmt_events::{Event, Reply, StepRefused};
+use rmt_history::LogCopy;
+use rmt_names::PartName;
+use rmt_reply::Refusal;
+use rmt_values::ReplicaId;
+use std::alloc::{AllocError, Global};
+
+/// The place of a mutation in a copy.
+fn place_of(copy: &LogCopy, id: u32) -> usize
+    requires known { id < mutation_count copy.now.log }
+    ensures { IsPlaceOf copy.now.log id result }
+{
+    let Some(token) = all_mutations(copy).get(id as usize) else {
+        unreachable!()
+    };
+    token.place()
+}
+
+/// Mutates a part up to the mutation at a place, and brings the replica up to date; or gives the refusal, where one more
+/// entry would pass a limit.
+fn mutate_part(
+    alloc: Global,
+    cluster: &mut Cluster,
+    replica: ReplicaId,
+    old: PartName,
+    upto: u32,
+) -> Result<Option<Refusal>, AllocError>
+    requires here { IsNumber replica (length cluster.old.replicas) }
+    requires idle { IsIdle cluster.old }
+    requires whole { IsUpToDate cluster.old replica }
+    requires mutable { IsMutable cluster.old.table.log old upto }
+    ensures mutates { IfOk result (λ refused. MutatesOne cluster.old replica old upto refused cluster.new) }
+    ensures idle { IfOk result (λ _. IsIdle cluster.new) }
+    ensures schema { cluster.new.table.schema ≡ cluster.old.table.schema }
+    ensures replicas { length cluster.new.replicas ≡ length cluster.old.replicas }
+{
+    let reply = cluster.step(alloc, Event::Mutate { replica, old, upto })?;
+    match reply {
+        Reply::Entry(_) => {
+            sync_replica(alloc, cluster, replica)?;
+            Ok(None)
+        }
+        Reply::Refused(why) => match why {
+            StepRefused::LimitReached { limit, value } => {
+                Ok(Some(Refusal::LimitReached { limit, value }))
+            }
+            _ => unreachable!(),
+        },
+        _ => unreachable!(),
+    }
+}
+
+/// Mutates a live part up to the last mutation that is pending for it and isn't past a place, where there is one; or gives the
+/// refusal, where one more entry would pass a limit.
+fn settle_part(
+    alloc: Global,
+    cluster: &mut Cluster,
+    replica: ReplicaId,
+    part: PartName,
+    place: usize,
+) -> Result<Option<Refusal>, AllocError>
+    requires here { IsNumber replica (length cluster.old.replicas) }
+    requires idle { IsIdle cluster.old }
+    requires whole { IsUpToDate cluster.old replica }
+    requires is_live { Has (live cluster.old.table.log) part }
+    requires below { place < length cluster.old.table.log }
+    ensures settles { IfOk result (λ refused. Settles cluster.old replica part place refused cluster.new) }
+    ensures idle { IfOk result (λ _. IsIdle cluster.new) }
+    ensures schema { cluster.new.table.schema ≡ cluster.old.table.schema }
+    ensures replicas { length cluster.new.replicas ≡ length cluster.old.replicas }
+{
+    // What always holds of a cluster is known here.
+    cluster.drained_replicas_agree();
+    cluster.state().tree().no_limit_is_passed();
+    let Some(last) = cluster.copy(replica).last_pending(&part, place + 1) else {
+        return Ok(None);
+    };
+    mutate_part(alloc, cluster, replica, part, last as u32)
+}
+
+/// Waits for a mutation at a replica: one after the other, the live parts for which it, or one before it, is pending are
+/// mutated up to the last such one, the replica brought up to date before and after each. It ends at the first part for which
+/// one more entry would pass a limit, with that refusal; what was mutated stays so. At an error no memory was left, and what
+/// was done stays done.
+pub fn wait_for(
+    alloc: Global,
+    cluster: &mut Cluster,
+    replica: ReplicaId,
+    id: u32,
+) -> Result<Option<Refusal>, AllocError>
+    requires here { IsNumber replica (length cluster.old.replicas) }
+    requires idle { IsIdle cluster.old }
+    requires known { id < mutation_count cluster.old.table.log }
+    ensures waits { IfOk result (λ refused. WaitsTo cluster.old replica id refused cluster.new) }
+    ensures idle { IfOk result (λ _. IsIdle cluster.new) }
+    ensures schema { cluster.new.table.schema ≡ cluster.old.table.schema }
+    ensures replicas { length cluster.new.replicas ≡ length cluster.old.replicas }
+{
+    sync_replica(alloc, cluster, replica)?;
+    // What always holds of a cluster is known here.
+    cluster.drained_replicas_agree();
+    let place = place_of(cluster.copy(replica), id);
+    let parts = Vec::from_slice(alloc, cluster.copy(replica).live())?;
+    'parts: for part in &parts {
+        // What always holds of a cluster is known here.
+        cluster.drained_replicas_agree();
+        if let Some(refusal) = settle_part(alloc, cluster, replica, *part, place)? {
+            return Ok(Some(refusal));
+        }
+    }
+    cluster.drained_replicas_agree();
+    Ok(None)
+}
