@@ -34,7 +34,7 @@ use Rattle.rmt_reply.specs.declared.line.Line.{Line}
 use Rattle.rmt_reply.specs.declared.line.Line.TheVariants as lines
 use Rattle.rmt_reply.specs.declared.piece.Piece.{Piece}
 use Rattle.rmt_reply.specs.declared.refusal.Refusal.{Refusal}
-use Rattle.rmt_play.specs.Checks.{refused_names, refused_query}
+use Rattle.rmt_play.specs.ActRefusals.{refused_names, refused_query}
 use Rattle.rmt_play.specs.InsertStatement.{InsertsRows}
 use Rattle.rmt_play.specs.SelectStatement.{Syncs, Reads}
 use Rattle.rmt_play.specs.ExplainStatement.{Explains}

@@ -4,4 +4,5 @@ pub mod SchemaLemmas
 pub mod SendLemmas
 pub mod CreateLemmas
 pub mod ActLemmas
+pub mod CommandLemmas
 pub mod ScriptLemmas

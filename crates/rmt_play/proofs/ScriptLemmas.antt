@@ -14,8 +14,9 @@ use Rattle.rmt_play.specs.Runs.{output, GivesScript, PlayedWhole, PlayedInPart, 
 use Rattle.rmt_play.specs.declared.outcome.Outcome.{Outcome}
 use Rattle.rmt_play.specs.declared.script_end.ScriptEnd.{ScriptEnd}
 use Rattle.rmt_play.specs.declared.script_end.ScriptEnd.TheVariants as ends
+use Rattle.rmt_model.specs.Words.{Each}
 use Rattle.rmt_events.specs.Clusters.{Cluster}
-use Rattle.rmt_play.specs.Shown.{AreShown}
+use Rattle.rmt_play.specs.Shown.{AreShown, Agrees}
 use Rattle.rmt_play.specs.PlayerSteps.{PlayerView, IsIn, IsEmptyPlayer}
 use Rattle.rmt_play.specs.ScriptEnds.{is_refusal, AdvancesScript, CutsReply, IsScriptEnd, IsEndOf}
 use Rattle.rmt_play.proofs.TableLemmas.{shown-clusters}
@@ -59,8 +60,8 @@ so_far_on script at old new before now after refused end count outcome so on c =
     }
 
 pub so_far_whole : (script : List ℕ) (at : ℕ) (player : PlayerView) (before now after : Option (List ℕ)) (refused : ℕ) (clusters : List Cluster) → SoFar script at player before now refused → ReadsAt script at parsed.End → Keeps now after
-    → clusters ≡ map (λ t. t.cluster) player.tables → PlayedWhole script before after refused clusters
-so_far_whole script at player before now after refused clusters so ended keeps e = record {
+    → clusters ≡ map (λ t. t.cluster) player.tables → Each Agrees clusters → PlayedWhole script before after refused clusters
+so_far_whole script at player before now after refused clusters so ended keeps e agree = record {
   lines = so.lines;
   at = at;
   world = so.world;
@@ -69,6 +70,7 @@ so_far_whole script at player before now after refused clusters so ended keeps e
   written = Appends-kept before now after (output so.lines) so.written keeps;
   counted = so.counted;
   shown = subst (λ (cs : List Cluster). AreShown cs so.world.tables) (sym e) (shown-clusters player.tables so.world.tables so.is_in.tables);
+  agree = agree;
 }
 
 pub so_far_in_part : (script : List ℕ) (at : ℕ) (player : PlayerView) (before now after : Option (List ℕ)) (refused : ℕ) → SoFar script at player before now refused → Keeps now after → PlayedInPart before after script
@@ -91,7 +93,7 @@ so_far_short script at player before now after refused so short =
 pub ends-whole : (script : List ℕ) (at : ℕ) (player : PlayerView) (before now after : Option (List ℕ)) (refused : ℕ) (end : ScriptEnd) → SoFar script at player before now refused → ReadsAt script at parsed.End → Keeps now after
     → IsEndOf player refused end → IsScriptEnd script before after end
 ends-whole script at player before now after refused (ends.Whole count clusters) so ended keeps e =
-    subst (λ n. PlayedWhole script before after n clusters) (sym e.0) (so_far_whole script at player before now after refused clusters so ended keeps e.1)
+    subst (λ n. PlayedWhole script before after n clusters) (sym e.0) (so_far_whole script at player before now after refused clusters so ended keeps e.1 e.2)
 ends-whole script at player before now after refused ends.WriteFault so ended keeps e = absurd e
 ends-whole script at player before now after refused ends.Memory so ended keeps e = so_far_in_part script at player before now after refused so keeps
 

@@ -1,6 +1,6 @@
 -- What becomes of a world as an act is done in one of its tables.
 use Rattle.std.proofs.Common.{◌≡◌, ◌∙◌, ℕ, List, [], ◌∷◌, refl, ap, sym, subst}
-use Rattle.std.specs.Prelude.{MatchOption}
+use Rattle.std.specs.Prelude.{◌≢◌, ◌^◌, ◌&&◌, nat_le, nat_lt, Bool, true, false, cond, codes, MatchOption}
 use Rattle.std.specs.declared.option.Option.{Option}
 use Rattle.std.specs.declared.option.Option.TheVariants.{Some, None}
 use Rattle.rmt_statements.specs.declared.sent.Sent.{Sent}
@@ -9,12 +9,14 @@ use Rattle.rmt_statement_model.specs.Shows.{Shows, Leads}
 use Rattle.rmt_reply.specs.declared.line.Line.{Line}
 use Rattle.rmt_reply.specs.declared.line.Line.TheVariants as lines
 use Rattle.rmt_reply.specs.declared.refusal.Refusal.{Refusal}
-use Rattle.rmt_reply.specs.declared.refusal.Refusal.TheVariants.{UnknownTable}
+use Rattle.rmt_reply.specs.declared.refusal.Refusal.TheVariants.{UnknownTable, WrongType}
 use Rattle.rmt_play.specs.World.{Table, World}
-use Rattle.rmt_play.specs.Checks.{first_of, table_of, table_named, replica_at, unknown_replica, refused_without, refused_name, refused_act, act_refusal, sent_refusals}
+use Rattle.rmt_play.specs.ActRefusals.{act_refusal}
+use Rattle.rmt_play.specs.Checks.{first_of, table_of, table_named, replica_at, unknown_replica, refused_without, refused_name, refused_act, sent_refusals, refused_turns, run_refusals}
 use Rattle.rmt_play.specs.Acts.{Acts}
-use Rattle.rmt_play.specs.Plays.{PerformsSent, Refuses, with_table}
-use Rattle.rmt_play.specs.PlayerSteps.{PlayerView, IsIn, ComesTo, Moves, IsPlaceOf, HasNone, ActsAt, Declines, ExecutesAct, ExecutesSent}
+use Rattle.rmt_play.specs.RunStatement.{RunsTurns}
+use Rattle.rmt_play.specs.Plays.{PerformsSent, RunsIn, Refuses, with_table}
+use Rattle.rmt_play.specs.PlayerSteps.{PlayerView, IsIn, ComesTo, Moves, IsPlaceOf, HasNone, ChangesAt, ActsAt, Declines, ExecutesAct, ExecutesSent, RunsCluster, ExecutesRun}
 use Rattle.rmt_play.proofs.TableLemmas.{FoundIn, found-in, none-in, with-same}
 
 alone : (o : Option Refusal) → first_of (o ∷ []) ≡ o
@@ -22,13 +24,13 @@ alone None = refl
 alone (Some refusal) = refl
 
 -- the refusals of what is sent to a table that is there
-refusals-found : (w : World) (sent : Sent) (t : Table) → table_of w.tables (table_named sent.act) ≡ Some t → first_of (sent_refusals w sent) ≡ first_of (unknown_replica w.replicas sent.replica ∷ act_refusal t.state.schema sent.act ∷ [])
+refusals-found : (w : World) (sent : Sent) (t : Table) → table_of w.tables (table_named sent.act) ≡ Some t → first_of (sent_refusals w sent) ≡ first_of (unknown_replica w.replicas sent.replica ∷ act_refusal t.state sent.act ∷ [])
 refusals-found w sent t e = ap (λ (o : Option Table). first_of (refused_without o (table_named sent.act) ∷ unknown_replica w.replicas sent.replica ∷ refused_act o sent.act ∷ [])) e
 
-refusals-there : (w : World) (sent : Sent) (t : Table) (r : ℕ) → table_of w.tables (table_named sent.act) ≡ Some t → replica_at w.replicas sent.replica ≡ Some r → first_of (sent_refusals w sent) ≡ act_refusal t.state.schema sent.act
+refusals-there : (w : World) (sent : Sent) (t : Table) (r : ℕ) → table_of w.tables (table_named sent.act) ≡ Some t → replica_at w.replicas sent.replica ≡ Some r → first_of (sent_refusals w sent) ≡ act_refusal t.state sent.act
 refusals-there w sent t r e at =
     refusals-found w sent t e
-    ∙ (ap (λ (o : Option ℕ). first_of (refused_name o sent.replica ∷ act_refusal t.state.schema sent.act ∷ [])) at ∙ alone (act_refusal t.state.schema sent.act))
+    ∙ (ap (λ (o : Option ℕ). first_of (refused_name o sent.replica ∷ act_refusal t.state sent.act ∷ [])) at ∙ alone (act_refusal t.state sent.act))
 
 -- the table at the place of a name
 pub found-at : (p : PlayerView) (w : World) (name : List ℕ) (place : ℕ) → IsIn p w → (f : IsPlaceOf p.tables name place) → FoundIn p.tables w.tables name place f.table
@@ -39,7 +41,7 @@ pub sends : (old new : PlayerView) (sent : Sent) (place replica : ℕ) (line : L
     → ActsAt old place replica sent.act line new → Moves old (ExecutesSent sent line) new
 sends old new sent place replica line p at a w i =
     subst (λ (o : Option Refusal). ComesTo new (λ v. MatchOption o (PerformsSent w sent line v) (λ refusal. Refuses w refusal line v))) (sym refused)
-    (go (act_refusal f.table.state.schema sent.act) led.state led.shows led.holds)
+    (go (act_refusal f.table.state sent.act) led.state led.shows led.holds)
   where
     same : p.table ≡ a.table
     same = let e = sym p.there ∙ a.there in cc
@@ -50,11 +52,11 @@ sends old new sent place replica line p at a w i =
     here : replica_at w.replicas sent.replica ≡ Some replica
     here = ap (λ n. replica_at n sent.replica) i.replicas ∙ at
 
-    refused : first_of (sent_refusals w sent) ≡ act_refusal f.table.state.schema sent.act
+    refused : first_of (sent_refusals w sent) ≡ act_refusal f.table.state sent.act
     refused = refusals-there w sent f.table replica f.found here
 
     led : Leads a.after (ExecutesAct f.table.state replica sent.act line)
-    led = a.executes f.table.state f.shows
+    led = a.changes f.table.state f.shows
 
     is_in : (v : TableState) → Shows a.after v → IsIn new (record w { tables = with_table w.tables (table_named sent.act) (record f.table { state = v }) })
     is_in v h = subst (λ (q : PlayerView). IsIn q (record w { tables = with_table w.tables (table_named sent.act) (record f.table { state = v }) })) (sym a.rest)
@@ -87,5 +89,51 @@ no-replica p sent place refusal line f unknown e w i =
     let t = found-at p w (table_named sent.act) place i f in
     subst (λ (o : Option Refusal). ComesTo p (λ v. MatchOption o (PerformsSent w sent line v) (λ refusal. Refuses w refusal line v)))
     (sym (refusals-found w sent t.table t.found
-    ∙ ap (λ (o : Option Refusal). first_of (o ∷ act_refusal t.table.state.schema sent.act ∷ [])) (ap (λ n. unknown_replica n sent.replica) i.replicas ∙ unknown)))
+    ∙ ap (λ (o : Option Refusal). first_of (o ∷ act_refusal t.table.state sent.act ∷ [])) (ap (λ n. unknown_replica n sent.replica) i.replicas ∙ unknown)))
     (record { world = w; holds = record { reply = e; unchanged = refl }; is_in = i })
+
+-- ---- RUN
+
+-- the refusals of a RUN in a table that is there
+runs-found : (w : World) (name : List ℕ) (turns seed : ℕ) (t : Table) → table_of w.tables name ≡ Some t → first_of (run_refusals w name turns seed) ≡ refused_turns turns seed
+runs-found w name turns seed t e =
+    ap (λ (o : Option Table). first_of (refused_without o name ∷ refused_turns turns seed ∷ [])) e ∙ alone (refused_turns turns seed)
+
+-- background work that is done in its table
+pub runs : (old new : PlayerView) (name : List ℕ) (turns seed place : ℕ) (line : Line) → IsPlaceOf old.tables name place → refused_turns turns seed ≡ None → ChangesAt old place (RunsCluster turns line) new → Moves old (ExecutesRun name turns seed line) new
+runs old new name turns seed place line p q a w i =
+    subst (λ (o : Option Refusal). ComesTo new (λ v. MatchOption o (RunsIn w name turns line v) (λ refusal. Refuses w refusal line v))) (sym (runs-found w name turns seed f.table f.found ∙ q))
+    (record {
+      world = record w { tables = with_table w.tables name (record f.table { state = led.state }) };
+      holds = record { table = f.table; found = f.found; after = led.state; changes = led.holds; rest = refl };
+      is_in = subst (λ (x : PlayerView). IsIn x (record w { tables = with_table w.tables name (record f.table { state = led.state }) })) (sym a.rest)
+          (record { replicas = i.replicas; tables = f.set a.after led.state led.shows });
+    })
+  where
+    f : FoundIn old.tables w.tables name place a.table
+    f = subst (FoundIn old.tables w.tables name place) (let e = sym p.there ∙ a.there in cc) (found-at old w name place i p)
+
+    led : Leads a.after (RunsTurns f.table.state turns line)
+    led = a.changes f.table.state f.shows
+
+-- a table that isn't there
+pub no-run-table : (p : PlayerView) (name : List ℕ) (turns seed : ℕ) → HasNone p.tables name → Moves p (ExecutesRun name turns seed (lines.Refused (UnknownTable name))) p
+no-run-table p name turns seed none w i =
+    subst (λ (o : Option Refusal). ComesTo p (λ v. MatchOption o (RunsIn w name turns (lines.Refused (UnknownTable name)) v) (λ refusal. Refuses w refusal (lines.Refused (UnknownTable name)) v)))
+    (sym (ap (λ (o : Option Table). first_of (refused_without o name ∷ refused_turns turns seed ∷ [])) (none-in p.tables w.tables name none i.tables)))
+    (record { world = w; holds = record { reply = refl; unchanged = refl }; is_in = i })
+
+-- turns or a seed out of range
+pub no-turns : (p : PlayerView) (name : List ℕ) (turns seed place : ℕ) (why : Refusal) (line : Line) → IsPlaceOf p.tables name place → refused_turns turns seed ≡ Some why → line ≡ lines.Refused why → Moves p (ExecutesRun name turns seed line) p
+no-turns p name turns seed place why line f q e w i =
+    let t = found-at p w name place i f in
+    subst (λ (o : Option Refusal). ComesTo p (λ v. MatchOption o (RunsIn w name turns line v) (λ refusal. Refuses w refusal line v))) (sym (runs-found w name turns seed t.table t.found ∙ q))
+    (record { world = w; holds = record { reply = e; unchanged = refl }; is_in = i })
+
+-- the word of that refusal
+pub turns-word : (turns seed : ℕ) → refused_turns turns seed ≢ None → refused_turns turns seed ≡ Some (WrongType (codes "RUN"))
+turns-word turns seed n = go (nat_le turns 1000000 && nat_lt seed (2 ^ 31)) n
+  where
+    go : (b : Bool) → ◌≢◌ {A = Option Refusal} (cond b None (Some (WrongType (codes "RUN")))) None → ◌≡◌ {A = Option Refusal} (cond b None (Some (WrongType (codes "RUN")))) (Some (WrongType (codes "RUN")))
+    go true m = absurd (m refl)
+    go false m = refl

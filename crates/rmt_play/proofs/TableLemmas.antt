@@ -3,7 +3,6 @@ use Rattle.std.proofs.Common.{◌≡◌, ◌∙◌, ℕ, zero, suc, ◌<◌, Boo
 use Rattle.std.specs.Prelude.{slice_get, slice_set}
 use Rattle.std.specs.Str.{bytes_eq}
 use Rattle.std.specs.declared.option.Option.TheVariants.{Some, None}
-use Rattle.rmt_model.specs.Words.{Each}
 use Rattle.rmt_events.specs.Clusters.{Cluster}
 use Rattle.rmt_statement_model.specs.TableStates.{TableState}
 use Rattle.rmt_statement_model.specs.Shows.{Shows}
@@ -14,20 +13,6 @@ use Rattle.rmt_play.specs.Shown.{AreShown}
 use Rattle.rmt_play.specs.PlayerSteps.{NamedCluster, ShowTables, HasNone}
 
 -- ---- lists
-
-pub Each-set : {A : Type 0} (P : A → Type 0) (xs : List A) (i : ℕ) (x : A) → Each P xs → P x → Each P (slice_set xs i x)
-Each-set P [] i x e p = tt
-Each-set P (y ∷ xs) zero x e p = (p, e.1)
-Each-set P (y ∷ xs) (suc i) x e p = (e.0, Each-set P xs i x e.1 p)
-
-pub Each-there : {A : Type 0} (P : A → Type 0) (xs : List A) (i : ℕ) (x : A) → slice_get xs i ≡ Some x → Each P xs → P x
-Each-there P [] i x q e = absurd (cc)
-Each-there P (y ∷ xs) zero x q e = let same : y ≡ x = cc in subst P same e.0
-Each-there P (y ∷ xs) (suc i) x q e = Each-there P xs i x q e.1
-
-pub Each-last : {A : Type 0} (P : A → Type 0) (xs : List A) (x : A) → Each P xs → P x → Each P (xs ++ x ∷ [])
-Each-last P [] x e p = (p, tt)
-Each-last P (y ∷ xs) x e p = (e.0, Each-last P xs x e.1 p)
 
 pub get-below : {A : Type 0} (xs : List A) (i : ℕ) (x : A) → slice_get xs i ≡ Some x → i < length xs
 get-below [] i x e = absurd (cc)

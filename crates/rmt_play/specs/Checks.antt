@@ -1,7 +1,7 @@
 -- Why a statement is refused. Each refusal has its test, and a statement meets the first in the order of the checks.
--- ClickHouse documentation: CREATE TABLE, INSERT INTO, SELECT, EXPLAIN. The refusals and their order are this program's
--- own.
-use Rattle.std.specs.Prelude.{ℕ, zero, suc, ◌-◌, ◌^◌, cond, not, nat_eq, nat_le, nat_lt, ◌&&◌, Bool, true, false, List, [], ◌∷◌, length}
+-- ClickHouse documentation: CREATE TABLE, INSERT INTO, SELECT, EXPLAIN, ALTER, OPTIMIZE, SYSTEM. The refusals and their order
+-- are this program's own.
+use Rattle.std.specs.Prelude.{ℕ, zero, suc, ◌-◌, ◌^◌, cond, not, nat_eq, nat_le, nat_lt, ◌&&◌, Bool, true, false, List, [], ◌∷◌, length, codes}
 use Rattle.std.specs.declared.option.Option.{Option}
 use Rattle.std.specs.declared.option.Option.TheVariants.{Some, None}
 use Rattle.std.specs.Str.{bytes_eq}
@@ -11,9 +11,7 @@ use Rattle.rmt_values.specs.declared.schema_error.SchemaError.{SchemaError}
 use Rattle.rmt_values.specs.declared.schema_error.SchemaError.TheVariants as schemas
 use Rattle.rmt_values.specs.Rows.{is_empty, Shape}
 use Rattle.rmt_values.specs.Schemas.{schema_refusal, shape_of}
-use Rattle.rmt_expr.specs.declared.check_error.CheckError.{CheckError}
-use Rattle.rmt_expr.specs.declared.check_error.CheckError.TheVariants as checks
-use Rattle.rmt_expr.specs.Queries.{query_refusal}
+use Rattle.rmt_command_sizes.specs.Sizes.{is_small_command}
 use Rattle.rmt_statements.specs.declared.act.Act.{Act}
 use Rattle.rmt_statements.specs.declared.act.Act.TheVariants as acts
 use Rattle.rmt_statements.specs.declared.mode.Mode.{Mode}
@@ -21,13 +19,11 @@ use Rattle.rmt_statements.specs.declared.mode.Mode.TheVariants as modes
 use Rattle.rmt_statements.specs.declared.sent.Sent.{Sent}
 use Rattle.rmt_statements.specs.declared.statement.Statement.{Statement}
 use Rattle.rmt_statements.specs.declared.statement.Statement.TheVariants as statements
-use Rattle.rmt_sql_rows.specs.declared.rows_error.RowsError.{RowsError}
-use Rattle.rmt_sql_rows.specs.declared.rows_error.RowsError.TheVariants as errors
-use Rattle.rmt_sql_rows.specs.InsertedRows.{names_refusal}
 use Rattle.rmt_reply.specs.declared.refusal.Refusal.{Refusal}
 use Rattle.rmt_reply.specs.declared.refusal.Refusal.TheVariants.{Syntax, UnknownTable, TableExists, UnknownReplica, UnknownColumn, WrongType, LimitReached, DoubleColumn}
 use Rattle.rmt_reply.specs.Printed.{replica_text}
 use Rattle.rmt_play.specs.World.{Table, World}
+use Rattle.rmt_play.specs.ActRefusals.{act_refusal}
 
 -- the first of the refusals that are met
 abbrev pub first_of : List (Option Refusal) → Option Refusal
@@ -48,17 +44,26 @@ is_played_mode modes.Plain = true
 is_played_mode modes.Sync = true
 is_played_mode (modes.Sequential n) = false
 
--- an INSERT or a SELECT without settings, or an EXPLAIN
+-- an INSERT or a SELECT without settings, and an ALTER whose filter a log entry can hold; CHECK TABLE and the switch of fetches
+-- aren't played
 abbrev pub is_played_act : Act → Bool
 is_played_act (acts.Insert insert) = is_absent insert.quorum
 is_played_act (acts.Select table query mode) = is_played_mode mode
 is_played_act (acts.Explain table query) = true
+is_played_act (acts.Mutate table command) = is_small_command command
+is_played_act (acts.DropPartition table partition) = true
+is_played_act (acts.Optimize table partition) = true
+is_played_act (acts.ShowParts table) = true
+is_played_act (acts.WaitMutation table id) = true
+is_played_act (acts.SyncReplica table) = true
+is_played_act (acts.RestartReplica table) = true
 is_played_act act = false
 
--- REPLICAS with 1 to 8 replicas and before all tables, CREATE, and what is sent to a replica; so many tables there are
+-- REPLICAS with 1 to 8 replicas and before all tables, CREATE, RUN, and what is sent to a replica; so many tables there are
 abbrev pub is_played : ℕ → Statement → Bool
 is_played tables (statements.Replicas count) = (nat_le 1 count && nat_le count 8) && nat_eq tables 0
 is_played tables (statements.Create table columns partition key granularity window) = not (is_empty columns)
+is_played tables (statements.Run table turns seed) = true
 is_played tables (statements.At sent) = is_played_act sent.act
 is_played tables statement = false
 
@@ -170,35 +175,28 @@ table_named (acts.RestartReplica table) = table
 table_named (acts.StopFetches table) = table
 table_named (acts.StartFetches table) = table
 
--- the refusal of the columns that an INSERT names
-abbrev pub refused_names : Option RowsError → Option Refusal
-refused_names (Some (errors.UnknownColumn name)) = Some (UnknownColumn name)
-refused_names (Some (errors.DoubleColumn name)) = Some (DoubleColumn name)
-refused_names refusal = None
-
--- the refusal of a query
-abbrev pub refused_query : Option CheckError → Option Refusal
-refused_query (Some (checks.UnknownColumn name)) = Some (UnknownColumn name)
-refused_query (Some (checks.WrongType name)) = Some (WrongType name)
-refused_query refusal = None
-
--- why an act is refused over a schema
-abbrev pub act_refusal : Shape → Act → Option Refusal
-act_refusal schema (acts.Insert insert) = refused_names (names_refusal schema.columns insert.columns)
-act_refusal schema (acts.Select table query mode) = refused_query (query_refusal schema query)
-act_refusal schema (acts.Explain table query) = refused_query (query_refusal schema query)
-act_refusal schema act = None
-
 -- why an act is refused over the table that it names, where there is one
 abbrev pub refused_act : Option Table → Act → Option Refusal
 refused_act None act = None
-refused_act (Some t) act = act_refusal t.state.schema act
+refused_act (Some t) act = act_refusal t.state act
 
 -- the refusals of what is sent to a replica, in their order
 abbrev pub sent_refusals : World → Sent → List (Option Refusal)
 sent_refusals world sent =
     unknown_table world (table_named sent.act)
     ∷ unknown_replica world.replicas sent.replica ∷ refused_act (table_of world.tables (table_named sent.act)) sent.act ∷ []
+
+-- ---- RUN
+
+-- there are more than 1,000,000 turns, or the seed isn't below 2^31
+abbrev pub refused_turns : ℕ → ℕ → Option Refusal
+refused_turns turns seed = cond (nat_le turns 1000000 && nat_lt seed (2 ^ 31)) None (Some (WrongType (codes "RUN")))
+
+-- the refusals of RUN, in their order
+abbrev pub run_refusals : World → List ℕ → ℕ → ℕ → List (Option Refusal)
+run_refusals world table turns seed = unknown_table world table ∷ refused_turns turns seed ∷ []
+
+-- ---- a statement
 
 -- why a CREATE of these columns, partition rule, key and settings has no schema
 abbrev pub schema_refused : List Column → Option (List ℕ × ℕ) → List (List ℕ) → Option ℕ → Option ℕ → Option SchemaError
@@ -214,6 +212,7 @@ schema_made columns partition key granularity window =
 abbrev pub refusals : World → Statement → List (Option Refusal)
 refusals world (statements.Create table columns partition key granularity window) =
     create_refusals world table (schema_refused columns partition key granularity window)
+refusals world (statements.Run table turns seed) = run_refusals world table turns seed
 refusals world (statements.At sent) = sent_refusals world sent
 refusals world statement = []
 

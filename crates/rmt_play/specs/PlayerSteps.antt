@@ -26,9 +26,11 @@ use Rattle.rmt_reply.specs.declared.line.Line.TheVariants as lines
 use Rattle.rmt_reply.specs.declared.refusal.Refusal.{Refusal}
 use Rattle.rmt_reply.specs.declared.refusal.Refusal.TheVariants.{BadRow}
 use Rattle.rmt_play.specs.World.{Table, World}
-use Rattle.rmt_play.specs.Checks.{first_of, create_refusals, sent_refusals, refusals, refused_names, refused_query, act_refusal}
+use Rattle.rmt_play.specs.Checks.{first_of, create_refusals, sent_refusals, run_refusals, refusals}
+use Rattle.rmt_play.specs.ActRefusals.{refused_names, refused_query, act_refusal}
 use Rattle.rmt_play.specs.Acts.{Acts}
-use Rattle.rmt_play.specs.Plays.{Creates, PerformsSent, Performs, Refuses, ExecutesStatement, Step}
+use Rattle.rmt_play.specs.RunStatement.{RunsTurns}
+use Rattle.rmt_play.specs.Plays.{Creates, PerformsSent, RunsIn, Performs, Refuses, ExecutesStatement, Step}
 
 -- ---- what a player has
 
@@ -146,7 +148,7 @@ Declines t line u refusal = (line ≡ lines.Refused refusal) × (u ≡ t)
 
 -- an act does what it says in its table at a replica, or is refused
 abbrev pub ExecutesAct : TableState → ℕ → Act → Line → TableState → Type 0
-ExecutesAct t r act line u = MatchOption (act_refusal t.schema act) (Acts t r act line u) (Declines t line u)
+ExecutesAct t r act line u = MatchOption (act_refusal t act) (Acts t r act line u) (Declines t line u)
 
 -- the same in a cluster, whatever state it shows
 abbrev pub ExecutesIn : Cluster → ℕ → Act → Line → Cluster → Type 0
@@ -162,13 +164,28 @@ abbrev pub ExecutesSent : Sent → Line → World → World → Type 0
 ExecutesSent sent line old new =
     MatchOption (first_of (sent_refusals old sent)) (PerformsSent old sent line new) (λ refusal. Refuses old refusal line new)
 
--- the act is done in the table at a place, or refused
-pub record ActsAt (old : PlayerView) (place replica : ℕ) (act : Act) (line : Line) (new : PlayerView) : Type 0 where
+-- the cluster of the table at a place changes so, and nothing else does
+pub record ChangesAt (old : PlayerView) (place : ℕ) (Change : Cluster → Cluster → Type 0) (new : PlayerView) : Type 0 where
   pub table : NamedCluster
   pub there : slice_get old.tables place ≡ Some table
   pub after : Cluster
-  pub executes : ExecutesIn table.cluster replica act line after
+  pub changes : Change table.cluster after
   pub rest : new ≡ record old { tables = slice_set old.tables place (record table { cluster = after }) }
+
+-- the act is done in the table at a place, or refused
+abbrev pub ActsAt : PlayerView → ℕ → ℕ → Act → Line → PlayerView → Type 0
+ActsAt old place replica act line new = ChangesAt old place (λ s u. ExecutesIn s replica act line u) new
+
+-- ---- RUN
+
+-- so many turns of background work are done in a cluster, whatever state it shows
+abbrev pub RunsCluster : ℕ → Line → Cluster → Cluster → Type 0
+RunsCluster turns line s u = (t : TableState) → Shows s t → Leads u (RunsTurns t turns line)
+
+-- background work is done in its table, or refused
+abbrev pub ExecutesRun : List ℕ → ℕ → ℕ → Line → World → World → Type 0
+ExecutesRun table turns seed line old new =
+    MatchOption (first_of (run_refusals old table turns seed)) (RunsIn old table turns line new) (λ refusal. Refuses old refusal line new)
 
 -- ---- a statement
 

@@ -17,6 +17,7 @@ use Rattle.rmt_reply.specs.declared.refusal.Refusal.TheVariants.{Syntax}
 use Rattle.rmt_play.specs.World.{Table, World, start, new_table}
 use Rattle.rmt_play.specs.Checks.{schema_made, table_of, replica_at, table_named, refusal_of}
 use Rattle.rmt_play.specs.Acts.{Acts}
+use Rattle.rmt_play.specs.RunStatement.{RunsTurns}
 
 -- a refusal changes nothing
 pub record Refuses (old : World) (refusal : Refusal) (line : Line) (new : World) : Type 0 where
@@ -54,11 +55,16 @@ pub record PerformsSent (old : World) (sent : Sent) (line : Line) (new : World) 
   pub at : replica_at old.replicas sent.replica ≡ Some replica
   pub acts : InTable old (table_named sent.act) (λ t u. Acts t replica sent.act line u) new
 
+-- RUN: background work is done in its table
+abbrev pub RunsIn : World → List ℕ → ℕ → Line → World → Type 0
+RunsIn old table turns line new = InTable old table (λ t u. RunsTurns t turns line u) new
+
 -- what a statement does that meets no refusal; the others aren't played
 abbrev pub Performs : World → Statement → Line → World → Type 0
 Performs old (statements.Replicas count) line new = Counts old count line new
 Performs old (statements.Create table columns partition key granularity window) line new =
     Creates old table (schema_made columns partition key granularity window) line new
+Performs old (statements.Run table turns seed) line new = RunsIn old table turns line new
 Performs old (statements.At sent) line new = PerformsSent old sent line new
 Performs old statement line new = ⊥
 
@@ -95,8 +101,10 @@ Played script [] at world = (at ≡ 0) × (world ≡ start)
 Played script (line ∷ lines) at world =
     (from : ℕ) × (before : World) × Played script lines from before × Step script from before line at world
 
--- the reply tells of a refusal; an INSERT may print the parts of its first blocks before it
+-- the reply tells of a refusal; an INSERT may print the parts of its first blocks before it, an OPTIMIZE those of its first
+-- partitions
 abbrev pub is_refused : Line → Bool
 is_refused (lines.Refused refusal) = true
 is_refused (lines.Inserted pieces (Some refusal)) = true
+is_refused (lines.Optimized names (Some refusal)) = true
 is_refused line = false

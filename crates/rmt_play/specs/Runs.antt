@@ -8,10 +8,11 @@ use Rattle.rmt_sql.specs.declared.parsed.Parsed.TheVariants as parsed
 use Rattle.rmt_sql.specs.Script.{ReadsAt}
 use Rattle.rmt_reply.specs.declared.line.Line.{Line}
 use Rattle.rmt_reply.specs.Printed.{printed}
+use Rattle.rmt_model.specs.Words.{Each}
 use Rattle.rmt_events.specs.Clusters.{Cluster}
 use Rattle.rmt_play.specs.World.{World}
 use Rattle.rmt_play.specs.Plays.{Played, is_refused}
-use Rattle.rmt_play.specs.Shown.{AreShown, HandsBack}
+use Rattle.rmt_play.specs.Shown.{AreShown, Agrees, HandsBack}
 use Rattle.rmt_play.specs.declared.end.End.{End}
 
 -- the words are exactly `play`
@@ -35,7 +36,7 @@ abbrev pub GivesScriptWithin : ℕ → Option (List ℕ) → (List ℕ → Type 
 GivesScriptWithin limit left P = GivesScript left (λ script. (length script ≤ limit) × P script)
 
 -- The whole script was played, its replies were written, so many of its statements were refused, and these clusters show
--- its tables.
+-- its tables; in each the replicas agree that have done the same log.
 pub record PlayedWhole (script : List ℕ) (before after : Option (List ℕ)) (refused : ℕ) (clusters : List Cluster) : Type 0 where
   pub lines : List Line
   pub at : ℕ
@@ -45,6 +46,7 @@ pub record PlayedWhole (script : List ℕ) (before after : Option (List ℕ)) (r
   pub written : Appends before after (output lines)
   pub counted : refused ≡ count_by is_refused lines
   pub shown : AreShown clusters world.tables
+  pub agree : Each Agrees clusters
 
 -- Some first statements of the script were played, and their replies were written.
 pub record PlayedInPart (before after : Option (List ℕ)) (script : List ℕ) : Type 0 where

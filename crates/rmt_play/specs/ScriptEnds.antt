@@ -14,7 +14,9 @@ use Rattle.rmt_play.specs.declared.progress.Progress.TheVariants as progress
 use Rattle.rmt_play.specs.declared.script_end.ScriptEnd.{ScriptEnd}
 use Rattle.rmt_play.specs.declared.script_end.ScriptEnd.TheVariants as ends
 use Rattle.rmt_play.specs.declared.status.Status.{Status}
+use Rattle.rmt_model.specs.Words.{Each}
 use Rattle.rmt_events.specs.Clusters.{Cluster}
+use Rattle.rmt_play.specs.Shown.{Agrees}
 use Rattle.rmt_play.specs.declared.end.End.{End}
 use Rattle.rmt_play.specs.declared.end.End.TheVariants as handed
 use Rattle.rmt_play.specs.Plays.{is_refused}
@@ -59,7 +61,7 @@ IsScriptEnd script before after ends.Memory = PlayedInPart before after script
 
 -- the end of a script that was played to its end by a player
 abbrev pub IsEndOf : PlayerView → ℕ → ScriptEnd → Type 0
-IsEndOf p count (ends.Whole refused clusters) = (refused ≡ count) × (clusters ≡ map (λ t. t.cluster) p.tables)
+IsEndOf p count (ends.Whole refused clusters) = (refused ≡ count) × (clusters ≡ map (λ t. t.cluster) p.tables) × Each Agrees clusters
 IsEndOf p count ends.WriteFault = ⊥
 IsEndOf p count ends.Memory = Unit {0}
 

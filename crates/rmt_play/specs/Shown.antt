@@ -1,7 +1,13 @@
 -- Clusters that show the tables of a world, as they are handed back at the end of a run.
 -- No public source: this program's own.
-use Rattle.std.specs.Prelude.{◌≡◌, List, [], ◌∷◌}
-use Rattle.rmt_events.specs.Clusters.{Cluster}
+use Rattle.std.specs.Prelude.{◌≡◌, List, [], ◌∷◌, length}
+use Rattle.rmt_values.specs.Order.{SameBag}
+use Rattle.rmt_model.specs.Words.{Has}
+use Rattle.rmt_model.specs.Content.{rows}
+use Rattle.rmt_events.specs.Views.{Replica}
+use Rattle.rmt_events.specs.Clusters.{Cluster, accepted, rows_at}
+use Rattle.rmt_events.specs.ReplicaCalls.{IsDrained}
+use Rattle.rmt_events.specs.Shown.{names_and_rows, read_rows}
 use Rattle.rmt_statement_model.specs.Shows.{Shows}
 use Rattle.rmt_play.specs.World.{Table}
 use Rattle.rmt_play.specs.declared.end.End.{End}
@@ -13,6 +19,13 @@ abbrev pub AreShown : List Cluster → List Table → Type 0
 AreShown [] [] = Unit {0}
 AreShown (c ∷ clusters) (t ∷ tables) = Shows c t.state × AreShown clusters tables
 AreShown clusters tables = ⊥
+
+-- the promise of replication: replicas that are drained to one length of the log have parts of equal names and equal rows, and what
+-- is read of a drained replica is the plain rows of the accepted blocks
+-- ClickHouse documentation, Data Replication: replicas that have done the same log have the same data.
+pub record Agrees (s : Cluster) : Type 0 where
+  pub equal : (x y : Replica) → Has s.replicas x → Has s.replicas y → IsDrained x → IsDrained y → length x.log ≡ length y.log → names_and_rows x.parts ≡ names_and_rows y.parts
+  pub plain : (x : Replica) → Has s.replicas x → IsDrained x → SameBag (read_rows x.log x.parts) (rows x.log (rows_at (accepted s)))
 
 -- these clusters are handed back
 abbrev pub HandsBack : End → List Cluster → Type 0

@@ -5,9 +5,15 @@ ghost use Rattle.rmt_statement_model.specs.Shows.{IsIdle};
 ghost use Rattle.rmt_play.specs.Checks.{is_played_act};
 ghost use Rattle.rmt_play.specs.PlayerSteps.{ExecutesIn};
 
+use crate::drop::drop_in;
 use crate::explain::explain_in;
 use crate::insert::insert_in;
+use crate::mutation::alter_in;
+use crate::optimize::optimize_in;
+use crate::parts::show_in;
 use crate::select::{read_in, sync_in};
+use crate::system::{drain_in, restart_in};
+use crate::wait::wait_in;
 use rmt_cluster::Cluster;
 use rmt_reply::Line;
 use rmt_statements::{Act, Mode};
@@ -37,6 +43,13 @@ pub(crate) fn act_in(
             Mode::Sequential(_) => unreachable!(),
         },
         Act::Explain { query, .. } => explain_in(alloc, cluster, replica, query),
+        Act::Mutate { command, .. } => alter_in(alloc, cluster, command),
+        Act::DropPartition { partition, .. } => drop_in(alloc, cluster, replica, partition),
+        Act::Optimize { partition, .. } => optimize_in(alloc, cluster, replica, partition),
+        Act::ShowParts { .. } => show_in(alloc, cluster, replica),
+        Act::WaitMutation { id, .. } => wait_in(alloc, cluster, replica, *id),
+        Act::SyncReplica { .. } => drain_in(alloc, cluster, replica),
+        Act::RestartReplica { .. } => restart_in(alloc, cluster, replica),
         _ => unreachable!(),
     }
 }

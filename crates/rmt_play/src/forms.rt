@@ -2,10 +2,12 @@
 ghost use Rattle.std.specs.Prelude.{◌≡◌};
 ghost use Rattle.rmt_play.specs.Checks.{is_played_act as act_test, table_named};
 
+use rmt_command_sizes::is_small;
 use rmt_statements::{Act, Mode};
 use rmt_values::Name;
 
-/// Whether an act is played: an INSERT or a SELECT without settings, or an EXPLAIN.
+/// Whether an act is played: not an INSERT or a SELECT with a setting, an ALTER whose filter no log entry can hold, CHECK TABLE,
+/// or the switch of fetches.
 pub(crate) fn is_played_act(act: &Act) -> bool
     ensures { result ≡ act_test act.now }
 {
@@ -15,8 +17,15 @@ pub(crate) fn is_played_act(act: &Act) -> bool
             Mode::Plain | Mode::Sync => true,
             Mode::Sequential(_) => false,
         },
-        Act::Explain { .. } => true,
-        _ => false,
+        Act::Mutate { command, .. } => is_small(command),
+        Act::Explain { .. }
+        | Act::DropPartition { .. }
+        | Act::Optimize { .. }
+        | Act::ShowParts { .. }
+        | Act::WaitMutation { .. }
+        | Act::SyncReplica { .. }
+        | Act::RestartReplica { .. } => true,
+        Act::CheckTable { .. } | Act::StopFetches { .. } | Act::StartFetches { .. } => false,
     }
 }
 

@@ -2,12 +2,18 @@
 #![tactic(auto)]
 
 mod act;
+mod drop;
 mod end;
 mod explain;
 mod forms;
 mod insert;
+mod mutation;
 mod named_table;
+mod names;
+mod optimize;
 mod outcome;
+mod partition;
+mod parts;
 mod player;
 mod printing;
 mod progress;
@@ -18,7 +24,10 @@ mod script;
 mod script_end;
 mod select;
 mod status;
+mod system;
 mod top;
+mod turns;
+mod wait;
 mod words;
 
 pub use end::End;

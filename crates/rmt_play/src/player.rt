@@ -1,6 +1,7 @@
-ghost use Rattle.std.specs.Prelude.{◌≡◌, ◌≤◌, ◌<◌, ◌∷◌, [], true, length, map, IfOk, IfErr, MatchResult};
+ghost use Rattle.std.specs.Prelude.{◌≡◌, ◌≤◌, ◌<◌, ◌^◌, ◌∷◌, [], true, length, map, IfOk, IfErr, MatchResult};
 ghost use Rattle.std.specs.declared.option.Option.TheVariants.{Some, None};
 ghost use Rattle.rmt_values.specs.Rows.{Shape, is_empty};
+ghost use Rattle.rmt_model.specs.Words.{Each};
 ghost use Rattle.rmt_cluster.specs.Clusters.{IsNumber};
 ghost use Rattle.rmt_play.specs.Checks.{
   first_of,
@@ -13,8 +14,11 @@ ghost use Rattle.rmt_play.specs.Checks.{
   unknown_replica,
 };
 ghost use Rattle.rmt_play.specs.Plays.{Counts, Creates};
+ghost use Rattle.rmt_play.specs.Shown.{Agrees};
 ghost use Rattle.rmt_play.specs.PlayerSteps.{
   ActsAt,
+  ChangesAt,
+  RunsCluster,
   IsCount,
   IsFound,
   IsCreateRefusal,
@@ -24,6 +28,7 @@ ghost use Rattle.rmt_play.specs.PlayerSteps.{
   Executes,
   ExecutesCreate,
   ExecutesPlayed,
+  ExecutesRun,
   ExecutesSent,
 };
 
@@ -32,6 +37,7 @@ use crate::forms::{is_played_act, table_of};
 use crate::named_table::NamedTable;
 use crate::replicas::replica_named;
 use crate::schema::new_schema;
+use crate::turns::{in_range, run_in};
 use rmt_cluster::Cluster;
 use rmt_list::List;
 use rmt_reply::{Line, Refusal};
@@ -220,6 +226,53 @@ impl Player {
         }
     }
 
+    /// Does background work in the table at a place. At an error no memory was left, and the tables are gone.
+    fn work(
+        &mut self,
+        alloc: Global,
+        place: usize,
+        turns: u32,
+        seed: u32,
+    ) -> Result<Line, AllocError>
+        requires place { place < length self.old.tables }
+        requires seed { seed < 2 ^ 31 }
+        ensures { IfOk result (λ line. ChangesAt self.old place (RunsCluster turns line) self.new) }
+    {
+        match run_in(alloc, &mut self.tables[place].cluster, turns, seed) {
+            Ok(line) => Ok(line),
+            Err(error) => {
+                // A table in which a turn stopped halfway isn't idle.
+                self.tables.clear();
+                Err(error)
+            }
+        }
+    }
+
+    /// Plays a RUN.
+    fn run(
+        &mut self,
+        alloc: Global,
+        table: Name,
+        turns: u128,
+        seed: u128,
+    ) -> Result<Line, AllocError>
+        ensures { IfOk result (λ line. Moves self.old (ExecutesRun table turns seed line) self.new) }
+    {
+        let Some(place) = place_of(&self.tables, &table) else {
+            return Ok(Line::Refused(Refusal::UnknownTable(table)));
+        };
+        match in_range(turns, seed) {
+            Some((turns, seed)) => {
+                let line = self.work(alloc, place, turns, seed)?;
+                Ok(line)
+            }
+            None => {
+                let word = Name::from_slice(alloc, b"RUN")?;
+                Ok(Line::Refused(Refusal::WrongType(word)))
+            }
+        }
+    }
+
     /// Plays what is sent to a replica.
     fn send(&mut self, alloc: Global, sent: &Sent) -> Result<Line, AllocError>
         requires { act_test sent.now.act ≡ true }
@@ -247,6 +300,7 @@ impl Player {
                 1 <= *count && *count <= MOST_REPLICAS && self.tables.is_empty()
             }
             Statement::Create { columns, .. } => !columns.as_slice().is_empty(),
+            Statement::Run { .. } => true,
             Statement::At(sent) => is_played_act(&sent.act),
             _ => false,
         }
@@ -270,6 +324,7 @@ impl Player {
                 let made = new_schema(alloc, columns, partition, key, granularity, window)?;
                 self.create(alloc, table, made)
             }
+            Statement::Run { table, turns, seed } => self.run(alloc, table, turns, seed),
             Statement::At(sent) => self.send(alloc, &sent),
             _other => unreachable!(),
         }
@@ -293,10 +348,13 @@ impl Player {
 
     /// The clusters of the tables, in their order. At an error no memory was left.
     pub(crate) fn into_clusters(self, alloc: Global) -> Result<List<Cluster>, AllocError>
-        ensures { IfOk result (λ clusters. clusters ≡ map (λ t. t.cluster) self.tables) }
+        ensures clusters { IfOk result (λ clusters. clusters ≡ map (λ t. t.cluster) self.tables) }
+        ensures agree { IfOk result (Each Agrees) }
     {
         let mut clusters = Vec::with_capacity(alloc, self.tables.len())?;
         'tables: for table in self.tables {
+            // What always holds of a cluster is known here.
+            table.cluster.drained_replicas_agree();
             clusters.push(table.cluster)?;
         }
         Ok(List::new(clusters))

@@ -1,7 +1,7 @@
 //! Queries with columns by their places.
 ghost use Rattle.std.specs.Prelude.{◌≡◌, IfOk, IfErr, None, Some};
 ghost use Rattle.rmt_expr.specs.Queries.{IsCheckedQuery, query_refusal};
-ghost use Rattle.rmt_play.specs.Checks.{refused_query};
+ghost use Rattle.rmt_play.specs.ActRefusals.{refused_query};
 
 use rmt_expr::{CheckError, check_query};
 use rmt_reply::Refusal;

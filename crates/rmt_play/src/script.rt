@@ -31,13 +31,13 @@ use rmt_reply::{Line, Refusal, print_line};
 use rmt_sql::{Parsed, next_statement};
 use std::alloc::{AllocError, Global};
 
-/// Whether the statement of this reply did what it says. An INSERT that prints a refusal after its parts didn't.
+/// Whether the statement of this reply did what it says. An INSERT or an OPTIMIZE that prints a refusal after its parts didn't.
 fn outcome_of(line: &Line) -> Outcome
     ensures { is_refusal result ≡ is_refused line.now }
 {
     match line {
         Line::Refused(_) => Outcome::Refused,
-        Line::Inserted { refused, .. } => {
+        Line::Inserted { refused, .. } | Line::Optimized { refused, .. } => {
             if refused.is_some() {
                 Outcome::Refused
             } else {

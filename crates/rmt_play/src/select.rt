@@ -1,18 +1,17 @@
 //! SELECT in its table.
 ghost use Rattle.std.specs.Prelude.{◌≡◌, length, IfOk};
-ghost use Rattle.rmt_partset.specs.Snapshots.{names_in};
 ghost use Rattle.rmt_cluster.specs.Clusters.{IsNumber};
 ghost use Rattle.rmt_statement_model.specs.Shows.{IsIdle};
 ghost use Rattle.rmt_play.specs.SelectStatement.{Syncs, Reads};
 ghost use Rattle.rmt_play.specs.QueryAnswers.{IsSelection};
 ghost use Rattle.rmt_play.specs.PlayerSteps.{ExecutesQuery};
 
+use crate::names::names_of;
 use crate::query::check;
 use rmt_acts::{answer_up_to_date, read_parts, schema_of, sync_replica};
 use rmt_cluster::Cluster;
 use rmt_list::List;
 use rmt_names::PartName;
-use rmt_partset::NamedPart;
 use rmt_query::{Tuple, answer};
 use rmt_reply::Line;
 use rmt_values::{CheckedQuery, Query, ReplicaId};
@@ -23,17 +22,6 @@ use std::alloc::{AllocError, Global};
 struct Selection {
     parts: List<PartName>,
     rows: List<Tuple>,
-}
-
-/// The names of parts.
-fn names_of(alloc: Global, parts: &[NamedPart]) -> Result<List<PartName>, AllocError>
-    ensures { IfOk result (λ names. names ≡ names_in parts.now) }
-{
-    let mut names = Vec::with_capacity(alloc, parts.len())?;
-    'parts: for part in parts {
-        names.push(*part.name())?;
-    }
-    Ok(List::new(names))
 }
 
 /// What a query answers over a replica's active parts.

@@ -4,6 +4,7 @@ use Rattle.rmt_statements.specs.declared.act.Act.{Act}
 use Rattle.rmt_statements.specs.declared.act.Act.TheVariants as acts
 use Rattle.rmt_statements.specs.declared.mode.Mode.TheVariants as modes
 use Rattle.rmt_play.specs.PlayerSteps.{ExecutesIn}
+use Rattle.rmt_play.proofs.CommandLemmas.{on-line}
 use Rattle.rmt_play.proofs.act.act_in.Goals as goal
 
 pub returns-in-Sync-clause-executes : goal.returns-in-Sync-clause-executes
@@ -19,3 +20,38 @@ returns-in-Plain-clause-executes c =
 pub returns-in-Explain-clause-executes : goal.returns-in-Explain-clause-executes
 returns-in-Explain-clause-executes c =
     subst (λ (a : Act). IfOk c.explain_in.result (λ line. ExecutesIn c.args.cluster.now c.args.replica a line c.args.cluster.now)) (sym c.in-Explain.is) c.explain_in.ensures
+
+pub returns-in-Mutate-clause-executes : goal.returns-in-Mutate-clause-executes
+returns-in-Mutate-clause-executes c =
+    subst (λ (a : Act). IfOk c.alter_in.result (λ line. ExecutesIn c.args.cluster.now c.args.replica a line c.alter_in.new.cluster)) (sym c.in-Mutate.is)
+    (on-line c.alter_in.result _ _ (λ line f. f c.in-Mutate.table c.args.replica) c.alter_in.ensures.executes)
+
+pub returns-in-DropPartition-clause-executes : goal.returns-in-DropPartition-clause-executes
+returns-in-DropPartition-clause-executes c =
+    subst (λ (a : Act). IfOk c.drop_in.result (λ line. ExecutesIn c.args.cluster.now c.args.replica a line c.drop_in.new.cluster)) (sym c.in-DropPartition.is)
+    (on-line c.drop_in.result _ _ (λ line f. f c.in-DropPartition.table) c.drop_in.ensures.executes)
+
+pub returns-in-Optimize-clause-executes : goal.returns-in-Optimize-clause-executes
+returns-in-Optimize-clause-executes c =
+    subst (λ (a : Act). IfOk c.optimize_in.result (λ line. ExecutesIn c.args.cluster.now c.args.replica a line c.optimize_in.new.cluster)) (sym c.in-Optimize.is)
+    (on-line c.optimize_in.result _ _ (λ line f. f c.in-Optimize.table) c.optimize_in.ensures.executes)
+
+pub returns-in-WaitMutation-clause-executes : goal.returns-in-WaitMutation-clause-executes
+returns-in-WaitMutation-clause-executes c =
+    subst (λ (a : Act). IfOk c.wait_in.result (λ line. ExecutesIn c.args.cluster.now c.args.replica a line c.wait_in.new.cluster)) (sym c.in-WaitMutation.is)
+    (on-line c.wait_in.result _ _ (λ line f. f c.in-WaitMutation.table) c.wait_in.ensures.executes)
+
+pub returns-in-SyncReplica-clause-executes : goal.returns-in-SyncReplica-clause-executes
+returns-in-SyncReplica-clause-executes c =
+    subst (λ (a : Act). IfOk c.drain_in.result (λ line. ExecutesIn c.args.cluster.now c.args.replica a line c.drain_in.new.cluster)) (sym c.in-SyncReplica.is)
+    (on-line c.drain_in.result _ _ (λ line f. f c.in-SyncReplica.table) c.drain_in.ensures.executes)
+
+pub returns-in-RestartReplica-clause-executes : goal.returns-in-RestartReplica-clause-executes
+returns-in-RestartReplica-clause-executes c =
+    subst (λ (a : Act). IfOk c.restart_in.result (λ line. ExecutesIn c.args.cluster.now c.args.replica a line c.restart_in.new.cluster)) (sym c.in-RestartReplica.is)
+    (on-line c.restart_in.result _ _ (λ line f. f c.in-RestartReplica.table) c.restart_in.ensures.executes)
+
+pub returns-in-ShowParts-clause-executes : goal.returns-in-ShowParts-clause-executes
+returns-in-ShowParts-clause-executes c =
+    subst (λ (a : Act). IfOk c.show_in.result (λ line. ExecutesIn c.args.cluster.now c.args.replica a line c.args.cluster.now)) (sym c.in-ShowParts.is)
+    (on-line c.show_in.result _ _ (λ line f. f c.in-ShowParts.table) c.show_in.ensures)

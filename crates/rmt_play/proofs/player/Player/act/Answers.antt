@@ -16,6 +16,6 @@ returns-in-Ok c =
       table = old;
       there = there ∙ ap (λ (t : NamedCluster). Some t) (sym c.behind-self.view_is);
       after = c.act_in.new.cluster;
-      executes = c.in-Ok.ensures.executes;
+      changes = c.in-Ok.ensures.executes;
       rest = refl;
     })

@@ -1,0 +1,68 @@
+-- Why an act is refused in its table.
+-- ClickHouse documentation: INSERT INTO, SELECT, ALTER, OPTIMIZE. The refusals are this program's own.
+use Rattle.std.specs.Prelude.{ℕ, cond, nat_lt, codes}
+use Rattle.std.specs.declared.option.Option.{Option}
+use Rattle.std.specs.declared.option.Option.TheVariants.{Some, None}
+use Rattle.rmt_values.specs.declared.partition_rule.PartitionRule.{PartitionRule}
+use Rattle.rmt_expr.specs.declared.check_error.CheckError.{CheckError}
+use Rattle.rmt_expr.specs.declared.check_error.CheckError.TheVariants as checks
+use Rattle.rmt_expr.specs.declared.mutation_error.MutationError.{MutationError}
+use Rattle.rmt_expr.specs.declared.mutation_error.MutationError.TheVariants as commands
+use Rattle.rmt_expr.specs.Queries.{query_refusal}
+use Rattle.rmt_expr.specs.Mutations.{mutation_refusal}
+use Rattle.rmt_model.specs.Lawful.{mutation_count}
+use Rattle.rmt_statement_model.specs.TableStates.{TableState}
+use Rattle.rmt_statements.specs.declared.act.Act.{Act}
+use Rattle.rmt_statements.specs.declared.act.Act.TheVariants as acts
+use Rattle.rmt_statements.specs.declared.partition_word.PartitionWord.{PartitionWord}
+use Rattle.rmt_partition_words.specs.Words.{partition_named}
+use Rattle.rmt_sql_rows.specs.declared.rows_error.RowsError.{RowsError}
+use Rattle.rmt_sql_rows.specs.declared.rows_error.RowsError.TheVariants as errors
+use Rattle.rmt_sql_rows.specs.InsertedRows.{names_refusal}
+use Rattle.rmt_reply.specs.declared.refusal.Refusal.{Refusal}
+use Rattle.rmt_reply.specs.declared.refusal.Refusal.TheVariants.{UnknownColumn, WrongType, KeyColumn, UnknownMutation, DoubleColumn}
+
+-- the refusal of the columns that an INSERT names
+abbrev pub refused_names : Option RowsError → Option Refusal
+refused_names (Some (errors.UnknownColumn name)) = Some (UnknownColumn name)
+refused_names (Some (errors.DoubleColumn name)) = Some (DoubleColumn name)
+refused_names refusal = None
+
+-- the refusal of a query
+abbrev pub refused_query : Option CheckError → Option Refusal
+refused_query (Some (checks.UnknownColumn name)) = Some (UnknownColumn name)
+refused_query (Some (checks.WrongType name)) = Some (WrongType name)
+refused_query refusal = None
+
+-- the refusal of a command
+abbrev pub refused_command : Option MutationError → Option Refusal
+refused_command (Some (commands.UnknownColumn name)) = Some (UnknownColumn name)
+refused_command (Some (commands.DoubleColumn name)) = Some (DoubleColumn name)
+refused_command (Some (commands.WrongType name)) = Some (WrongType name)
+refused_command (Some (commands.KeyColumn name)) = Some (KeyColumn name)
+refused_command refusal = None
+
+-- the refusal of a word that names no partition
+abbrev pub refused_partition : Option (Option ℕ) → Option Refusal
+refused_partition None = Some (WrongType (codes "partition"))
+refused_partition (Some partition) = None
+
+-- the refusal of a partition that a statement may name
+abbrev pub refused_asked : Option PartitionRule → Option PartitionWord → Option Refusal
+refused_asked rule None = None
+refused_asked rule (Some word) = refused_partition (partition_named rule word)
+
+-- the refusal of a mutation that wasn't made; so many were
+abbrev pub refused_id : ℕ → ℕ → Option Refusal
+refused_id made id = cond (nat_lt id made) None (Some (UnknownMutation id))
+
+-- why an act is refused in a table
+abbrev pub act_refusal : TableState → Act → Option Refusal
+act_refusal t (acts.Insert insert) = refused_names (names_refusal t.schema.columns insert.columns)
+act_refusal t (acts.Select table query mode) = refused_query (query_refusal t.schema query)
+act_refusal t (acts.Explain table query) = refused_query (query_refusal t.schema query)
+act_refusal t (acts.Mutate table command) = refused_command (mutation_refusal t.schema command)
+act_refusal t (acts.DropPartition table word) = refused_partition (partition_named t.schema.partition word)
+act_refusal t (acts.Optimize table word) = refused_asked t.schema.partition word
+act_refusal t (acts.WaitMutation table id) = refused_id (mutation_count t.log) id
+act_refusal t act = None

@@ -1,0 +1,38 @@
+//! OPTIMIZE .. FINAL in its table.
+ghost use Rattle.std.specs.Prelude.{◌≡◌, ℕ, List as Bytes, length, IfOk};
+ghost use Rattle.rmt_cluster.specs.Clusters.{IsNumber};
+ghost use Rattle.rmt_statement_model.specs.Shows.{IsIdle};
+ghost use Rattle.rmt_statements.specs.declared.act.Act.TheVariants as acts;
+ghost use Rattle.rmt_play.specs.PlayerSteps.{ExecutesIn};
+
+use crate::partition::partition_asked;
+use rmt_acts::{optimize, schema_of};
+use rmt_cluster::Cluster;
+use rmt_reply::Line;
+use rmt_statements::PartitionWord;
+use rmt_values::ReplicaId;
+use std::alloc::{AllocError, Global};
+
+/// Merges the parts of each partition into one, or of the one that is named; or refuses to.
+pub(crate) fn optimize_in(
+    alloc: Global,
+    cluster: &mut Cluster,
+    replica: ReplicaId,
+    word: &Option<PartitionWord>,
+) -> Result<Line, AllocError>
+    requires here { IsNumber replica (length cluster.old.replicas) }
+    requires idle { IsIdle cluster.old }
+    ensures executes { IfOk result (λ line. (table : Bytes ℕ)
+        → ExecutesIn cluster.old replica (acts.Optimize table word.now) line cluster.new) }
+    ensures idle { IfOk result (λ _. IsIdle cluster.new) }
+    ensures replicas { length cluster.new.replicas ≡ length cluster.old.replicas }
+{
+    match partition_asked(alloc, word, schema_of(cluster))? {
+        Ok(asked) => {
+            let made = optimize(alloc, cluster, replica, asked)?;
+            let (names, refused) = (made.names, made.refused);
+            Ok(Line::Optimized { names, refused })
+        }
+        Err(refusal) => Ok(Line::Refused(refusal)),
+    }
+}

@@ -1,0 +1,46 @@
+//! SYSTEM SYNC REPLICA and SYSTEM RESTART REPLICA in their table.
+ghost use Rattle.std.specs.Prelude.{◌≡◌, ℕ, List as Bytes, length, IfOk};
+ghost use Rattle.rmt_cluster.specs.Clusters.{IsNumber};
+ghost use Rattle.rmt_statement_model.specs.Shows.{IsIdle};
+ghost use Rattle.rmt_statements.specs.declared.act.Act.TheVariants as acts;
+ghost use Rattle.rmt_play.specs.PlayerSteps.{ExecutesIn};
+
+use rmt_acts::{restart_replica, sync_replica};
+use rmt_cluster::Cluster;
+use rmt_reply::Line;
+use rmt_values::ReplicaId;
+use std::alloc::{AllocError, Global};
+
+/// Brings a replica up to date.
+pub(crate) fn drain_in(
+    alloc: Global,
+    cluster: &mut Cluster,
+    replica: ReplicaId,
+) -> Result<Line, AllocError>
+    requires here { IsNumber replica (length cluster.old.replicas) }
+    requires idle { IsIdle cluster.old }
+    ensures executes { IfOk result (λ line. (table : Bytes ℕ)
+        → ExecutesIn cluster.old replica (acts.SyncReplica table) line cluster.new) }
+    ensures idle { IfOk result (λ _. IsIdle cluster.new) }
+    ensures replicas { length cluster.new.replicas ≡ length cluster.old.replicas }
+{
+    sync_replica(alloc, cluster, replica)?;
+    Ok(Line::Okay)
+}
+
+/// Begins a replica's session anew.
+pub(crate) fn restart_in(
+    alloc: Global,
+    cluster: &mut Cluster,
+    replica: ReplicaId,
+) -> Result<Line, AllocError>
+    requires here { IsNumber replica (length cluster.old.replicas) }
+    requires idle { IsIdle cluster.old }
+    ensures executes { IfOk result (λ line. (table : Bytes ℕ)
+        → ExecutesIn cluster.old replica (acts.RestartReplica table) line cluster.new) }
+    ensures idle { IfOk result (λ _. IsIdle cluster.new) }
+    ensures replicas { length cluster.new.replicas ≡ length cluster.old.replicas }
+{
+    restart_replica(alloc, cluster, replica)?;
+    Ok(Line::Okay)
+}
