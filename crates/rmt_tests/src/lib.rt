@@ -2,7 +2,15 @@
 #![tactic(auto)]
 
 #[cfg(test)]
+mod commands;
+#[cfg(test)]
+mod limits;
+#[cfg(test)]
 mod partitions;
+#[cfg(test)]
+mod plain;
+#[cfg(test)]
+mod played;
 #[cfg(test)]
 mod replies;
 #[cfg(test)]

@@ -1,7 +1,6 @@
 //! Scripts over partitions and with repeated inserts, with what they write worked out by hand.
-use rmt_outside::{Open, Page, SoundBytes};
-use rmt_play::{End, Status, run};
-use std::alloc::Global;
+use crate::played::played;
+use rmt_play::Status;
 use std::test::Fail;
 
 /// A script, what it writes, its code, and how many of its statements are refused.
@@ -117,17 +116,4 @@ fn retried_inserts_count_once(rt: HostRuntime) -> Result<(), Fail> {
         assert_eq!(rt; status, Status { code, refused }, "of {script}");
     }
     Ok(())
-}
-
-/// The status of a script, and the page that it wrote.
-fn played(alloc: Global, script: &str) -> Result<(Status, Page), Fail> {
-    let mut words = Vec::new(alloc);
-    words.push(String::from_str(alloc, "play")?)?;
-    let mut source = SoundBytes::new(Vec::from_slice(alloc, script.as_bytes())?);
-    let mut page = Page::new(alloc, Vec::new(alloc));
-    let (status, end) = run(alloc, &words, &mut source, &mut page, &Open);
-    match end {
-        End::Stepped(_) => Ok((status, page)),
-        End::Nothing => Err("nothing is handed back".into()),
-    }
 }

@@ -149,12 +149,14 @@ fn scripts_write_their_replies(rt: HostRuntime) -> Result<(), Fail> {
         // Forms that nothing plays so far are refused at their first token.
         (
             "CREATE TABLE t (c UInt64) ENGINE = ReplicatedMergeTree ORDER BY c; KILL r1; RESTART r1; \
-                INSERT INTO t SETTINGS insert_quorum = 2 VALUES (1); ALTER TABLE t DELETE WHERE c = 1; \
-                SYSTEM SYNC REPLICA t; SELECT c FROM t SETTINGS select_sequential_consistency = 1",
+                INSERT INTO t SETTINGS insert_quorum = 2 VALUES (1); @r2 CHECK TABLE t; SYSTEM STOP FETCHES t; \
+                SYSTEM START FETCHES t; LANES; LANE; INSERT INTO t VALUES (1); END; \
+                SELECT c FROM t SETTINGS select_sequential_consistency = 1",
             "ok\nrefused 1 Syntax 67\nrefused 1 Syntax 76\nrefused 1 Syntax 88\n\
-                refused 1 Syntax 141\nrefused 1 Syntax 175\nrefused 1 Syntax 198\n",
+                refused 1 Syntax 141\nrefused 1 Syntax 160\nrefused 1 Syntax 183\nrefused 1 Syntax 207\n\
+                refused 1 Syntax 251\n",
             2,
-            6,
+            8,
         ),
         // Strings, signed numbers, data with quotes, groups, and refusals of each kind.
         (
@@ -181,9 +183,9 @@ fn scripts_write_their_replies(rt: HostRuntime) -> Result<(), Fail> {
                 refused 3 TableExists s\nrefused 20 DoubleColumn a\nrefused 5 UnknownColumn b\n\
                 refused 6 WrongType index_granularity\n\
                 granules all_0_0_0 1/2\ngranules all_1_1_0 1/1\ngranules total 2/3\n\
-                refused 1 Syntax 946\nrefused 1 Syntax 965\nrows 1\n5\n",
+                parts all_0_0_0 all_1_1_0\noptimized all_0_1_1\nrows 1\n5\n",
             2,
-            12,
+            10,
         ),
     ];
     for (script, output, code, refused) in cases {
