@@ -354,7 +354,10 @@ PARTITION = choice(
     says(sequence(keyword("id"), TEXT), lambda said: ("id", said[1])),
 )
 CHANGE = choice(
-    says(sequence(keyword("update"), listed(SET), keyword("where"), FILTER), lambda said: ("alter", said[1], said[3])),
+    says(
+        sequence(keyword("update"), listed(SET), keyword("where"), FILTER),
+        lambda said: ("alter", said[1], said[3]),
+    ),
     says(sequence(keyword("delete"), keyword("where"), FILTER), lambda said: ("alter", None, said[2])),
     says(sequence(keyword("drop"), keyword("partition"), PARTITION), lambda said: ("drop", said[2])),
 )
@@ -797,14 +800,6 @@ class World:
         self.lines.append(b"ran %d" % turns)
 
 
-# what the program doesn't play yet
-NOT_PLAYED = {"alter", "drop", "optimize", "show", "wait", "sync", "restart", "run"}
-
-
-def is_played(statement):
-    return (statement[2][0] if statement[0] == "at" else statement[0]) not in NOT_PLAYED
-
-
 def played(script):
     """What is written, and the code."""
     world, at, statements = World(), 0, FIRST_WHOLE
@@ -824,7 +819,7 @@ def played(script):
                 at = len(script) if end < 0 else end + 1
                 raise Refusal(1, "Syntax", text.furthest)
             at, (statement, _) = max(ways, key=lambda way: way[0])
-            if statement[0] == "unbuilt" or not is_played(statement):
+            if statement[0] == "unbuilt":
                 raise Refusal(1, "Syntax", first.start)
             world.play(statement)
         except Refusal as refusal:

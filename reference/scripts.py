@@ -1,7 +1,6 @@
 """Random scripts: mostly statements that are played, some that are refused, and some with a token too few, too many or
-out of place. Nine of ten scripts are INSERTs for the most part, among them some that are sent again, SELECTs and
-EXPLAINs; the busy tenth changes what was inserted, by commands, drops, merges and background work at all replicas, most
-of which isn't played yet."""
+out of place. Half of them are INSERTs for the most part, among them some that are sent again, SELECTs and EXPLAINs. The
+other half, the busy ones, change what was inserted, by commands, drops, merges and background work at all replicas."""
 import random
 
 COLUMNS = ["a", "b", "c", "d", "k", "day", "page"]
@@ -400,7 +399,7 @@ class Scripts:
         text = ""
         if self.chance(0.01):
             return f"REPLICAS {self.random.randint(1, 9)}{self.one(SPACES)}".encode()
-        self.is_busy = self.chance(0.1)
+        self.is_busy = self.chance(0.5)
         if self.chance(0.8 if self.is_busy else 0.4):
             self.replicas = self.random.randint(1, 4 if self.is_busy else 8)
             text += self.spelled([self.keyword("REPLICAS"), str(self.replicas), ";"])
