@@ -6,3 +6,4 @@ pub mod MutateLaws
 pub mod GatheredLemmas
 pub mod NewPartLemmas
 pub mod MutatedPartLemmas
+pub mod SentLemmas

@@ -4,6 +4,7 @@ pub use Rattle.rmt_row.specs.Token
 pub use Rattle.rmt_block.specs.Blocks
 pub use Rattle.rmt_granules.specs.Granules
 pub use Rattle.rmt_granules.specs.MadePart
+pub use Rattle.rmt_format.specs.PartBytes
 pub use Rattle.rmt_model.specs.Words
 pub use Rattle.rmt_model.specs.Lawful
 pub use Rattle.rmt_model.specs.Parts
@@ -11,3 +12,4 @@ pub use Rattle.rmt_history.specs.Copies
 pub use Rattle.rmt_history.specs.Mutations
 pub use Rattle.rmt_part.specs.Lineages
 pub mod NewParts
+pub mod SentParts

@@ -2,6 +2,7 @@
 #![tactic(auto)]
 
 mod block_part;
+mod fetched_part;
 mod gathered;
 mod merged_part;
 mod mutated_part;
@@ -10,5 +11,6 @@ mod name;
 mod pending;
 
 pub use block_part::from_block;
+pub use fetched_part::refetched;
 pub use merged_part::merge;
 pub use mutated_part::mutate;

@@ -90,17 +90,20 @@ fn read_granule<'a>(
     if bytes.len() < count as usize {
         return Err(DecodeError::Malformed);
     }
-    let rows = blank(alloc, count)?;
+    // Each value takes a byte or more.
+    let room = columns.len().min(bytes.len() / (count as usize).max(1));
+    let rows = blank(alloc, count, room)?;
     read_columns(alloc, bytes, columns, rows)
 }
 
-// So many rows without values.
-fn blank(alloc: Global, count: u32) -> Result<Vec<Row>, AllocError>
+// So many rows without values, each with room for so many.
+fn blank(alloc: Global, count: u32, room: usize) -> Result<Vec<Row>, AllocError>
     ensures { IfOk result (λ rows. rows.items ≡ blank_rows count) }
 {
-    let mut rows = Vec::new(alloc);
+    let mut rows = Vec::with_capacity(alloc, count as usize)?;
     'rows: for _ in 0..count {
-        rows.push(Row::new(Vec::new(alloc)))?;
+        let row = Vec::with_capacity(alloc, room)?;
+        rows.push(Row::new(row))?;
     }
     Ok(rows)
 }

@@ -1,11 +1,9 @@
 -- Who holds the block of a Get.
-use Rattle.std.proofs.Common.{◌≡◌, ℕ, zero, suc, ◌+◌, ◌<◌, ◌≤◌, ◌⊎◌, inl, inr, true, List, [], ◌∷◌, length, map, refl, sym, ap, subst, ◌∙◌, arith, rules, below_more, Bor}
-use Rattle.std.specs.Prelude.{slice_get, IfOk, IfSome, IsSome, MatchOption}
+use Rattle.std.proofs.Common.{◌≡◌, ℕ, zero, suc, ◌+◌, ◌<◌, ◌≤◌, ◌^◌, ◌⊎◌, inl, inr, true, List, [], ◌∷◌, length, map, refl, sym, ap, subst, ◌∙◌, arith, rules, below_more, Bor}
+use Rattle.std.specs.Prelude.{slice_get, IfSome, IsSome, MatchOption}
 use Rattle.std.specs.Option.{option_map}
 use Rattle.std.specs.declared.option.Option.{Option}
 use Rattle.std.specs.declared.option.Option.TheVariants.{Some, None}
-use Rattle.std.specs.declared.result.Result.{Result}
-use Rattle.std.specs.declared.result.Result.TheVariants.{Ok, Err}
 use Rattle.rmt_values.specs.Rows.{Shape}
 use Rattle.rmt_names.specs.Names.{Name, Covers, Overlap, block_name}
 use Rattle.rmt_entries.specs.Entries.{result_name}
@@ -19,6 +17,7 @@ use Rattle.rmt_model.specs.CopiedParts.{Copied, IsCopied}
 use Rattle.rmt_model.proofs.Lists.{Each-at}
 use Rattle.rmt_model.proofs.LiveLaws.{Pairwise-cases, not-both}
 use Rattle.rmt_model.proofs.Drops.{some-same, entry-below}
+use Rattle.rmt_granules.specs.Granules.{PartView as Data}
 use Rattle.rmt_part.specs.Lineages.{PartValue}
 use Rattle.rmt_part.specs.CopiedPart.{copied}
 use Rattle.rmt_part.proofs.PartLaws.{of-log-longer, of-log-prefix}
@@ -34,7 +33,8 @@ use Rattle.rmt_events.specs.Clusters.{Cluster}
 use Rattle.rmt_events.specs.ClusterChanges.{IsOther}
 use Rattle.rmt_events.specs.ApplyEvents.{IsHolder, LacksBlock, MayFetch}
 use Rattle.rmt_events.proofs.Copies.{entry-behind}
-use Rattle.rmt_supply.specs.PartSources.{staged_for, IsAccepted, AreOfOneTable, IsClusterOf, Does, IsFetchedPart, WaitsForBlock, IsGetFor, HoldsPart, HoldsNothing, IsOfStaged, IsHeld, IsNowhere}
+use Rattle.rmt_compact.proofs.SentLemmas.{length-in_key_order}
+use Rattle.rmt_supply.specs.PartSources.{staged_for, IsAccepted, AreOfOneTable, HasSmallParts, IsClusterOf, Does, IsFetchedPart, WaitsForBlock, IsGetFor, HoldsPart, HoldsNothing, IsOfStaged, IsHeld, IsNowhere}
 use Rattle.rmt_supply.proofs.StagedParts.{of-table, staged-seen, block-does}
 
 -- ---- active parts that cover one name
@@ -76,12 +76,17 @@ later-covers r a len p s m c l part h =
 
 -- ---- what a holder has
 
--- the part of the staged block is what a holder has, where no active part is
-pub as-held : {P E : Type 0} (result : Result (Option P) E) (value : P → PartValue) (schema : Shape) (holder : ReplicaView) (token : Token Entry) (a : Name) (len : ℕ) → ((part : PartValue) → HoldsPart holder a len part → ⊥)
-    → IfOk result (λ part. MatchOption part (staged_for holder token.value ≡ None) (λ p. IsOfStaged schema holder token (value p))) → IfOk result (λ part. IsHeld schema holder token a len (option_map value part))
-as-held (Ok None) value schema holder token a len none h = record { no_part = none; no_block = h }
-as-held (Ok (Some p)) value schema holder token a len none h = inr h
-as-held (Err e) value schema holder token a len none h = tt
+-- an active part of a holder is small, where all of them are
+pub held-small : (holder : ReplicaView) (a : Name) (len : ℕ) (part : PartValue) → HasSmallParts holder → HoldsPart holder a len part → length part.body.rows < 2 ^ 32
+held-small holder a len part small h = Each-at (λ p. length p.body.rows < 2 ^ 32) holder.parts part small h.is_in
+
+-- so is the part of a staged block
+pub staged-small : (schema : Shape) (holder : ReplicaView) (token : Token Entry) (part : PartValue) → IsOfStaged schema holder token part → length part.body.rows < 2 ^ 32
+staged-small schema holder token part h =
+    let made = ap (λ (d : Data). length d.rows) h.is.body in
+    let ordered = length-in_key_order schema h.block.rows in
+    let few = h.few_rows in
+    omega (arith, made, ordered, few)
 
 -- it has nothing where no part comes back
 pub holds-nothing : {P : Type 0} (o : Option P) (value : P → PartValue) (schema : Shape) (holder : ReplicaView) (token : Token Entry) (a : Name) (len : ℕ) → o ≡ None → IsHeld schema holder token a len (option_map value o) → HoldsNothing holder token a len

@@ -2,7 +2,7 @@
 -- ClickHouse documentation, Data Replication: a replica makes the part of an inserted block from the block, or fetches it from
 -- another replica; merges and mutations are done from its own parts. That the lowest-numbered holder is taken is this
 -- program's own.
-use Rattle.std.specs.Prelude.{◌≡◌, ◌⊎◌, ℕ, ◌+◌, ◌<◌, List, length, map, slice_get, MatchOption, IfSome}
+use Rattle.std.specs.Prelude.{◌≡◌, ◌⊎◌, ℕ, ◌+◌, ◌<◌, ◌^◌, List, length, map, slice_get, MatchOption, IfSome}
 use Rattle.std.specs.Prelude.{true}
 use Rattle.std.specs.List.{All}
 use Rattle.std.specs.Arc.{arc_value}
@@ -54,6 +54,14 @@ pub record AreOfOneTable (replicas : List ReplicaView) (i : ℕ) : Type 0 where
   pub numbered : (j : ℕ) (r : ReplicaView) → slice_get replicas j ≡ Some r → r.number ≡ 1 + j
   pub copies : (r : ReplicaView) → Has replicas r → (r.schema ≡ schema) × IsPrefix r.log log
   pub accepted : (r : ReplicaView) → Has replicas r → IsStandingReplica r → (e : Entry) → entry_at log i ≡ Some e → IfSome (staged_for r e) (IsAccepted schema e)
+
+-- each active part of the replica has fewer than 2^32 rows
+abbrev pub HasSmallParts : ReplicaView → Type 0
+HasSmallParts r = Each (λ part. length part.body.rows < 2 ^ 32) r.parts
+
+-- so have those of each of the replicas: their bytes can be sent
+abbrev pub AreSmall : List ReplicaView → Type 0
+AreSmall replicas = (r : ReplicaView) → Has replicas r → HasSmallParts r
 
 -- a cluster of these replicas, and of this schema
 pub record IsClusterOf (schema : Shape) (replicas : List ReplicaView) (s : Cluster) : Type 0 where
@@ -121,6 +129,7 @@ pub record IsOfStaged (schema : Shape) (holder : ReplicaView) (token : Token Ent
   pub block : BlockView
   pub staged : staged_for holder token.value ≡ Some block
   pub accepted : IsAccepted schema token.value block
+  pub few_rows : length block.rows < 2 ^ 32
   pub is : IsOfBlock schema token block part
   pub is_part : IsPart part
 

@@ -1,14 +1,16 @@
 //! What other replicas hold.
-ghost use Rattle.std.specs.Prelude.{◌≡◌, ◌<◌, ◌≤◌, IfOk, IfSome, MatchOption, length, slice_get};
+ghost use Rattle.std.specs.Prelude.{◌≡◌, ◌<◌, ◌≤◌, ◌^◌, IfOk, IfSome, MatchOption, length, slice_get};
 ghost use Rattle.std.specs.Arc.{arc_value};
 ghost use Rattle.std.specs.Option.{option_map};
 ghost use Rattle.std.specs.declared.option.Option.TheVariants.{Some};
 ghost use Rattle.rmt_part.specs.Lineages.{PartValue};
 ghost use Rattle.rmt_replica.specs.Replicas.{ReplicaView};
-ghost use Rattle.rmt_supply.specs.PartSources.{staged_for, IsAccepted, AreOfOneTable, WaitsForBlock, IsGetFor, HoldsPart, IsHeld, IsFetchedFor};
+ghost use Rattle.rmt_supply.specs.PartSources.{staged_for, IsAccepted, AreOfOneTable, HasSmallParts, AreSmall, WaitsForBlock, IsGetFor, HoldsPart, IsHeld, IsFetchedFor};
 
 use crate::staged::staged_part;
+use rmt_compact::refetched;
 use rmt_entries::Entry;
+use rmt_format::encode;
 use rmt_names::{PartName, block_name};
 use rmt_part::Part;
 use rmt_replica::Replica;
@@ -37,7 +39,19 @@ fn part_within<'a>(
     Some(part)
 }
 
-/// What a holder has for the Get of a token: its active part that covers the block's and was made at a place below `len`, else
+/// The part that another replica makes of a holder's: the holder's bytes are sent, and decoded there. At an error no memory was
+/// left.
+fn sent(alloc: Global, part: &Part) -> Result<Arc<Part, Global>, AllocError>
+    requires { length part.now.body.rows < 2 ^ 32 }
+    ensures { IfOk result (λ other. arc_value other ≡ part.now) }
+{
+    let bytes = encode(alloc, part.body(), part.schema())?;
+    let other = refetched(alloc, part, &bytes)?;
+    let shared = Arc::new(alloc, other)?;
+    Ok(shared)
+}
+
+/// What a holder sends for the Get of a token: its active part that covers the block's and was made at a place below `len`, else
 /// the part of the block that is staged there. None where it has neither. At an error no memory was left.
 fn held(
     alloc: Global,
@@ -49,11 +63,15 @@ fn held(
 ) -> Result<Option<Arc<Part, Global>>, AllocError>
     requires get { IsGetFor get.now name.now }
     requires accepted { IfSome (staged_for holder.now get.now.value) (IsAccepted (arc_value schema.now) get.now.value) }
+    requires small { HasSmallParts holder.now }
     ensures { IfOk result (λ part. IsHeld (arc_value schema.now) holder.now get.now name.now len (option_map arc_value part)) }
 {
-    match part_within(holder, name, len) {
-        Some(part) => Ok(Some(Arc::try_clone(part)?)),
-        None => staged_part(alloc, holder, get, schema),
+    if let Some(part) = part_within(holder, name, len) {
+        return Ok(Some(sent(alloc, part)?));
+    }
+    match staged_part(alloc, holder, get, schema)? {
+        Some(part) => Ok(Some(sent(alloc, &part)?)),
+        None => Ok(None),
     }
 }
 
@@ -68,6 +86,7 @@ pub(crate) fn fetched_part(
 ) -> Result<Option<Arc<Part, Global>>, AllocError>
     requires at { at < length replicas.now }
     requires table { AreOfOneTable replicas.now i }
+    requires small { AreSmall replicas.now }
     requires waits { (x : ReplicaView) → slice_get replicas.now at ≡ Some x → (x.schema ≡ arc_value schema.now) × WaitsForBlock x i }
     ensures { IfOk result (λ part. (x : ReplicaView) → slice_get replicas.now at ≡ Some x → IsFetchedFor replicas.now x i (option_map arc_value part)) }
 {

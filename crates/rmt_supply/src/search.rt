@@ -6,7 +6,7 @@ ghost use Rattle.rmt_entries.specs.declared.entry.Entry.{Entry};
 ghost use Rattle.rmt_model.specs.Lawful.{entry_at};
 ghost use Rattle.rmt_replica.specs.Replicas.{ReplicaView};
 ghost use Rattle.rmt_replica.specs.Answers.{Waits, IsReady};
-ghost use Rattle.rmt_supply.specs.PartSources.{staged_for, IsAccepted, AreOfOneTable, Suits, IsFoundFor};
+ghost use Rattle.rmt_supply.specs.PartSources.{staged_for, IsAccepted, AreOfOneTable, AreSmall, Suits, IsFoundFor};
 
 use crate::found::Found;
 use crate::holders::fetched_part;
@@ -64,6 +64,7 @@ pub fn find(
 ) -> Result<Found, AllocError>
     requires at { at < length replicas.now }
     requires table { AreOfOneTable replicas.now i }
+    requires small { AreSmall replicas.now }
     requires place { (x : ReplicaView) → slice_get replicas.now at ≡ Some x → (i < length x.log) × (x.schema ≡ arc_value schema.now) }
     ensures { IfOk result (λ found. (x : ReplicaView) → slice_get replicas.now at ≡ Some x → IsFoundFor replicas.now x i found) }
 {

@@ -36,6 +36,8 @@ pub(crate) fn staged_part(
         return Ok(None);
     };
     let block = Arc::try_clone(block)?;
+    // So is that the block has fewer than 2^32 rows.
+    let _len = block.len();
     let made = token.copy()?;
     let part = from_block(alloc, block, made, schema)?;
     // What the type keeps is known where a field is read.

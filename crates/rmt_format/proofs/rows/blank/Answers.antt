@@ -5,5 +5,5 @@ use Rattle.rmt_format.proofs.rows.blank.Goals as goal
 
 pub rows-preserved : goal.rows-preserved
 rows-preserved c =
-    c.in_ok-push.ensures.items ∙ ap (λ (row : List Value). c.rows.rows.items ++ row ∷ []) (c.new-in-rows.ensures ∙ c.new.ensures.items)
+    c.in_ok-push.ensures.items ∙ ap (λ (row : List Value). c.rows.rows.items ++ row ∷ []) (c.new.ensures ∙ c.in_ok-row.ensures.items)
     ∙ ap (λ (rows : List (List Value)). rows ++ [] ∷ []) c.rows.invariant ∙ blank-more c.rows.counter

@@ -4,6 +4,7 @@ use Rattle.std.proofs.lemmas.Option.{gets}
 use Rattle.std.specs.Arc.{arc_value}
 use Rattle.std.specs.declared.option.Option.TheVariants.{Some}
 use Rattle.rmt_supply.proofs.BlockHolders.{has-entry, reads-get, worker, accepted, one-more, holds-nothing, holds-part, nowhere, fetches}
+use Rattle.rmt_supply.proofs.SearchLemmas.{has-place}
 use Rattle.rmt_supply.proofs.holders.fetched_part.Goals as goal
 use Rattle.rmt_supply.proofs.holders.fetched_part.Goals.{then-j-at-via-then-j-at, then-j-at-via-else-j-at+then-not-is_up}
 
@@ -30,6 +31,7 @@ held-requires c =
     record {
       get = w.get;
       accepted = accepted c.args.replicas.now c.args.at c.holders.j c.args.i x c.index-replicas-j.result c.unwrap-get.result.now c.block_name-name.result (arc_value c.args.schema.now) w here c.copy-standing.ensures.standing q.0;
+      small = c.requires.small c.index-replicas-j.result (has-place c.args.replicas.now c.holders.j c.index-replicas-j.result here);
     }
 
 pub holders-preserved-then-j-at : goal.holders-preserved-then-j-at
