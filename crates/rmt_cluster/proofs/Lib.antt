@@ -7,6 +7,7 @@ pub mod ChangeLemmas
 pub mod AssignLemmas
 pub mod ApplyLemmas
 pub mod AcceptedLemmas
+pub mod PartSizes
 pub mod InsertLemmas
 pub mod CauseLemmas
 pub mod InsertActs

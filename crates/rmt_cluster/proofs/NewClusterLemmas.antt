@@ -1,17 +1,18 @@
 -- A new cluster, put together from a new state.
-use Rattle.std.proofs.Common.{◌≡◌, suc, ◌≤◌, Bool, List, [], ◌∷◌, map, length, refl, sym, ap, subst, arith, ◌∙◌}
+use Rattle.std.proofs.Common.{◌≡◌, ℕ, ◌+◌, suc, ◌≤◌, Bool, List, [], ◌∷◌, map, length, refl, sym, ap, subst, arith, ◌∙◌}
 use Rattle.rmt_values.specs.Rows.{Shape}
 use Rattle.rmt_model.specs.Words.{Has, Each}
+use Rattle.rmt_table_model.specs.Held.{Held}
 use Rattle.rmt_replica.specs.Replicas.{ReplicaView}
 use Rattle.rmt_replica_view.specs.Shown.{shown}
 use Rattle.rmt_events.specs.Clusters.{Attempt}
 use Rattle.rmt_events.specs.Whole.{IsWhole}
 use Rattle.rmt_events.specs.declared.event.Event.{Event}
 use Rattle.rmt_events.specs.declared.reply.Reply.{Reply}
-use Rattle.rmt_cluster.specs.States.{StateView, cluster_of}
+use Rattle.rmt_cluster.specs.States.{StateView, AreNumbered, Belongs, cluster_of}
 use Rattle.rmt_cluster.specs.NewStates.{IsNewState}
 use Rattle.rmt_cluster.specs.Attempts.{OpenAttempts}
-use Rattle.rmt_cluster.specs.NewClusters.{IsNewCluster}
+use Rattle.rmt_cluster.specs.NewClusters.{AreCounted, IsNewCluster}
 use Rattle.rmt_cluster.specs.Clusters.{IsTaken, IsCluster}
 use Rattle.rmt_cluster.proofs.NewLemmas.{new-cluster, new-is-whole}
 
@@ -40,9 +41,14 @@ up-shown : (rs : List ReplicaView) → map (λ r. r.up) (map shown rs) ≡ map (
 up-shown [] = refl
 up-shown (r ∷ rs) = ap (λ (l : List Bool). r.up ∷ l) (up-shown rs)
 
+counted : (tree : Held) (k : ℕ) (rs : List ReplicaView) → AreNumbered tree k rs → AreCounted k (map shown rs)
+counted tree k [] n = tt
+counted tree k (r ∷ rs) n = (Belongs.numbered n.0, counted tree (k + 1) rs n.1)
+
 pub new-is-new : (schema : Shape) (up : List Bool) (s : StateView) (a : OpenAttempts) (events : List (Event × Reply)) → IsNewState schema up s → a.made ≡ 0 → a.open_ones ≡ [] → events ≡ [] → IsNewCluster schema up (cluster_of s a.made a.open_ones events)
 new-is-new schema up s a events n m o e = record {
   is_new = nothing-beside s a events m o e ∙ new-cluster schema up s n;
   replicas = n.replicas;
+  numbered = counted s.tree 1 s.replicas n.numbered.numbered;
   up_ones = up-shown s.replicas ∙ n.up_ones;
 }

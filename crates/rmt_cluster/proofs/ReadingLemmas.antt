@@ -1,7 +1,9 @@
 -- What a query reads at the replica of a number.
-use Rattle.std.proofs.Common.{◌≡◌, ℕ, zero, suc, ◌+◌, ◌-◌, ◌<◌, ◌≤◌, ◌∙◌, ◌↔◌, false, List, [], ◌∷◌, length, map, refl, sym, ap, subst, arith, get_or}
+use Rattle.std.proofs.Common.{◌≡◌, ℕ, zero, suc, ◌+◌, ◌-◌, ◌<◌, ◌≤◌, ◌^◌, ◌∙◌, ◌↔◌, false, List, [], ◌∷◌, length, map, refl, sym, ap, subst, arith, get_or}
 use Rattle.std.specs.Prelude.{slice_get, IfOk}
 use Rattle.std.specs.Option.{option_map}
+use Rattle.std.specs.List.{All, AllByRecursion}
+use Rattle.std.proofs.lemmas.List.Elements.{All-from_recursion}
 use Rattle.std.specs.declared.option.Option.{Option}
 use Rattle.std.specs.declared.option.Option.TheVariants.{Some}
 use Rattle.std.specs.declared.result.Result.{Result}
@@ -9,15 +11,18 @@ use Rattle.std.specs.declared.result.Result.TheVariants.{Ok, Err}
 use Rattle.std.proofs.lemmas.List.{length-map}
 use Rattle.std.proofs.lemmas.Option.{slice_get_read, slice_get-map}
 use Rattle.rmt_values.specs.Rows.{Shape}
+use Rattle.rmt_values.specs.Schemas.{IsSchema}
 use Rattle.rmt_entries.specs.declared.entry.Entry.{Entry}
 use Rattle.rmt_granules.specs.Granules.{PartView}
 use Rattle.rmt_granules.specs.MadePart.{data_of}
+use Rattle.rmt_format.specs.PartBytes.{HasPartBytes}
 use Rattle.rmt_model.specs.Words.{Has, Each}
 use Rattle.rmt_model.specs.Content.{Row}
 use Rattle.rmt_history.proofs.ListLemmas.{get-has}
 use Rattle.rmt_table_model.specs.Held.{Held}
 use Rattle.rmt_part.specs.Lineages.{PartValue}
 use Rattle.rmt_part.specs.CopiedPart.{copied}
+use Rattle.rmt_compact.proofs.SentLemmas.{part-has}
 use Rattle.rmt_partset.specs.Snapshots.{NamedData}
 use Rattle.rmt_partset.specs.ActiveParts.{shown as shown_parts}
 use Rattle.rmt_replica.specs.Parts.{IsMadeIn}
@@ -27,13 +32,14 @@ use Rattle.rmt_replica.specs.declared.replica_error.ReplicaError.TheVariants as 
 use Rattle.rmt_replica_view.specs.Shown.{shown}
 use Rattle.rmt_events.specs.Views.{Replica}
 use Rattle.rmt_events.specs.Clusters.{Cluster}
-use Rattle.rmt_events.specs.Whole.{HasReplica}
+use Rattle.rmt_events.specs.Whole.{HasReplica, IsWhole}
 use Rattle.rmt_events.specs.ClusterChanges.{IsNumbered, IsDown}
 use Rattle.rmt_cluster.specs.States.{StateView, AreNumbered, IsState}
 use Rattle.rmt_cluster.specs.Clusters.{IsNumber}
 use Rattle.rmt_cluster.specs.Readings.{parts_read}
 use Rattle.rmt_cluster.proofs.StateLemmas.{at-place}
 use Rattle.rmt_cluster.proofs.StageLemmas.{one-numbered}
+use Rattle.rmt_cluster.proofs.PartSizes.{small-parts}
 
 -- ---- the replica of a number
 
@@ -99,6 +105,19 @@ reads (Ok d) s schema k r o w c e = λ x h.
     e ∙ (parts-shown r.schema r.log r.parts w.made
     ∙ (ap (λ (z : Shape). parts_read z (map copied r.parts)) (o.of_schema ∙ c) ∙ sym (ap (λ (z : Replica). parts_read s.table.schema z.parts) (o.only x h))))
 reads (Err z) s schema k r o w c e = tt
+
+have-bytes : (schema : Shape) (log : List Entry) (parts : List PartValue) → Each (IsMadeIn schema log) parts → Each (λ part. length part.body.rows < 2 ^ 32) parts → AllByRecursion (λ d. HasPartBytes schema d.rows) (shown_parts parts)
+have-bytes schema log [] m f = tt
+have-bytes schema log (p ∷ parts) m f = (part-has schema p m.0.is_part m.0.of_schema f.0, have-bytes schema log parts m.1 f.1)
+
+-- each part that is read has bytes
+pub reads-bytes : {E : Type 0} (read : Result (List NamedData) E) (s : Cluster) (k : ℕ) (r : ReplicaView) → IsOnly s s.table.schema k r → IsStandingReplica r → IsWhole s → IsSchema s.table.schema → IfOk read (λ d. d ≡ shown_parts r.parts) → IfOk read (All (λ part. HasPartBytes s.table.schema part.rows))
+reads-bytes (Ok d) s k r o w z c e =
+    subst (All (λ (part : NamedData). HasPartBytes s.table.schema part.rows)) (sym e)
+    (All-from_recursion (λ (part : NamedData). HasPartBytes s.table.schema part.rows) (shown_parts r.parts)
+    (subst (λ (v : Shape). AllByRecursion (λ (part : NamedData). HasPartBytes v part.rows) (shown_parts r.parts)) o.of_schema
+    (have-bytes r.schema r.log r.parts w.made (small-parts s r z c o.numbered.is_in))))
+reads-bytes (Err e) s k r o w z c q = tt
 
 pub reads-down : {A : Type 0} (read : Result A ReplicaError) (s : Cluster) (schema : Shape) (k : ℕ) (r : ReplicaView) → IsOnly s schema k r → (read ≡ Err errors.Down) ↔ (r.up ≡ false) → (read ≡ Err errors.Down) ↔ IsDown s k
 reads-down read s schema k r o d = (

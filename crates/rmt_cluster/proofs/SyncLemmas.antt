@@ -31,30 +31,13 @@ use Rattle.rmt_events.specs.declared.step_refused.StepRefused.{StepRefused}
 use Rattle.rmt_events.specs.declared.step_refused.StepRefused.TheVariants as rf
 use Rattle.rmt_events.specs.declared.applied.Applied.{Applied}
 use Rattle.rmt_events.specs.declared.applied.Applied.TheVariants as came
+use Rattle.rmt_events.proofs.Moves.{has-with}
+use Rattle.rmt_events.proofs.WholeSteps.{whole-step}
 use Rattle.rmt_events.proofs.WholeTries.{one-replica}
 use Rattle.rmt_events.proofs.Drains.{merge-ready, mutate-ready, get-ready}
-use Rattle.rmt_cluster.specs.Syncs.{IsOfSync, Syncs, HasDone, LacksSource, SyncsTo, IsNext, IsNextEntry, PullsFor, DoesNext, missing, pulled, source_of}
+use Rattle.rmt_cluster.specs.Syncs.{IsPendingAt, AreApplied, Syncs, HasDone, LacksSource, EndsLacking, IsRefused, StopsEarly, SyncsTo, SourcesAreUp, IsDoneOrStopped, IsNext, IsNextDone, IsNextEntry, PullsAll, PullsFor, DoesEntry, CantDo, DoesNext, missing, pulled, source_of}
 use Rattle.rmt_cluster.specs.declared.sync_error.SyncError.{SyncError}
 use Rattle.rmt_cluster.specs.declared.sync_error.SyncError.TheVariants as errors
-
--- ---- events one after the other
-
-after-after : (a b c : Cluster) (xs ys : List (Event × Reply)) → After a xs b → After b ys c → After a (ys ++ xs) c
-after-after a b c xs [] f g = subst (After a xs) (sym g) f
-after-after a b c xs (y ∷ ys) f g = (g.0, after-after a b g.0 xs ys f g.1, g.2)
-
-each-both : {A : Type 0} (P : A → Type 0) (ys xs : List A) → Each P ys → Each P xs → Each P (ys ++ xs)
-each-both P [] xs f g = g
-each-both P (y ∷ ys) xs f g = (f.0, each-both P ys xs f.1 g)
-
-pub syncs-on : (a b c : Cluster) (k : ℕ) → Syncs a k b → Syncs b k c → Syncs a k c
-syncs-on a b c k f g = record { events = g.events ++ f.events; made = after-after a b c f.events g.events f.made g.made; of_sync = each-both (λ x. IsOfSync k x.0) g.events f.events g.of_sync f.of_sync }
-
-pub syncs-none : (a : Cluster) (k : ℕ) → Syncs a k a
-syncs-none a k = record { events = []; made = refl; of_sync = tt }
-
-syncs-one : (s t : Cluster) (k : ℕ) (e : Event) (r : Reply) → IsOfSync k e → Step s e r t → Syncs s k t
-syncs-one s t k e r f g = record { events = (e, r) ∷ []; made = (s, refl, g); of_sync = (f, tt) }
 
 -- ---- replicas
 
@@ -94,30 +77,49 @@ pull-cause s k rf.NotStaged c = absurd c
 pull-cause s k rf.LockHeld c = absurd c
 pull-cause s k rf.NotLive c = absurd c
 
-pub pull-done : (s t : Cluster) (k : ℕ) (reply : Reply) → Step s (ev.Pull k) reply t → pulled reply ≡ true → Syncs s k t × HasDone t k 0
-pull-done s t k reply g e = go g.does
+pull-why : (s : Cluster) (k : ℕ) (why : StepRefused) → NoPull s k why → why ≡ rf.Down
+pull-why s k rf.NoSession c = absurd c
+pull-why s k (rf.TooFewLive live need) c = absurd c
+pull-why s k (rf.QuorumPending a) c = absurd c
+pull-why s k (rf.Duplicate a) c = absurd c
+pull-why s k (rf.LimitReached limit value) c = absurd c
+pull-why s k (rf.LockGone n) c = absurd c
+pull-why s k (rf.LogMoved seen found) c = absurd c
+pull-why s k (rf.Differ left right) c = absurd c
+pull-why s k (rf.InFlight n) c = absurd c
+pull-why s k rf.Down c = refl
+pull-why s k rf.FetchesStopped c = absurd c
+pull-why s k (rf.NeedsPart a) c = absurd c
+pull-why s k rf.NoAttempt c = absurd c
+pull-why s k rf.NotStaged c = absurd c
+pull-why s k rf.LockHeld c = absurd c
+pull-why s k rf.NotLive c = absurd c
+
+pull-done : (s t : Cluster) (k : ℕ) (reply : Reply) → IsWhole s → Step s (ev.Pull k) reply t → pulled reply ≡ true → PullsAll s k t
+pull-done s t k reply w g e = record { reply = reply; pulls = g; whole = whole-step s t (ev.Pull k) reply w g; done = go g.does }
   where
-    go : PullsLog s k reply g.after ⊎ Declines s (NoPull s k) reply g.after → Syncs s k t × HasDone t k 0
+    go : PullsLog s k reply g.after ⊎ Declines s (NoPull s k) reply g.after → HasDone t k 0
     go (inr d) = absurd (let q = sym e ∙ ap pulled d.answer in cc)
     go (inl p) =
         let c : t ≡ record (cluster_with s k p.at.new) { events = (ev.Pull k, reply) ∷ g.after.events } = g.stored ∙ ap (λ (z : Cluster). record z { events = (ev.Pull k, reply) ∷ g.after.events }) p.at.change in
         let y = p.at.new in
-        let m = p.at.does in (
-          syncs-one s t k (ev.Pull k) reply refl g,
-          subst (λ (z : Cluster). HasDone z k 0) (sym c) (record {
-            replica = y;
-            is = record { at = record { is_in = has-set s.replicas k p.at.old y p.at.at.is_in p.at.at.number; number = ap (λ (z : Replica). z.number) m ∙ p.at.at.number }; up = ap (λ (z : Replica). z.up) m ∙ p.at.up };
-            whole = ap (λ (z : Replica). z.log) m;
-            done = λ j l. absurd (omega (arith, l));
-          }),
-        )
+        let m = p.at.does in
+        subst (λ (z : Cluster). HasDone z k 0) (sym c) (record {
+          replica = y;
+          is = record { at = record { is_in = has-set s.replicas k p.at.old y p.at.at.is_in p.at.at.number; number = ap (λ (z : Replica). z.number) m ∙ p.at.at.number }; up = ap (λ (z : Replica). z.up) m ∙ p.at.up };
+          whole = ap (λ (z : Replica). z.log) m;
+          done = λ j l. absurd (omega (arith, l));
+        })
 
-pub pull-down : (s t : Cluster) (k : ℕ) (reply : Reply) → Step s (ev.Pull k) reply t → pulled reply ≡ false → Syncs s k t × IsDown s k
+pull-down : (s t : Cluster) (k : ℕ) (reply : Reply) → Step s (ev.Pull k) reply t → pulled reply ≡ false → IsRefused s k t
 pull-down s t k reply g e = go g.does
   where
-    go : PullsLog s k reply g.after ⊎ Declines s (NoPull s k) reply g.after → Syncs s k t × IsDown s k
+    go : PullsLog s k reply g.after ⊎ Declines s (NoPull s k) reply g.after → IsRefused s k t
     go (inl p) = absurd (let q = sym e ∙ ap pulled p.answer in cc)
-    go (inr d) = (syncs-one s t k (ev.Pull k) reply refl g, pull-cause s k d.why d.cause)
+    go (inr d) = record {
+      down = pull-cause s k d.why d.cause;
+      refused = subst (λ (r : Reply). Step s (ev.Pull k) r t) (d.answer ∙ ap rp.Refused (pull-why s k d.why d.cause)) g;
+    }
 
 -- ---- an entry
 
@@ -143,6 +145,14 @@ set-done (b ∷ xs) zero zero l f g = refl
 set-done (b ∷ xs) zero (suc j) l f g = absurd (omega (arith, g))
 set-done (b ∷ xs) (suc i) zero l f g = f 0 (omega arith)
 set-done (b ∷ xs) (suc i) (suc j) l f g = set-done xs i j (omega (arith, l)) (λ m n. f (suc m) (omega (arith, n))) (omega (arith, g))
+
+-- the marks after the entry stay
+set-later : (xs : List Bool) (i j : ℕ) → i < j → done_at (slice_set xs i true) j ≡ done_at xs j
+set-later [] i j g = refl
+set-later (b ∷ xs) zero zero g = absurd (omega (arith, g))
+set-later (b ∷ xs) zero (suc j) g = refl
+set-later (b ∷ xs) (suc i) zero g = absurd (omega (arith, g))
+set-later (b ∷ xs) (suc i) (suc j) g = set-later xs i j (omega (arith, g))
 
 -- the marks are as many as the entries
 marks-of : (s : Cluster) (x : Replica) → IsWhole s → Has s.replicas x → length x.done ≡ length x.log
@@ -172,10 +182,10 @@ apply-cause s k i x rf.NotStaged w u l f c = absurd c
 apply-cause s k i x rf.LockHeld w u l f c = absurd c
 apply-cause s k i x rf.NotLive w u l f c = let q = ap (λ (z : Replica). length z.log) (one-up s k x c.0 w u.at (IsUp.at c.1)) in let m = c.2 in absurd (omega (arith, q, m, l))
 
-pub apply-done : (s t : Cluster) (k i : ℕ) (x : Replica) (reply : Reply) → IsWhole s → IsNumbered s k x → x.fetches ≡ true → HasDone s k i → i < length s.table.log → Step s (ev.Apply k i) reply t → missing reply ≡ None → Syncs s k t × HasDone t k (i + 1)
+apply-done : (s t : Cluster) (k i : ℕ) (x : Replica) (reply : Reply) → IsWhole s → IsNumbered s k x → x.fetches ≡ true → HasDone s k i → i < length s.table.log → Step s (ev.Apply k i) reply t → missing reply ≡ None → DoesEntry s k i t
 apply-done s t k i x reply w n f h l g m = go g.does
   where
-    go : Applies s k i reply g.after ⊎ Declines s (NoApply s k i) reply g.after → Syncs s k t × HasDone t k (i + 1)
+    go : Applies s k i reply g.after ⊎ Declines s (NoApply s k i) reply g.after → DoesEntry s k i t
     go (inr d) =
         let u = h.is in
         let p = one-up s k x h.replica w n u.at in
@@ -188,15 +198,22 @@ apply-done s t k i x reply w n f h l g m = go g.does
         let q : h.replica ≡ a.at.old = one-up s k h.replica a.at.old w (IsUp.at h.is) a.at.at in
         let marks = marks-of s a.at.old w a.at.at.is_in in
         let whole : a.at.old.log ≡ s.table.log = subst (λ (z : Replica). z.log ≡ s.table.log) q h.whole in
-        let within : i < length a.at.old.done = let e = ap length whole in omega (arith, marks, e, l) in (
-          syncs-one s t k (ev.Apply k i) reply refl g,
-          subst (λ (z : Cluster). HasDone z k (i + 1)) (sym c) (record {
+        let within : i < length a.at.old.done = let e = ap length whole in omega (arith, marks, e, l) in
+        let after : IsNumbered t k y = subst (λ (z : Cluster). IsNumbered z k y) (sym c) (record { is_in = has-set s.replicas k a.at.old y a.at.at.is_in a.at.at.number; number = m.number ∙ a.at.at.number }) in
+        record {
+          reply = reply;
+          step = g;
+          done = record {
             replica = y;
-            is = record { at = record { is_in = has-set s.replicas k a.at.old y a.at.at.is_in a.at.at.number; number = m.number ∙ a.at.at.number }; up = m.up ∙ a.at.up };
-            whole = m.log ∙ whole;
+            is = record { at = after; up = m.up ∙ a.at.up };
+            whole = m.log ∙ (whole ∙ sym (ap (λ (z : Cluster). z.table.log) c));
             done = λ j b. subst (λ (z : List Bool). done_at z j ≡ true) (sym m.done) (set-done a.at.old.done i j within (λ o p. subst (λ (z : Replica). done_at z.done o ≡ true) q (h.done o p)) b);
-          }),
-        )
+          };
+          later = λ v z nv nz j b.
+              let pv : a.at.old ≡ v = one-up s k a.at.old v w a.at.at nv in
+              let pz : y ≡ z = one-up t k y z (whole-step s t (ev.Apply k i) reply w g) after nz in
+              subst (λ (o : Replica). done_at o.done j ≡ done_at v.done j) pz (subst (λ (o : Replica). done_at y.done j ≡ done_at o.done j) pv (ap (λ (ms : List Bool). done_at ms j) m.done ∙ set-later a.at.old.done i j b));
+        }
 
 -- ---- a part that is missing
 
@@ -218,82 +235,87 @@ held-nowhere s k x p n digest e l f (inl b) = l b.block b.staged
 held-nowhere s k x p n digest e l f (inr h) = f h.holder (record { is_in = h.other.is_in; up = h.other.up; other = λ q. h.other.other (q ∙ sym e) }) (elim h.has [ inl c ↦ inl c | inr b ↦ inr (b.block, b.staged) ])
 
 -- a part that an entry lacks whose replica has done all before it is that of a Get, whose source is down
-lacks-source : (s : Cluster) (k i : ℕ) (x : Replica) (e : Entry) (a : Name) → IsWhole s → x.log ≡ s.table.log → ((j : ℕ) → j < i → done_at x.done j ≡ true) → WaitsAt s k i x e → LacksPart s k x e a → LacksSource s k a (source_of e)
-lacks-source s k i x (entries.Get p n digest source need) a w h d t l = record {
-  replica = x;
-  whole = h;
-  place = i;
-  partition = p;
-  number = n;
-  need = need;
-  digest = digest;
-  waits = t;
-  lacks = l;
-  down =
-      let has = (w.committed i p n source need digest (subst (λ (z : List Entry). entry_at z i ≡ Some (entries.Get p n digest source need)) h t.at)).1 in
-      source-down s source has.replica w (record { is_in = has.is_in; number = has.numbered })
-      (λ up. held-nowhere s k x p n digest t.is.at.number l.1 l.2 (get-ready s x i p n source need digest w t.is.at.is_in h t.waits t.at up));
-}
-lacks-source s k i x (entries.Merge new sources count) a w h d t l =
-    absurd (no-first sources (names_of x.parts) a (merge-ready s.table.schema x i new sources count (Follows.stands (Each-at (Follows s) s.replicas x w.follow t.is.at.is_in)) t.waits d t.at) l)
-lacks-source s k i x (entries.Mutate old new upto count mcount) a w h d t l =
-    absurd (no-first (old ∷ []) (names_of x.parts) a (mutate-ready s.table.schema x i old new upto count mcount (Follows.stands (Each-at (Follows s) s.replicas x w.follow t.is.at.is_in)) t.waits d t.at, tt) l)
-lacks-source s k i x (entries.Mutation id numbers command) a w h d t l = absurd l
-lacks-source s k i x (entries.DropRange p n) a w h d t l = absurd l
+lacks-source : (s : Cluster) (k i : ℕ) (h : HasDone s k i) (e : Entry) (a : Name) → IsWhole s → WaitsAt s k i h.replica e → LacksPart s k h.replica e a → (l : LacksSource s k a (source_of e)) × (l.place ≡ i)
+lacks-source s k i h (entries.Get p n digest source need) a w t l = (
+  record {
+    place = i;
+    partition = p;
+    number = n;
+    need = need;
+    digest = digest;
+    before = h;
+    waits = t;
+    lacks = l;
+    down =
+        let has = (w.committed i p n source need digest (subst (λ (z : List Entry). entry_at z i ≡ Some (entries.Get p n digest source need)) h.whole t.at)).1 in
+        source-down s source has.replica w (record { is_in = has.is_in; number = has.numbered })
+        (λ up. held-nowhere s k h.replica p n digest t.is.at.number l.1 l.2 (get-ready s h.replica i p n source need digest w t.is.at.is_in h.whole t.waits t.at up));
+  },
+  refl,
+)
+lacks-source s k i h (entries.Merge new sources count) a w t l =
+    absurd (no-first sources (names_of h.replica.parts) a (merge-ready s.table.schema h.replica i new sources count (Follows.stands (Each-at (Follows s) s.replicas h.replica w.follow t.is.at.is_in)) t.waits h.done t.at) l)
+lacks-source s k i h (entries.Mutate old new upto count mcount) a w t l =
+    absurd (no-first (old ∷ []) (names_of h.replica.parts) a (mutate-ready s.table.schema h.replica i old new upto count mcount (Follows.stands (Each-at (Follows s) s.replicas h.replica w.follow t.is.at.is_in)) t.waits h.done t.at, tt) l)
+lacks-source s k i h (entries.Mutation id numbers command) a w t l = absurd l
+lacks-source s k i h (entries.DropRange p n) a w t l = absurd l
 
 -- the same once the event is stored
 lacks-stored : (s : Cluster) (k : ℕ) (a : Name) (source : ℕ) (events : List (Event × Reply)) → LacksSource s k a source → LacksSource (record s { events = events }) k a source
-lacks-stored s k a source events l = record {
-  replica = l.replica;
-  whole = l.whole;
-  place = l.place;
-  partition = l.partition;
-  number = l.number;
-  need = l.need;
-  digest = l.digest;
-  waits = record { is = record { at = record { is_in = l.waits.is.at.is_in; number = l.waits.is.at.number }; up = l.waits.is.up }; waits = l.waits.waits; at = l.waits.at };
-  lacks = (l.lacks.0, l.lacks.1, λ y o. l.lacks.2 y (record { is_in = o.is_in; up = o.up; other = o.other }));
-  down = record { replica = l.down.replica; at = record { is_in = l.down.at.is_in; number = l.down.at.number }; down = l.down.down };
-}
+lacks-stored s k a source events l =
+    let h = l.before in record {
+      place = l.place;
+      partition = l.partition;
+      number = l.number;
+      need = l.need;
+      digest = l.digest;
+      before = record { replica = h.replica; is = record { at = record { is_in = h.is.at.is_in; number = h.is.at.number }; up = h.is.up }; whole = h.whole; done = h.done };
+      waits = record { is = record { at = record { is_in = l.waits.is.at.is_in; number = l.waits.is.at.number }; up = l.waits.is.up }; waits = l.waits.waits; at = l.waits.at };
+      lacks = (l.lacks.0, l.lacks.1, λ y o. l.lacks.2 y (record { is_in = o.is_in; up = o.up; other = o.other }));
+      down = record { replica = l.down.replica; at = record { is_in = l.down.at.is_in; number = l.down.at.number }; down = l.down.down };
+    }
 
-pub apply-lacks : (s t : Cluster) (k i : ℕ) (x : Replica) (reply : Reply) (a : Name) (source : ℕ) → IsWhole s → IsNumbered s k x → x.fetches ≡ true → HasDone s k i → i < length s.table.log → Step s (ev.Apply k i) reply t → missing reply ≡ Some a
-    → ((e : Entry) → entry_at x.log i ≡ Some e → source ≡ source_of e) → Syncs s k t × LacksSource t k a source
+apply-lacks : (s t : Cluster) (k i : ℕ) (x : Replica) (reply : Reply) (a : Name) (source : ℕ) → IsWhole s → IsNumbered s k x → x.fetches ≡ true → HasDone s k i → i < length s.table.log → Step s (ev.Apply k i) reply t → missing reply ≡ Some a
+    → ((e : Entry) → entry_at x.log i ≡ Some e → source ≡ source_of e) → CantDo s k i a source t
+unfolding lacks-stored lacks-source
 apply-lacks s t k i x reply a source w n f h l g m told = go g.does
   where
     one-name : (b c : Name) → ◌≡◌ {A = Option Name} (Some b) (Some c) → b ≡ c
     one-name b c e = cc
 
-    go : Applies s k i reply g.after ⊎ Declines s (NoApply s k i) reply g.after → Syncs s k t × LacksSource t k a source
+    go : Applies s k i reply g.after ⊎ Declines s (NoApply s k i) reply g.after → CantDo s k i a source t
     go (inl c) = absurd (let q = sym m ∙ ap missing c.answer in cc)
     go (inr d) =
         let u = h.is in
         let p = one-up s k x h.replica w n u.at in
         let c = apply-cause s k i h.replica d.why w u (subst (λ (z : List Entry). i < length z) (sym h.whole) l) (ap (λ (z : Replica). z.fetches) (sym p) ∙ f) d.cause in
         let b : c.0 ≡ a = one-name c.0 a (sym (ap missing (d.answer ∙ ap rp.Refused c.1)) ∙ m) in
-        let k1 = lacks-source s k i h.replica c.2 c.0 w h.whole h.done c.3 c.4 in
+        let k1 = lacks-source s k i h c.2 c.0 w c.3 c.4 in
         let o : source_of c.2 ≡ source = sym (told c.2 (subst (λ (z : Replica). entry_at z.log i ≡ Some c.2) (sym p) (WaitsAt.at c.3))) in
-        let z : t ≡ record s { events = (ev.Apply k i, reply) ∷ g.after.events } = g.stored ∙ ap (λ (v : Cluster). record v { events = (ev.Apply k i, reply) ∷ g.after.events }) d.unchanged in (
-          syncs-one s t k (ev.Apply k i) reply refl g,
-          subst (λ (v : Cluster). LacksSource v k a source) (sym z) (lacks-stored s k a source _ (subst (LacksSource s k a) o (subst (λ (v : Name). LacksSource s k v (source_of c.2)) b k1))),
-        )
+        let z : t ≡ record s { events = (ev.Apply k i, reply) ∷ g.after.events } = g.stored ∙ ap (λ (v : Cluster). record v { events = (ev.Apply k i, reply) ∷ g.after.events }) d.unchanged in
+        let lost = subst (λ (v : Cluster). (y : LacksSource v k a source) × (y.place ≡ i)) (sym z)
+        (subst (λ (v : ℕ). (y : LacksSource (record s { events = (ev.Apply k i, reply) ∷ g.after.events }) k a v) × (y.place ≡ i)) o
+        (subst (λ (v : Name). (y : LacksSource (record s { events = (ev.Apply k i, reply) ∷ g.after.events }) k v (source_of c.2)) × (y.place ≡ i)) b
+        (lacks-stored s k c.0 (source_of c.2) ((ev.Apply k i, reply) ∷ g.after.events) k1.0, k1.1))) in
+        record { reply = reply; step = g; source_lost = lost.0; there = lost.1 }
 
 -- ---- told by the step's call
 
-pub pulled-told : (s t : Cluster) (k : ℕ) (q : Result Reply AllocError) (b : Bool) → is_err q ≡ false → IfOk q (λ reply. Step s (ev.Pull k) reply t) → MatchResult q (λ r. b ≡ pulled r) (λ e. b ≡ false) → b ≡ true → Syncs s k t × HasDone t k 0
-pulled-told s t k (Ok reply) b e g m h = pull-done s t k reply g (sym m ∙ h)
-pulled-told s t k (Err z) b e g m h = absurd (cc)
+pub pulled-told : (s t : Cluster) (k : ℕ) (q : Result Reply AllocError) (b : Bool) → IsWhole s → is_err q ≡ false → IfOk q (λ reply. Step s (ev.Pull k) reply t) → MatchResult q (λ r. b ≡ pulled r) (λ e. b ≡ false) → b ≡ true → PullsAll s k t
+pulled-told s t k (Ok reply) b w e g m h = pull-done s t k reply w g (sym m ∙ h)
+pulled-told s t k (Err z) b w e g m h = absurd (cc)
 
-pub down-told : (s t : Cluster) (k : ℕ) (q : Result Reply AllocError) (b : Bool) → is_err q ≡ false → IfOk q (λ reply. Step s (ev.Pull k) reply t) → MatchResult q (λ r. b ≡ pulled r) (λ e. b ≡ false) → b ≡ false → Syncs s k t × IsDown s k
+pub down-told : (s t : Cluster) (k : ℕ) (q : Result Reply AllocError) (b : Bool) → is_err q ≡ false → IfOk q (λ reply. Step s (ev.Pull k) reply t) → MatchResult q (λ r. b ≡ pulled r) (λ e. b ≡ false) → b ≡ false → IsRefused s k t
 down-told s t k (Ok reply) b e g m h = pull-down s t k reply g (sym m ∙ h)
 down-told s t k (Err z) b e g m h = absurd (cc)
 
 pub done-told : (s t : Cluster) (k i : ℕ) (x : Replica) (q : Result Reply AllocError) (o : Option Name) → is_err q ≡ false → IfOk q (λ reply. Step s (ev.Apply k i) reply t) → MatchResult q (λ r. o ≡ missing r) (λ e. o ≡ None) → o ≡ None
-    → IsWhole s → IsNumbered s k x → x.fetches ≡ true → HasDone s k i → i < length s.table.log → Syncs s k t × HasDone t k (i + 1)
+    → IsWhole s → IsNumbered s k x → x.fetches ≡ true → HasDone s k i → i < length s.table.log → DoesEntry s k i t
 done-told s t k i x (Ok reply) o e g m h w n f d l = apply-done s t k i x reply w n f d l g (sym m ∙ h)
 done-told s t k i x (Err z) o e g m h w n f d l = absurd (cc)
 
 pub lacks-told : (s t : Cluster) (k i source : ℕ) (x : Replica) (q : Result Reply AllocError) (o : Option Name) (a : Name) → is_err q ≡ false → IfOk q (λ reply. Step s (ev.Apply k i) reply t) → MatchResult q (λ r. o ≡ missing r) (λ e. o ≡ None) → o ≡ Some a
-    → IsWhole s → IsNumbered s k x → x.fetches ≡ true → HasDone s k i → i < length s.table.log → ((e : Entry) → entry_at x.log i ≡ Some e → source ≡ source_of e) → Syncs s k t × LacksSource t k a source
+    → IsWhole s → IsNumbered s k x → x.fetches ≡ true → HasDone s k i → i < length s.table.log → ((e : Entry) → entry_at x.log i ≡ Some e → source ≡ source_of e) → CantDo s k i a source t
 lacks-told s t k i source x (Ok reply) o a e g m h w n f d l told = apply-lacks s t k i x reply a source w n f d l g (sym m ∙ h) told
 lacks-told s t k i source x (Err z) o a e g m h w n f d l told = absurd (cc)
 
@@ -315,6 +337,7 @@ passed-on s k from i x w n h p = record { replica = h.replica; is = h.is; whole 
 
 -- the next entry of a replica, where those below the greater of two places are done
 pub next-entry : (s : Cluster) (k from first : ℕ) (x : Replica) (o : Option ℕ) → IsWhole s → IsNumbered s k x → HasDone s k from → ((j : ℕ) → j < first → done_at x.done j ≡ true) → IsNext x (max from first) o → IsNextEntry s k from o
+unfolding passed-on
 next-entry s k from first x None w n h f m =
     let q = ap (λ (z : Replica). length z.log) (one-up s k x h.replica w n (IsUp.at h.is)) in
     let e = ap length h.whole in
@@ -331,6 +354,7 @@ next-entry s k from first x (Some i) w n h f m = record {
   from_on = let a = m.from_on in grind (arith, a);
   within = let q = ap (λ (z : Replica). length z.log) (one-up s k x h.replica w n (IsUp.at h.is)) in let e = ap length h.whole in let l = m.within in omega (arith, l, q, e);
   done = passed-on s k from i x w n h (λ j a b. below j (grind arith) b);
+  pending = subst (λ (z : Replica). done_at z.done i ≡ false) (one-up s k x h.replica w n (IsUp.at h.is)) m.pending;
 }
   where
     below : (j : ℕ) → (j < first) ⊎ (first ≤ j) → j < i → done_at x.done j ≡ true
@@ -340,6 +364,11 @@ next-entry s k from first x (Some i) w n h f m = record {
         go : (j < from) ⊎ (from ≤ j) → j < i → done_at x.done j ≡ true
         go (inl d) l = subst (λ (z : Replica). done_at z.done j ≡ true) (sym (one-up s k x h.replica w n (IsUp.at h.is))) (h.done j d)
         go (inr d) l = m.passed j (grind arith) l
+
+-- where there is none, all is done
+pub next-none : (s : Cluster) (k from : ℕ) (o : Option ℕ) → ((i : ℕ) → o ≡ Some i → ⊥) → IsNextEntry s k from o → HasDone s k (length s.table.log)
+next-none s k from None f n = n
+next-none s k from (Some i) f n = absurd (f i refl)
 
 pub next-few : (s : Cluster) (k from : ℕ) (o : Option ℕ) → IsNextEntry s k from o → length s.table.log ≤ 65536 → IfSome o (λ i. i < 65536)
 next-few s k from None n l = tt
@@ -360,24 +389,181 @@ log-told s t k i (Err z) g e = e
 
 -- ---- the loop of a sync
 
--- the events so far, and what the replica has done
+-- the pull, the events so far, and what the replica has done: its marks from here on are as they were after the pull
 pub record IsSyncing (s : Cluster) (k from : ℕ) (t : Cluster) : Type 0 where
-  pub syncs : Syncs s k t
+  pub whole : IsWhole s
+  pub pulled : Cluster
+  pub reply : Reply
+  pub pulls : Step s (ev.Pull k) reply pulled
+  pub events : List (Event × Reply)
+  pub made : After pulled events t
+  pub applied : AreApplied pulled k from events
+  pub first : Replica
+  pub at : IsNumbered pulled k first
+  pub within : from ≤ length pulled.table.log
+  pub log : t.table.log ≡ pulled.table.log
   pub done : HasDone t k from
+  pub kept : (y : Replica) → IsNumbered t k y → (j : ℕ) → from ≤ j → done_at y.done j ≡ done_at first.done j
   pub schema : t.table.schema ≡ s.table.schema
   pub replicas : length t.replicas ≡ length s.replicas
 
+applied-below : (s : Cluster) (k a b : ℕ) (xs : List (Event × Reply)) → a ≤ b → AreApplied s k a xs → AreApplied s k b xs
+applied-below s k a b [] l f = tt
+applied-below s k a b ((ev.Allocate r block need, q) ∷ xs) l f = absurd f
+applied-below s k a b ((ev.Again id, q) ∷ xs) l f = absurd f
+applied-below s k a b ((ev.Stage id, q) ∷ xs) l f = absurd f
+applied-below s k a b ((ev.Commit id, q) ∷ xs) l f = absurd f
+applied-below s k a b ((ev.Abandon id, q) ∷ xs) l f = absurd f
+applied-below s k a b ((ev.Pull r, q) ∷ xs) l f = absurd f
+applied-below s k a b ((ev.Apply r i, q) ∷ xs) l f = (f.0, let m = f.1 in omega (arith, m, l), f.2, f.3)
+applied-below s k a b ((ev.Merge r sources, q) ∷ xs) l f = absurd f
+applied-below s k a b ((ev.Mutate r old upto, q) ∷ xs) l f = absurd f
+applied-below s k a b ((ev.CreateMutation command, q) ∷ xs) l f = absurd f
+applied-below s k a b ((ev.DropPartition p, q) ∷ xs) l f = absurd f
+applied-below s k a b ((ev.Kill r, q) ∷ xs) l f = absurd f
+applied-below s k a b ((ev.Restart r, q) ∷ xs) l f = absurd f
+applied-below s k a b ((ev.Fetches r allowed, q) ∷ xs) l f = absurd f
+
+pub syncing-begins : (s t : Cluster) (k : ℕ) → IsWhole s → PullsAll s k t → t.table.schema ≡ s.table.schema → length t.replicas ≡ length s.replicas → IsSyncing s k 0 t
+syncing-begins s t k w p m n = record {
+  whole = w;
+  pulled = t;
+  reply = p.reply;
+  pulls = p.pulls;
+  events = [];
+  made = refl;
+  applied = tt;
+  first = p.done.replica;
+  at = p.done.is.at;
+  within = omega arith;
+  log = refl;
+  done = p.done;
+  kept = λ y at j l. ap (λ (z : Replica). done_at z.done j) (one-up t k y p.done.replica p.whole at p.done.is.at);
+  schema = m;
+  replicas = n;
+}
+
+-- a sync whose last event was of the entry at a place
+syncs-to : (s t u : Cluster) (k from i : ℕ) (reply : Reply) → (f : IsSyncing s k from t) → IsNextDone t k from i → Step t (ev.Apply k i) reply u → (y : Syncs s k u) × IsPendingAt y.pulled k i × AreApplied f.pulled k (i + 1) ((ev.Apply k i, reply) ∷ f.events)
+syncs-to s t u k from i reply f d g =
+    let pending : IsPendingAt f.pulled k i = record { replica = f.first; at = f.at; pending = sym (f.kept d.done.replica d.done.is.at i d.from_on) ∙ d.pending } in
+    let earlier = applied-below f.pulled k from i f.events d.from_on f.applied in
+    let l : i < length f.pulled.table.log = let e = ap length f.log in let m = d.within in omega (arith, e, m) in (
+      record {
+        pulled = f.pulled;
+        reply = f.reply;
+        pulls = f.pulls;
+        events = (ev.Apply k i, reply) ∷ f.events;
+        made = (t, f.made, g);
+        applied = (refl, l, pending, earlier);
+      },
+      pending,
+      (refl, omega arith, pending, earlier),
+    )
+
+-- so far
+syncs-now : (s t : Cluster) (k from : ℕ) → IsSyncing s k from t → Syncs s k t
+syncs-now s t k from f = record { pulled = f.pulled; reply = f.reply; pulls = f.pulls; events = f.events; made = f.made; applied = applied-below f.pulled k from (length f.pulled.table.log) f.events f.within f.applied }
+
+-- a sync that did all
+pub sync-done : (s t : Cluster) (k from : ℕ) → IsSyncing s k from t → HasDone t k (length t.table.log) → Syncs s k t × HasDone t k (length t.table.log)
+sync-done s t k from f d = (syncs-now s t k from f, d)
+
 -- a sync that stopped at an entry
-pub sync-stopped : (s t u : Cluster) (k i : ℕ) (e : SyncError) → Syncs s k t → DoesNext t k i (Err e) u → SyncsTo s k (Err e) u
-sync-stopped s t u k i errors.ReplicaDown f d = absurd d
-sync-stopped s t u k i (errors.NoSource part source) f d = (syncs-on s t u k f d.0, d.1)
-sync-stopped s t u k i errors.Memory f d = (t, ev.Apply k i, f, refl, d)
+pub sync-stopped : (s t u : Cluster) (k from i : ℕ) (e : SyncError) → IsSyncing s k from t → IsNextDone t k from i → DoesNext t k i (Err e) u → SyncsTo s k (Err e) u
+sync-stopped s t u k from i errors.ReplicaDown f n d = absurd d
+sync-stopped s t u k from i (errors.NoSource part source) f n d =
+    let y = syncs-to s t u k from i d.reply f n d.step in
+    record { syncs = y.0; source_lost = d.source_lost; pending = subst (λ j. IsPendingAt (y.0).pulled k j) (sym d.there) y.1 }
+sync-stopped s t u k from i errors.Memory f n d = inr (record { mid = t; entry = i; syncs = syncs-now s t k from f; stops = d })
 
 -- a sync that stopped at its pull
 pub pull-stopped : (s t : Cluster) (k : ℕ) (e : SyncError) → PullsFor s k (Err e) t → SyncsTo s k (Err e) t
 pull-stopped s t k errors.ReplicaDown d = d
 pull-stopped s t k (errors.NoSource part source) d = absurd d
-pull-stopped s t k errors.Memory d = (s, ev.Pull k, syncs-none s k, refl, d)
+pull-stopped s t k errors.Memory d = inl d
 
-pub syncing-on : (s t u : Cluster) (k from i : ℕ) → IsSyncing s k from t → Syncs t k u × HasDone u k (i + 1) → u.table.schema ≡ t.table.schema → length u.replicas ≡ length t.replicas → IsSyncing s k (i + 1) u
-syncing-on s t u k from i f d m n = record { syncs = syncs-on s t u k f.syncs d.0; done = d.1; schema = m ∙ f.schema; replicas = n ∙ f.replicas }
+pub syncing-on : (s t u : Cluster) (k from i : ℕ) → IsSyncing s k from t → IsNextDone t k from i → DoesEntry t k i u → u.table.log ≡ t.table.log → u.table.schema ≡ t.table.schema → length u.replicas ≡ length t.replicas → IsSyncing s k (i + 1) u
+syncing-on s t u k from i f n d g m l =
+    let y = syncs-to s t u k from i d.reply f n d.step in record {
+      whole = f.whole;
+      pulled = f.pulled;
+      reply = f.reply;
+      pulls = f.pulls;
+      events = (ev.Apply k i, d.reply) ∷ f.events;
+      made = (t, f.made, d.step);
+      applied = y.2;
+      first = f.first;
+      at = f.at;
+      within = let e = ap length f.log in let b = n.within in omega (arith, e, b);
+      log = g ∙ f.log;
+      done = d.done;
+      kept = λ z at j b. d.later n.done.replica z n.done.is.at at j (omega (arith, b)) ∙ f.kept n.done.replica n.done.is.at j (let c = n.from_on in omega (arith, b, c));
+      schema = m ∙ f.schema;
+      replicas = l ∙ f.replicas;
+    }
+
+-- ---- a sync that can't fail
+
+-- one replica that is up changed, and is up: who is down was so before
+down-at : (s u : Cluster) (k m : ℕ) (y : Replica) → u.replicas ≡ with_replica s.replicas k y → y.up ≡ true → IsDown u m → IsDown s m
+down-at s u k m y e up d = elim (has-with s.replicas k y d.replica (subst (λ (xs : List Replica). Has xs d.replica) e d.at.is_in)) [
+  | inl q ↦ absurd (let a = ap (λ (z : Replica). z.up) q in let b = d.down in cc)
+  | inr h ↦ record { replica = d.replica; at = record { is_in = h; number = d.at.number }; down = d.down }
+]
+
+down-same : (s u : Cluster) (m : ℕ) → u.replicas ≡ s.replicas → IsDown u m → IsDown s m
+down-same s u m e d = record { replica = d.replica; at = record { is_in = subst (λ (xs : List Replica). Has xs d.replica) e d.at.is_in; number = d.at.number }; down = d.down }
+
+pull-downs : (s u : Cluster) (k m : ℕ) (reply : Reply) → Step s (ev.Pull k) reply u → IsDown u m → IsDown s m
+pull-downs s u k m reply g d = go g.does
+  where
+    go : PullsLog s k reply g.after ⊎ Declines s (NoPull s k) reply g.after → IsDown s m
+    go (inl p) = down-at s u k m p.at.new (ap (λ (z : Cluster). z.replicas) g.stored ∙ ap (λ (z : Cluster). z.replicas) p.at.change) (ap (λ (z : Replica). z.up) p.at.does ∙ p.at.up) d
+    go (inr p) = down-same s u m (ap (λ (z : Cluster). z.replicas) g.stored ∙ ap (λ (z : Cluster). z.replicas) p.unchanged) d
+
+apply-downs : (s u : Cluster) (k i m : ℕ) (reply : Reply) → Step s (ev.Apply k i) reply u → IsDown u m → IsDown s m
+apply-downs s u k i m reply g d = go g.does
+  where
+    go : Applies s k i reply g.after ⊎ Declines s (NoApply s k i) reply g.after → IsDown s m
+    go (inl p) = down-at s u k m p.at.new (ap (λ (z : Cluster). z.replicas) g.stored ∙ ap (λ (z : Cluster). z.replicas) p.at.change) (IsMarked.up (marked s i p.comes p.at.old p.at.new p.at.does.1) ∙ p.at.up) d
+    go (inr p) = down-same s u m (ap (λ (z : Cluster). z.replicas) g.stored ∙ ap (λ (z : Cluster). z.replicas) p.unchanged) d
+
+-- entries that were looked at leave the log, and who is down was so before
+after-applied : (s u : Cluster) (k below m : ℕ) (xs : List (Event × Reply)) (p : Cluster) → After s xs u → AreApplied p k below xs → (u.table.log ≡ s.table.log) × (IsDown u m → IsDown s m)
+after-applied s u k below m [] p a f = (ap (λ (z : Cluster). z.table.log) a, λ d. subst (λ (z : Cluster). IsDown z m) a d)
+after-applied s u k below m ((ev.Apply r i, reply) ∷ xs) p a f =
+    let e = after-applied s a.0 k i m xs p a.1 f.3 in
+    (applied-log a.0 u r i reply a.2 ∙ e.0, λ d. e.1 (apply-downs a.0 u r i m reply a.2 d))
+after-applied s u k below m ((ev.Allocate r block need, q) ∷ xs) p a f = absurd f
+after-applied s u k below m ((ev.Again id, q) ∷ xs) p a f = absurd f
+after-applied s u k below m ((ev.Stage id, q) ∷ xs) p a f = absurd f
+after-applied s u k below m ((ev.Commit id, q) ∷ xs) p a f = absurd f
+after-applied s u k below m ((ev.Abandon id, q) ∷ xs) p a f = absurd f
+after-applied s u k below m ((ev.Pull r, q) ∷ xs) p a f = absurd f
+after-applied s u k below m ((ev.Merge r sources, q) ∷ xs) p a f = absurd f
+after-applied s u k below m ((ev.Mutate r old upto, q) ∷ xs) p a f = absurd f
+after-applied s u k below m ((ev.CreateMutation command, q) ∷ xs) p a f = absurd f
+after-applied s u k below m ((ev.DropPartition n, q) ∷ xs) p a f = absurd f
+after-applied s u k below m ((ev.Kill r, q) ∷ xs) p a f = absurd f
+after-applied s u k below m ((ev.Restart r, q) ∷ xs) p a f = absurd f
+after-applied s u k below m ((ev.Fetches r allowed, q) ∷ xs) p a f = absurd f
+
+pulled-log : (s u : Cluster) (k : ℕ) (reply : Reply) → Step s (ev.Pull k) reply u → u.table.log ≡ s.table.log
+pulled-log s u k reply g = ap (λ (z : Cluster). z.table.log) g.stored ∙ go g.does
+  where
+    go : PullsLog s k reply g.after ⊎ Declines s (NoPull s k) reply g.after → g.after.table.log ≡ s.table.log
+    go (inl p) = ap (λ (z : Cluster). z.table.log) p.at.change
+    go (inr p) = ap (λ (z : Cluster). z.table.log) p.unchanged
+
+-- a replica that is up lacks no part where all sources are up
+pub none-lost : (s t : Cluster) (k : ℕ) (e : SyncError) → IsWhole s → SyncsTo s k (Err e) t → (x : Replica) → IsUp s k x → SourcesAreUp s → IsDoneOrStopped (Err e)
+none-lost s t k errors.ReplicaDown w d x u f = absurd (up-not-down s k x w u d.down)
+none-lost s t k (errors.NoSource part source) w d x u f =
+    let y = d.syncs in
+    let l = d.source_lost in
+    let a = after-applied y.pulled t k (length y.pulled.table.log) source y.events y.pulled y.made y.applied in
+    let e = l.before.whole ∙ (a.0 ∙ pulled-log s y.pulled k y.reply y.pulls) in
+    f l.place l.partition l.number source l.need l.digest (subst (λ (z : List Entry). entry_at z l.place ≡ Some (entries.Get l.partition l.number l.digest source l.need)) e l.waits.at)
+    (pull-downs s y.pulled k source y.reply y.pulls (a.1 l.down))
+none-lost s t k errors.Memory w d x u f = tt

@@ -1,3 +1,4 @@
+pub use Rattle.rmt_format.specs.PartBytes
 pub use Rattle.rmt_events.specs.Steps
 pub use Rattle.rmt_events.specs.Draws
 pub use Rattle.rmt_table.specs.TableTrees

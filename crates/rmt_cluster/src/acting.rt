@@ -1,5 +1,6 @@
 //! What an event does, apart from being stored.
 ghost use Rattle.std.specs.Prelude.{◌≡◌, ◌+◌, ◌<◌, ◌^◌, IfOk, OnErr};
+ghost use Rattle.rmt_supply.specs.PartSources.{AreSmall};
 ghost use Rattle.rmt_cluster.specs.Acting.{ActsWith, KeepsAccepted, SuitAttempts};
 ghost use Rattle.rmt_cluster.specs.Clusters.{MayAct, AfterError};
 
@@ -20,6 +21,7 @@ pub(crate) fn act(
     requires may { MayAct state.old event.now }
     requires suit { SuitAttempts state.old attempts.old }
     requires accepted { KeepsAccepted state.old }
+    requires small { AreSmall state.old.replicas }
     requires few { attempts.old.made + 1 < 2 ^ 32 }
     ensures ok { IfOk result (λ reply. ActsWith state.old attempts.old event.now reply state.new attempts.new) }
     ensures err { OnErr result (AfterError state.old attempts.old event.now state.new attempts.new) }

@@ -1,4 +1,5 @@
 ghost use Rattle.std.specs.Prelude.{◌≡◌, ◌≤◌, length};
+ghost use Rattle.rmt_values.specs.Schemas.{IsSchema};
 ghost use Rattle.rmt_cluster.specs.States.{IsState};
 ghost use Rattle.rmt_cluster.specs.Clusters.{numbers_given};
 
@@ -53,13 +54,16 @@ impl State {
         &self.replicas
     }
 
-    /// Tells what always holds of it: its replicas are those of its table, and the table's partitions have given no more
-    /// numbers than their limits allow. It does nothing.
+    /// Tells what always holds of it: its replicas are those of its table, the table's partitions have given no more numbers
+    /// than their limits allow, and its schema is one. It does nothing.
     pub(crate) fn sound(&self)
         ensures state { IsState self.now }
         ensures numbers { numbers_given self.now.tree.next ≤ 67108864 }
         ensures few { length self.now.tree.log ≤ 65536 }
+        ensures schema { IsSchema self.now.tree.schema }
     {
         self.tree.no_limit_is_passed();
+        // What the type of a schema keeps is known where its columns are read.
+        let _columns = self.tree.schema().columns();
     }
 }

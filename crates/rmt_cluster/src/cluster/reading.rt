@@ -1,6 +1,8 @@
 //! What a query reads at a replica.
 ghost use Rattle.std.specs.Prelude.{◌≡◌, ◌↔◌, IfOk, length};
+ghost use Rattle.std.specs.List.{All};
 ghost use Rattle.std.specs.declared.result.Result.TheVariants.{Err};
+ghost use Rattle.rmt_format.specs.PartBytes.{HasPartBytes};
 ghost use Rattle.rmt_replica.specs.declared.replica_error.ReplicaError.TheVariants as errors;
 ghost use Rattle.rmt_events.specs.Views.{Replica};
 ghost use Rattle.rmt_events.specs.ClusterChanges.{IsNumbered, IsDown};
@@ -24,6 +26,7 @@ impl Cluster {
         requires here { IsNumber replica (length self.now.replicas) }
         ensures ok { IfOk result (λ read. (x : Replica) → IsNumbered self.now replica x
             → read ≡ parts_read self.now.table.schema x.parts) }
+        ensures bytes { IfOk result (All (λ part. HasPartBytes self.now.table.schema part.rows)) }
         ensures down { (result ≡ Err errors.Down) ↔ IsDown self.now replica }
     {
         self.state.sound();

@@ -3,9 +3,12 @@ ghost use Rattle.std.specs.Prelude.{◌≡◌, ◌<◌, false, length, IfSome, M
 ghost use Rattle.std.specs.declared.option.Option.TheVariants.{Some, None};
 ghost use Rattle.rmt_entries.specs.declared.entry.Entry.{Entry as Source};
 ghost use Rattle.rmt_model.specs.Lawful.{entry_at};
+ghost use Rattle.rmt_events.specs.Views.{Replica as Worker};
+ghost use Rattle.rmt_events.specs.ClusterChanges.{IsUp};
+ghost use Rattle.rmt_events.specs.Whole.{IsWhole};
 ghost use Rattle.rmt_replica_view.specs.Shown.{shown};
 ghost use Rattle.rmt_cluster.specs.Clusters.{IsNumber};
-ghost use Rattle.rmt_cluster.specs.Syncs.{SyncsTo, HasDone, PullsFor, DoesNext, IsNext, IsNextEntry, missing, pulled, source_of as source_told};
+ghost use Rattle.rmt_cluster.specs.Syncs.{SyncsTo, SourcesAreUp, IsDoneOrStopped, HasDone, PullsFor, DoesNext, IsNext, IsNextEntry, missing, pulled, source_of as source_told};
 
 use crate::cluster::Cluster;
 use crate::sync_error::SyncError;
@@ -68,6 +71,7 @@ impl Cluster {
     fn pull_all(&mut self, alloc: Global, replica: ReplicaId) -> Result<(), SyncError>
         requires here { IsNumber replica (length self.old.replicas) }
         ensures pulls { PullsFor self.old replica result self.new }
+        ensures whole { IsWhole self.old }
         ensures schema { self.new.table.schema ≡ self.old.table.schema }
         ensures replicas { length self.new.replicas ≡ length self.old.replicas }
     {
@@ -122,10 +126,14 @@ impl Cluster {
 
     /// Brings a replica to the whole log: it pulls, and does every entry that isn't done, in order.
     ///
-    /// At an error what was done so far stays. Out of memory in the midst of a pull, some of the log was pulled.
+    /// # Errors
+    ///
+    /// What was done so far stays. At NoSource restart the replica that is named, and sync again. Out of memory in the midst of
+    /// a pull, some of the log was pulled.
     pub fn sync(&mut self, alloc: Global, replica: ReplicaId) -> Result<(), SyncError>
         requires here { IsNumber replica (length self.old.replicas) }
         ensures syncs { SyncsTo self.old replica result self.new }
+        ensures complete { (x : Worker) → IsUp self.old replica x → SourcesAreUp self.old → IsDoneOrStopped result }
         ensures schema { self.new.table.schema ≡ self.old.table.schema }
         ensures replicas { length self.new.replicas ≡ length self.old.replicas }
     {

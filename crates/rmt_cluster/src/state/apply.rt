@@ -2,6 +2,7 @@
 ghost use Rattle.std.specs.Prelude.{◌≡◌, IfOk, OnErr};
 ghost use Rattle.rmt_events.specs.declared.event.Event.TheVariants as ev;
 ghost use Rattle.rmt_table.specs.TableTrees.{IsReplica};
+ghost use Rattle.rmt_supply.specs.PartSources.{AreSmall};
 ghost use Rattle.rmt_cluster.specs.Acting.{KeepsAccepted};
 ghost use Rattle.rmt_cluster.specs.States.{Acts};
 
@@ -24,6 +25,7 @@ impl State {
     ) -> Result<Reply, AllocError>
         requires here { IsReplica self.old.tree replica }
         requires accepted { KeepsAccepted self.old }
+        requires small { AreSmall self.old.replicas }
         ensures ok { IfOk result (λ reply. Acts self.old (ev.Apply replica entry) reply self.new) }
         ensures err { OnErr result (self.new ≡ self.old) }
     {

@@ -7,6 +7,7 @@ use Rattle.rmt_cluster.specs.States.{cluster_of}
 use Rattle.rmt_cluster.specs.Clusters.{IsCluster, MayStep, Stops}
 use Rattle.rmt_cluster.proofs.StateLemmas.{at-err}
 use Rattle.rmt_cluster.proofs.AcceptedLemmas.{keeps-accepted}
+use Rattle.rmt_cluster.proofs.PartSizes.{are-small}
 use Rattle.rmt_cluster.proofs.ClusterLemmas.{may-act, suits, stepped, stopped, stops, rests, as-many, schema-stays, stored-last}
 use Rattle.rmt_cluster.proofs.cluster.Cluster.step.Goals as goal
 
@@ -24,6 +25,11 @@ pub act-requires-clause-accepted : goal.act-requires-clause-accepted
 act-requires-clause-accepted c =
     let i = c.self.inside in
     keeps-accepted i.state i.attempts (reverse i.events.items) c.self.invariant
+
+pub act-requires-clause-small : goal.act-requires-clause-small
+act-requires-clause-small c =
+    let i = c.self.inside in
+    are-small i.state i.attempts (reverse i.events.items) c.self.invariant c.sound.ensures.schema
 
 pub invariant_of-self-in_err-reply : goal.invariant_of-self-in_err-reply
 invariant_of-self-in_err-reply c =

@@ -8,7 +8,7 @@ use Rattle.rmt_replica.specs.Replicas.{ReplicaView, IsStandingReplica}
 use Rattle.rmt_events.specs.declared.event.Event.TheVariants as ev
 use Rattle.rmt_events.specs.declared.reply.Reply.TheVariants as rp
 use Rattle.rmt_events.specs.declared.step_refused.StepRefused.TheVariants as rf
-use Rattle.rmt_supply.specs.PartSources.{AreOfOneTable}
+use Rattle.rmt_supply.specs.PartSources.{AreOfOneTable, AreSmall}
 use Rattle.rmt_supply.proofs.SearchLemmas.{at-one}
 use Rattle.rmt_cluster.specs.States.{StateView, Belongs, Acts}
 use Rattle.rmt_cluster.specs.Acting.{KeepsAccepted}
@@ -47,6 +47,10 @@ find-requires-clause-table c =
     let s : StateView = record { tree = i.tree; replicas = i.replicas.items } in
     subst (λ (rs : List ReplicaView). AreOfOneTable rs c.args.entry) (sym c.deref.ensures.value)
     (one-table s c.args.entry c.self.invariant (subst KeepsAccepted (sym c.self.view_is) c.requires.accepted))
+
+pub find-requires-clause-small : goal.find-requires-clause-small
+find-requires-clause-small c =
+    subst AreSmall (sym c.deref.ensures.value) (subst (λ (v : StateView). AreSmall v.replicas) (sym c.self.view_is) c.requires.small)
 
 pub find-requires-clause-place : goal.find-requires-clause-place
 find-requires-clause-place c =

@@ -1,4 +1,5 @@
-use Rattle.std.proofs.Common.{◌≤◌, arith, subst}
+use Rattle.std.proofs.Common.{◌≤◌, ◌∙◌, arith, subst}
+use Rattle.rmt_values.specs.Schemas.{IsSchema}
 use Rattle.rmt_cluster.specs.States.{StateView, IsState}
 use Rattle.rmt_cluster.specs.Clusters.{numbers_given}
 use Rattle.rmt_cluster.proofs.ClusterLemmas.{given-few}
@@ -13,3 +14,7 @@ returns-clause-numbers c =
     let g = given-few t.next c.no_limit_is_passed.ensures.numbers in
     let l = c.no_limit_is_passed.ensures.partitions in
     subst (λ (v : StateView). numbers_given v.tree.next ≤ 67108864) c.self.view_is (omega (arith, g, l))
+
+pub returns-clause-schema : goal.returns-clause-schema
+returns-clause-schema c =
+    subst (λ (v : StateView). IsSchema v.tree.schema) c.self.view_is (subst IsSchema (c.deref.ensures ∙ c.schema.ensures) c.columns-columns.ensures.schema)
