@@ -2,7 +2,7 @@
 use Rattle.std.proofs.Common.{◌≡◌, ℕ, List, [], ◌∷◌, ◌++◌, Option, Some, None, append_assoc, refl}
 use Rattle.std.specs.List.{flat_map}
 use Rattle.rmt_names.specs.Names.{Name}
-use Rattle.rmt_reply.specs.Printed.{cut_text, ended, inserted_text, optimized_line, optimized_text, piece_text, two}
+use Rattle.rmt_reply.specs.Printed.{check_line, checked_text, cut_text, ended, inserted_text, optimized_line, optimized_text, piece_text, two}
 use Rattle.rmt_reply.specs.declared.piece.Piece.{Piece}
 use Rattle.rmt_reply.specs.declared.piece.Piece.TheVariants as pieces
 use Rattle.rmt_reply.specs.declared.refusal.Refusal.{Refusal}
@@ -34,3 +34,8 @@ optimized-some [] None some = absurd (some refl refl)
 optimized-some [] (Some refusal) some = refl
 optimized-some (a ∷ all) None some = refl
 optimized-some (a ∷ all) (Some refusal) some = refl
+
+-- where there is a part, the lines of the parts are all
+pub checked-some : (all : List (Name × List ℕ)) → (all ≡ [] → ⊥) → checked_text all ≡ flat_map check_line all
+checked-some [] some = absurd (some refl)
+checked-some (d ∷ all) some = refl

@@ -6,6 +6,7 @@ use Rattle.std.specs.declared.option.Option.{Option}
 use Rattle.std.specs.declared.option.Option.TheVariants.{Some, None}
 use Rattle.std.specs.Fmt.{decimal, signed_decimal}
 use Rattle.csv.specs.Writing.{row_text, default_writer}
+use Rattle.hex.specs.Hex.{encode_lower}
 use Rattle.rmt_values.specs.declared.cell.Cell.{Cell}
 use Rattle.rmt_values.specs.declared.cell.Cell.TheVariants as cells
 use Rattle.rmt_values.specs.declared.limit.Limit.{Limit}
@@ -152,6 +153,15 @@ optimized_line a = ended (codes "optimized " ++ text_of a)
 abbrev pub optimized_text : List Name → Option Refusal → List ℕ
 optimized_text names refused = or_nothing (flat_map optimized_line names) refused
 
+-- a part's line of CHECK TABLE: its name, and the SHA-256 of its bytes in lower-case hexadecimal digits
+abbrev pub check_line : Name × List ℕ → List ℕ
+check_line d = ended (codes "check " ++ two (text_of d.0) (encode_lower d.1))
+
+-- the digests of parts, or the line `nothing` where there are none
+abbrev pub checked_text : List (Name × List ℕ) → List ℕ
+checked_text [] = ended (codes "nothing")
+checked_text (d ∷ digests) = flat_map check_line (d ∷ digests)
+
 -- a reply as it is printed
 abbrev pub printed : Line → List ℕ
 printed lines.Okay = ended (codes "ok")
@@ -165,6 +175,7 @@ printed (lines.Optimized names refused) = optimized_text names refused
 printed (lines.Done id) = ended (codes "done " ++ id_text id)
 printed (lines.Ran turns) = ended (codes "ran " ++ decimal turns)
 printed (lines.Parts names) = parts_text names
+printed (lines.Digests digests) = checked_text digests
 printed (lines.Refused refusal) = refused_text refusal
 
 -- replies, one after the other

@@ -1,6 +1,7 @@
 //! The replies of statements, and the bytes that they are printed as.
 #![tactic(auto)]
 
+mod checks;
 mod commands;
 mod counts;
 mod granules;

@@ -42,6 +42,8 @@ pub enum Line {
     Ran(u32),
     /// Names of parts.
     Parts(List<PartName>),
+    /// Parts, each with the SHA-256 of its bytes.
+    Digests(List<(PartName, [u8; 32])>),
     /// It was refused.
     Refused(Refusal),
 }

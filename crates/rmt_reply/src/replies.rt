@@ -3,6 +3,7 @@ ghost use Rattle.std.specs.Prelude.{◌≡◌, ◌++◌, IfOk, OnOk};
 ghost use Rattle.std.specs.List.{flat_map};
 ghost use Rattle.rmt_reply.specs.Printed.{answer_text, inserted_text, or_nothing, parts_text, piece_text, printed, printed_all};
 
+use crate::checks::push_digests;
 use crate::commands::{push_cut, push_dropped, push_mutation, push_optimized, push_ran};
 use crate::counts::push_counted_granules;
 use crate::line::Line;
@@ -104,6 +105,7 @@ fn push_line(alloc: Global, out: &mut Vec<u8>, line: &Line) -> Result<(), AllocE
         Line::Done(id) => push_mutation(alloc, out, b"done ", *id)?,
         Line::Ran(turns) => push_ran(alloc, out, *turns)?,
         Line::Parts(names) => push_names_line(alloc, out, names)?,
+        Line::Digests(digests) => push_digests(alloc, out, digests)?,
         Line::Refused(cause) => push_refused(alloc, out, cause)?,
     }
     Ok(())
