@@ -1,5 +1,5 @@
 -- What turns, mutations and drops come to, from what their events come to.
-use Rattle.std.proofs.Common.{◌≡◌, ℕ, ◌+◌, ◌<◌, inl, inr, ◌∙◌, List, ◌∷◌, length, refl, ap, subst, sym}
+use Rattle.std.proofs.Common.{◌≡◌, ℕ, ◌+◌, ◌<◌, inl, inr, ◌∙◌, List, ◌∷◌, length, refl, ap, subst, sym, true}
 use Rattle.std.specs.Prelude.{OnOk}
 use Rattle.std.specs.declared.option.Option.{Option}
 use Rattle.std.specs.declared.option.Option.TheVariants.{Some}
@@ -23,9 +23,8 @@ use Rattle.rmt_events.specs.declared.reply.Reply.TheVariants as rp
 use Rattle.rmt_events.proofs.WholeSteps.{whole-step}
 use Rattle.rmt_statement_model.specs.TableStates.{TableState, learned}
 use Rattle.rmt_statement_model.specs.Drops.{with_drop}
-use Rattle.rmt_statement_model.specs.Shows.{AllUp, IsIdle, Shows, Leads}
+use Rattle.rmt_statement_model.specs.Shows.{Shows, Leads, ups}
 use Rattle.rmt_statement_model.proofs.UpLaws.{up-step}
-use Rattle.rmt_statement_model.proofs.LockSteps.{none-held}
 use Rattle.rmt_statement_model.proofs.AttemptSteps.{HasWholeLog, IsApplied, quiet-shows, pulled, applied-shows}
 use Rattle.rmt_statement_model.proofs.DropEntries.{next-shown, newest, newest-place, drop-shows}
 use Rattle.rmt_statement_model.proofs.DropRows.{drop-applied, dropped-at, drop-nothing-row}
@@ -39,7 +38,7 @@ on-ok (Err e) P Q f p = p
 -- ---- Pull and Apply
 
 -- the replica has the whole log after a Pull
-pull-whole : (s m : Cluster) (r : ℕ) (reply : Reply) → IsWhole s → AllUp s → HasReplica s.replicas r → Step s (ev.Pull r) reply m → HasWholeLog m r
+pull-whole : (s m : Cluster) (r : ℕ) (reply : Reply) → IsWhole s → ups s r ≡ true → HasReplica s.replicas r → Step s (ev.Pull r) reply m → HasWholeLog m r
 pull-whole s m r reply w up h k = (pulled s m r h.replica reply w up (record { is_in = h.is_in; number = h.numbered }) k).1
 
 -- a Pull leaves the log of the table
@@ -51,7 +50,7 @@ pull-log s m r reply k = go k.does
     go (inr d) = ap (λ (x : Cluster). x.table.log) k.stored ∙ ap (λ (x : Cluster). x.table.log) d.unchanged
 
 -- the copy of the replica is the log of the table
-pub copy-log : (s m : Cluster) (r : ℕ) (reply : Reply) (log : List Entry) → IsWhole s → AllUp s → HasReplica s.replicas r → Step s (ev.Pull r) reply m → ((x : Replica) → IsNumbered m r x → log ≡ x.log) → log ≡ s.table.log
+pub copy-log : (s m : Cluster) (r : ℕ) (reply : Reply) (log : List Entry) → IsWhole s → ups s r ≡ true → HasReplica s.replicas r → Step s (ev.Pull r) reply m → ((x : Replica) → IsNumbered m r x → log ≡ x.log) → log ≡ s.table.log
 copy-log s m r reply log w up h k f = let l = pull-whole s m r reply w up h k in f l.replica l.at ∙ (l.whole ∙ pull-log s m r reply k)
 
 -- an answer that tells that an entry was looked at
@@ -60,22 +59,16 @@ unapplied (rp.Applied comes) a f = f comes refl
 unapplied answer a f = a
 
 -- a drop that is in the log is looked at
-pub drop-answers : (s m u : Cluster) (r place : ℕ) (reply answer : Reply) → IsWhole s → AllUp s → HasReplica s.replicas r → HasDrop s place → Step s (ev.Pull r) reply m → Step m (ev.Apply r place) answer u → IsApplied answer
+pub drop-answers : (s m u : Cluster) (r place : ℕ) (reply answer : Reply) → IsWhole s → ups s r ≡ true → HasReplica s.replicas r → HasDrop s place → Step s (ev.Pull r) reply m → Step m (ev.Apply r place) answer u → IsApplied answer
 drop-answers s m u r place reply answer w up h q k l =
     let e = subst (λ (log : List Entry). HasDropAt log place) (sym (pull-log s m r reply k)) q in
-    drop-applied m u r place e.1.0 e.0 answer (whole-step s m (ev.Pull r) reply w k) (up-step s m (ev.Pull r) reply tt k up) (pull-whole s m r reply w up h k) e.1.1 l
+    drop-applied m u r place e.1.0 e.0 answer (whole-step s m (ev.Pull r) reply w k) (up-step s m (ev.Pull r) reply r w tt k up) (pull-whole s m r reply w up h k) e.1.1 l
 
 -- the drop is known at the replica then
 pub does-drop : (s m u : Cluster) (r place n : ℕ) (reply : Reply) (comes : Applied) → IsWhole s → Step s (ev.Pull r) reply m → Step m (ev.Apply r place) (rp.Applied comes) u → IsNumberAt s.table.log place n → DoesDrop s r place n u
 does-drop s m u r place n reply comes w k l q = record {
   number = q;
   does = λ t h. applied-shows m u r place comes (whole-step s m (ev.Pull r) reply w k) l t (quiet-shows s m (ev.Pull r) reply w tt k t h);
-}
-
-pub drop-idle : (s m u : Cluster) (r place : ℕ) (reply answer : Reply) → IsIdle s → Step s (ev.Pull r) reply m → Step m (ev.Apply r place) answer u → IsIdle u
-drop-idle s m u r place reply answer i k l = record {
-  up = up-step m u (ev.Apply r place) answer tt l (up-step s m (ev.Pull r) reply tt k i.up);
-  free = none-held m u (ev.Apply r place) answer tt l (none-held s m (ev.Pull r) reply tt k i.free);
 }
 
 -- ---- DropPartition

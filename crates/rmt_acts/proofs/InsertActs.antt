@@ -14,7 +14,7 @@ use Rattle.rmt_reply.specs.declared.refusal.Refusal.{Refusal}
 use Rattle.rmt_reply.specs.declared.refusal.Refusal.TheVariants.{LimitReached}
 use Rattle.rmt_statement_model.specs.TableStates.{TableState, learned}
 use Rattle.rmt_statement_model.specs.Inserts.{with_number, InsertsAll}
-use Rattle.rmt_statement_model.specs.Shows.{IsIdle, Shows, Leads}
+use Rattle.rmt_statement_model.specs.Shows.{IsIdle, Shows, Leads, ups}
 use Rattle.rmt_statement_model.proofs.InsertRows.{inserts-more, inserts-stop, part-row, duplicate-row, no-number-row, no-room-row}
 use Rattle.rmt_acts.specs.Inserting.{Begins, HasAttempt, Commits, HasGet, ComesTo}
 use Rattle.rmt_acts.specs.declared.begun.Begun.TheVariants as begins
@@ -61,16 +61,18 @@ pub record SoFar (s u : Cluster) (r : ℕ) (all done rest : List Raw) (pieces : 
   pub split : done ++ rest ≡ all
   pub fit : Fitting s rest
   pub inserts : (t : TableState) → Shows s t → Leads u (InsertsAll t r (map without_kinds done) pieces None)
-  pub idle : IsIdle u
+  pub idle : IsIdle u r
+  pub ups_are : ups u ≡ ups s
   pub schema : u.table.schema ≡ s.table.schema
   pub replicas : length u.replicas ≡ length s.replicas
 
-pub so-far-none : (s : Cluster) (r : ℕ) (all rest : List Raw) → rest ≡ all → Fitting s all → IsIdle s → SoFar s s r all [] rest []
+pub so-far-none : (s : Cluster) (r : ℕ) (all rest : List Raw) → rest ≡ all → Fitting s all → IsIdle s r → SoFar s s r all [] rest []
 so-far-none s r all rest e f i = record {
   split = e;
   fit = subst (Fitting s) (sym e) f;
   inserts = λ t h. record { state = t; holds = refl; shows = h };
   idle = i;
+  ups_are = refl;
   schema = refl;
   replicas = refl;
 }
@@ -81,9 +83,9 @@ map-append (x ∷ xs) ys = ap (λ (bs : List Block). without_kinds x ∷ bs) (ma
 
 -- one more block
 pub so-far-more : (s u v : Cluster) (r : ℕ) (all done rest left : List Raw) (b : Raw) (pieces : List Piece) (piece : Piece) → SoFar s u r all done rest pieces → rest ≡ b ∷ left
-    → ((t : TableState) → Shows u t → Leads v (ComesTo t r (without_kinds b) (outcomes.Inserted piece))) → IsIdle v → v.table.schema ≡ u.table.schema → length v.replicas ≡ length u.replicas
+    → ((t : TableState) → Shows u t → Leads v (ComesTo t r (without_kinds b) (outcomes.Inserted piece))) → IsIdle v r → ups v ≡ ups u → v.table.schema ≡ u.table.schema → length v.replicas ≡ length u.replicas
     → SoFar s v r all (done ++ b ∷ []) left (pieces ++ piece ∷ [])
-so-far-more s u v r all done rest left b pieces piece x e k i c n = record {
+so-far-more s u v r all done rest left b pieces piece x e k i up c n = record {
   split = append_assoc done (b ∷ []) left ∙ (ap (λ (bs : List Raw). done ++ bs) (sym e) ∙ x.split);
   fit = All-rest (λ (k : Raw). All (λ row. fits s.table.schema.columns row ≡ true) k.rows) b left rest e x.fit;
   inserts = λ t h.
@@ -96,6 +98,7 @@ so-far-more s u v r all done rest left b pieces piece x e k i c n = record {
         shows = z.shows;
       };
   idle = i;
+  ups_are = up ∙ x.ups_are;
   schema = c ∙ x.schema;
   replicas = n ∙ x.replicas;
 }

@@ -1,6 +1,7 @@
 pub mod AttemptActs
 pub mod InsertActs
 pub mod ReadActs
+pub mod CheckActs
 pub mod SyncActs
 pub mod ChangeActs
 pub mod PartitionLists

@@ -22,12 +22,14 @@ use Rattle.rmt_events.specs.declared.step_refused.StepRefused.{StepRefused}
 use Rattle.rmt_events.specs.declared.step_refused.StepRefused.TheVariants as rf
 use Rattle.rmt_statement_model.specs.TableStates.{TableState, synced}
 use Rattle.rmt_statement_model.specs.Optimizes.{live_of, Optimizes, CantOptimize}
-use Rattle.rmt_statement_model.specs.Shows.{Shows, Leads, IsIdle, IsUpToDate}
-use Rattle.rmt_statement_model.proofs.UpLaws.{up-step}
+use Rattle.rmt_statement_model.specs.Shows.{Shows, Leads, IsIdle, IsUpToDate, ups}
+use Rattle.rmt_statement_model.proofs.UpLaws.{ups-step}
 use Rattle.rmt_statement_model.proofs.LockSteps.{none-held}
 use Rattle.rmt_statement_model.proofs.MergeReplies.{IsMergeReply, merge-reply}
 use Rattle.rmt_statement_model.proofs.OptimizeRows.{merged-row, one-row, differ-row, no-entry-row}
 use Rattle.rmt_acts.specs.Optimizing.{OptimizesOne, IsMergeAt, IsToldAs}
+use Rattle.rmt_acts.specs.Syncing.{HasDoneGets}
+use Rattle.rmt_acts.proofs.SyncActs.{gets-done, gets-done-still}
 
 -- ---- the live names
 
@@ -70,14 +72,14 @@ stays-alone s u r p a e f t h =
 -- a merge of all live names of a partition, where no insert is under way and its replica is up to date
 pub record MergesAll (s : Cluster) (r : ℕ) (p : Option ℕ) (names : List Name) (reply : Reply) (u : Cluster) : Type 0 where
   pub whole : IsWhole s
-  pub idle : IsIdle s
+  pub idle : IsIdle s r
   pub up_to_date : IsUpToDate s r
   pub live : names ≡ live_of s.table.log p
   pub are : AreSeveral names
   pub step : Step s (ev.Merge r names) reply u
 
 -- names that aren't one alone, and are all live names of a partition that has one
-pub merges-all : (s u : Cluster) (r : ℕ) (p : Option ℕ) (a : Name) (log : List Entry) (names : List Name) (reply : Reply) → IsWhole s → IsIdle s → IsUpToDate s r → Has (live_of s.table.log p) a
+pub merges-all : (s u : Cluster) (r : ℕ) (p : Option ℕ) (a : Name) (log : List Entry) (names : List Name) (reply : Reply) → IsWhole s → IsIdle s r → IsUpToDate s r → Has (live_of s.table.log p) a
     → names ≡ live_of log p → ((x : Replica) → IsNumbered s r x → log ≡ x.log) → (length names ≡ 1 → ⊥) → Step s (ev.Merge r names) reply u → MergesAll s r p names reply u
 merges-all s u r p a log names reply w i d h e f n step =
     let live = names-told s r p log names e d f in
@@ -95,9 +97,13 @@ module _ (s : Cluster) (r : ℕ) (p : Option ℕ) (names : List Name) (reply : R
   pub answers : IsMergeReply reply
   answers = merge-reply s u r p m.are.first m.are.second m.are.rest reply m.whole m.idle m.up_to_date told-live told-step
 
-  -- every replica stays up, and no insert gets under way
-  pub merge-idle : IsIdle u
-  merge-idle = record { up = up-step s u (ev.Merge r names) reply tt m.step m.idle.up; free = none-held s u (ev.Merge r names) reply tt m.step m.idle.free }
+  -- the same replicas are up
+  pub merge-ups : ups u ≡ ups s
+  merge-ups = ups-step s u (ev.Merge r names) reply m.whole tt m.step
+
+  -- no insert gets under way
+  pub merge-idle : IsIdle u r
+  merge-idle = record { up = ap (λ (f : ℕ → Bool). f r) merge-ups ∙ m.idle.up; free = none-held s u (ev.Merge r names) reply tt m.step m.idle.free }
 
 -- a reply that is neither doesn't come
 pub no-other : (reply : Reply) → IsMergeReply reply → ((i : ℕ) → reply ≡ rp.Entry i → ⊥) → ((why : StepRefused) → reply ≡ rp.Refused why → ⊥) → ⊥
@@ -174,6 +180,17 @@ placed s u r p names place m = go m.step.does
             ap (λ (l : List Entry). entry_at l place) log
             ∙ (ap (entry_at (Merge a.name names a.count ∷ s.table.log)) is-place
             ∙ (newest (Merge a.name names a.count) s.table.log ∙ ap (λ (x : Name). Some (Merge x names a.count)) name))
+
+-- the replica has done each Get still
+pub merge-gets : (s u : Cluster) (r : ℕ) (p : Option ℕ) (names : List Name) (place : ℕ) → MergesAll s r p names (rp.Entry place) u → HasDoneGets u r
+merge-gets s u r p names place m = go m.step.does
+  where
+    go : Does s (ev.Merge r names) (rp.Entry place) m.step.after → HasDoneGets u r
+    go (inr a) = let e = a.answer in absurd (cc)
+    go (inl a) = gets-done-still s u r (Merge a.name names a.count) tt
+        (ap (λ (x : Cluster). x.replicas) m.step.stored ∙ ap (λ (x : Cluster). x.replicas) a.appends.at.change)
+        (ap (λ (x : Cluster). x.table.log) m.step.stored ∙ (ap (λ (x : Cluster). x.table.log) a.appends.at.change ∙ ap (λ (x : Table). x.log) a.appends.at.does.change))
+        (gets-done s r m.whole m.up_to_date)
 
 -- the replica's copy has it there
 pub has-merge : (s m : Cluster) (r : ℕ) (p : Option ℕ) (names : List Name) (place : ℕ) (log : List Entry) → MergesAll s r p names (rp.Entry place) m → log ≡ m.table.log → IsMergeAt log place

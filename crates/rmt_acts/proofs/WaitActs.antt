@@ -1,5 +1,5 @@
 -- What the mutate of a part comes to, and a mutation that is waited for.
-use Rattle.std.proofs.Common.{◌≡◌, ◌∙◌, ℕ, ◌+◌, ◌<◌, inl, List, [], ◌∷◌, length, drop, get_or, refl, sym, ap, subst, arith}
+use Rattle.std.proofs.Common.{◌≡◌, ◌∙◌, ℕ, ◌+◌, ◌<◌, inl, List, [], ◌∷◌, length, drop, get_or, refl, sym, ap, subst, arith, inr}
 use Rattle.std.proofs.lemmas.List.{drop_more}
 use Rattle.std.specs.Prelude.{MatchOption}
 use Rattle.std.specs.declared.option.Option.{Option}
@@ -19,7 +19,7 @@ use Rattle.rmt_events.specs.Sound.{IsSoundTable}
 use Rattle.rmt_events.specs.Clusters.{Cluster}
 use Rattle.rmt_events.specs.ClusterChanges.{IsNumbered}
 use Rattle.rmt_events.specs.Whole.{IsWhole}
-use Rattle.rmt_events.specs.Steps.{Step}
+use Rattle.rmt_events.specs.Steps.{Does, Step}
 use Rattle.rmt_events.specs.declared.event.Event.TheVariants as ev
 use Rattle.rmt_events.specs.declared.reply.Reply.TheVariants as rp
 use Rattle.rmt_events.specs.declared.step_refused.StepRefused.{StepRefused}
@@ -27,11 +27,13 @@ use Rattle.rmt_events.specs.declared.step_refused.StepRefused.TheVariants as rf
 use Rattle.rmt_events.proofs.WholeSteps.{whole-step}
 use Rattle.rmt_statement_model.specs.TableStates.{TableState, synced}
 use Rattle.rmt_statement_model.specs.Waits.{MutatesParts}
-use Rattle.rmt_statement_model.specs.Shows.{IsIdle, IsUpToDate, Shows, Leads}
+use Rattle.rmt_statement_model.specs.Shows.{IsIdle, IsUpToDate, Shows, Leads, ups}
 use Rattle.rmt_statement_model.proofs.PendingLaws.{AreToCome, pending-mutable, all-to-come, none-to-come, one-passed, one-mutated}
 use Rattle.rmt_statement_model.proofs.WaitRows.{IsMutateReply, mutated, mutate-shows, refused-shows}
 use Rattle.rmt_statement_model.proofs.WaitLeads.{placed-still, wait-begins, wait-goes-on, wait-ends, wait-stops}
 use Rattle.rmt_acts.specs.Waiting.{IsPlaceOf, BecomesMutated, MutatesOne, Settles, WaitsTo}
+use Rattle.rmt_acts.specs.Syncing.{SyncsReplica, HasDoneGets}
+use Rattle.rmt_acts.proofs.SyncActs.{gets-done, gets-done-still}
 use Rattle.rmt_acts.proofs.OptimizeActs.{whole-log}
 
 -- ---- one part
@@ -67,7 +69,8 @@ pending-told s r part upto log o found d f e q = ap (λ (l : List Entry). last_p
 
 -- the parts so far wait no more, and these are to come; the replica is up to date
 pub record IsWaiting (s : Cluster) (r id place : ℕ) (parts : List Name) (u : Cluster) : Type 0 where
-  pub idle : IsIdle u
+  pub idle : IsIdle u r
+  pub ups_are : ups u ≡ ups s
   pub whole : IsUpToDate u r
   pub schema : u.table.schema ≡ s.table.schema
   pub replicas : length u.replicas ≡ length s.replicas
@@ -76,9 +79,10 @@ pub record IsWaiting (s : Cluster) (r id place : ℕ) (parts : List Name) (u : C
   pub waits : (t : TableState) → Shows s t → Leads u (λ v. MutatesParts t r id v)
 
 -- all are to come
-pub waiting-begins : (s u : Cluster) (r id place : ℕ) → IsWhole u → IsPlaceOf u.table.log id place → IsIdle u → IsUpToDate u r → u.table.schema ≡ s.table.schema → length u.replicas ≡ length s.replicas → ((t : TableState) → Shows s t → Shows u (synced r t)) → IsWaiting s r id place (live u.table.log) u
-waiting-begins s u r id place h p i d e n f = record {
+pub waiting-begins : (s u : Cluster) (r id place : ℕ) → IsWhole u → IsPlaceOf u.table.log id place → IsIdle u r → ups u ≡ ups s → IsUpToDate u r → u.table.schema ≡ s.table.schema → length u.replicas ≡ length s.replicas → ((t : TableState) → Shows s t → Shows u (synced r t)) → IsWaiting s r id place (live u.table.log) u
+waiting-begins s u r id place h p i up d e n f = record {
   idle = i;
+  ups_are = up;
   whole = d;
   schema = e;
   replicas = n;
@@ -92,12 +96,13 @@ pub place-below : (log : List Entry) (id place : ℕ) → IsPlaceOf log id place
 place-below log id place p = entry-below log place _ p.2
 
 -- the next part is mutated, or has none pending
-pub waiting-goes-on : (s u w : Cluster) (r id place : ℕ) (part : Name) (parts : List Name) → IsWhole u → Settles u r part place None w → IsIdle w → w.table.schema ≡ u.table.schema → length w.replicas ≡ length u.replicas → IsWaiting s r id place (part ∷ parts) u → IsWaiting s r id place parts w
-waiting-goes-on s u w r id place part parts h m k c n g = go (last_pending u.table.log part (place + 1)) refl m
+pub waiting-goes-on : (s u w : Cluster) (r id place : ℕ) (part : Name) (parts : List Name) → IsWhole u → Settles u r part place None w → IsIdle w r → ups w ≡ ups u → w.table.schema ≡ u.table.schema → length w.replicas ≡ length u.replicas → IsWaiting s r id place (part ∷ parts) u → IsWaiting s r id place parts w
+waiting-goes-on s u w r id place part parts h m k up c n g = go (last_pending u.table.log part (place + 1)) refl m
   where
     go : (o : Option ℕ) → last_pending u.table.log part (place + 1) ≡ o → MatchOption o ((◌≡◌ {A = Option Refusal} None None) × (w ≡ u)) (λ last. MutatesOne u r part last None w) → IsWaiting s r id place parts w
     go None e q = subst (IsWaiting s r id place parts) (sym q.1) (record {
       idle = g.idle;
+      ups_are = g.ups_are;
       whole = g.whole;
       schema = g.schema;
       replicas = g.replicas;
@@ -109,6 +114,7 @@ waiting-goes-on s u w r id place part parts h m k c n g = go (last_pending u.tab
         let l = (pending-mutable u.table.schema u.table.log (place + 1) part i (IsSoundTable.lawful h.table) (g.to_come.are_live part (inl refl)) e).1 in
         record {
           idle = k;
+          ups_are = up ∙ g.ups_are;
           whole = b.whole;
           schema = c ∙ g.schema;
           replicas = n ∙ g.replicas;
@@ -131,9 +137,26 @@ pub waiting-stops : (s u w : Cluster) (r id place : ℕ) (part : Name) (parts : 
 waiting-stops s u w r id place part parts refusal h m g = go (last_pending u.table.log part (place + 1)) refl m
   where
     full : (i : ℕ) → last_pending u.table.log part (place + 1) ≡ Some i → (x : Refusal) → MutatesOne u r part i (Some x) w → WaitsTo s r id (Some x) w
-    full i e (LimitReached limit value) f = λ t v. wait-stops t u w r id place i part g.placed.0 g.placed.1 limit value h g.placed.2 (g.to_come.are_live part (inl refl)) e f (g.waits t v)
+    full i e (LimitReached limit value) f = λ t v.
+        let x = wait-stops t u w r id place i part g.placed.0 g.placed.1 limit value h g.placed.2 (g.to_come.are_live part (inl refl)) e f (g.waits t v) in
+        record { state = x.state; holds = inr x.holds; shows = x.shows }
     full i e x f = λ t v. let l = g.waits t v in absurd ((f l.state l.shows).0)
 
     go : (o : Option ℕ) → last_pending u.table.log part (place + 1) ≡ o → MatchOption o ((Some refusal ≡ None) × (w ≡ u)) (λ last. MutatesOne u r part last (Some refusal) w) → WaitsTo s r id (Some refusal) w
     go None e q = let x = q.0 in absurd (cc)
     go (Some i) e f = full i e refusal f
+
+-- the replica lacks a part, and nothing is mutated
+pub wait-lacks : (s u : Cluster) (r id : ℕ) (refusal : Refusal) → SyncsReplica s r (Some refusal) u → WaitsTo s r id (Some refusal) u
+wait-lacks s u r id refusal f t h = let l = f t h in record { state = l.state; holds = inl l.holds; shows = l.shows }
+
+-- the replica has done each Get still once a Mutate is in the log
+pub mutate-gets : (s u : Cluster) (r : ℕ) (old : Name) (upto place : ℕ) → IsWhole s → IsUpToDate s r → Step s (ev.Mutate r old upto) (rp.Entry place) u → HasDoneGets u r
+mutate-gets s u r old upto place w d st = go st.does
+  where
+    go : Does s (ev.Mutate r old upto) (rp.Entry place) st.after → HasDoneGets u r
+    go (inr a) = let e = a.answer in absurd (cc)
+    go (inl a) = gets-done-still s u r (Mutate old a.name upto a.count a.mcount) tt
+        (ap (λ (x : Cluster). x.replicas) st.stored ∙ ap (λ (x : Cluster). x.replicas) a.appends.at.change)
+        (ap (λ (x : Cluster). x.table.log) st.stored ∙ (ap (λ (x : Cluster). x.table.log) a.appends.at.change ∙ ap (λ (x : Table). x.log) a.appends.at.does.change))
+        (gets-done s r w d)

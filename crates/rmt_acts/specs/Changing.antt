@@ -1,5 +1,5 @@
--- What mutations, drops and restarts come to. No public clause but those of `mutate`, `drop_partition` and `restart_replica` cites
--- this module.
+-- What mutations, drops, kills and restarts come to. No public clause but those of `mutate`, `drop_partition`, `restart_replica`,
+-- `kill` and `restart` cites this module.
 use Rattle.std.specs.Prelude.{◌≡◌, ◌⊎◌, ℕ, List}
 use Rattle.std.specs.declared.option.Option.{Option}
 use Rattle.std.specs.declared.option.Option.TheVariants.{Some}
@@ -40,6 +40,16 @@ pub record BeginsAnew (s : Cluster) (r : ℕ) (u : Cluster) : Type 0 where
   pub ends : Step s (ev.Kill r) ended mid
   pub begun : Reply
   pub begins : Step mid (ev.Restart r) begun u
+
+-- the replica's session ended
+pub record EndsSession (s : Cluster) (r : ℕ) (u : Cluster) : Type 0 where
+  pub reply : Reply
+  pub ends : Step s (ev.Kill r) reply u
+
+-- a session of the replica began
+pub record BeginsSession (s : Cluster) (r : ℕ) (u : Cluster) : Type 0 where
+  pub reply : Reply
+  pub begins : Step s (ev.Restart r) reply u
 
 -- ---- what only private functions cite
 

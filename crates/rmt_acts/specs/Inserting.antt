@@ -1,5 +1,5 @@
 -- What the events of an INSERT's block come to, one after the other. No public clause cites this module.
-use Rattle.std.specs.Prelude.{◌≡◌, ℕ, [], ◌∷◌, length}
+use Rattle.std.specs.Prelude.{◌≡◌, ℕ, true, [], ◌∷◌, length}
 use Rattle.std.specs.declared.option.Option.TheVariants.{Some, None}
 use Rattle.rmt_entries.specs.declared.entry.Entry.TheVariants.{Get}
 use Rattle.rmt_events.specs.Views.{Block}
@@ -9,7 +9,7 @@ use Rattle.rmt_events.specs.declared.reply.Reply.TheVariants as rp
 use Rattle.rmt_events.specs.declared.step_refused.StepRefused.TheVariants as rf
 use Rattle.rmt_statement_model.specs.TableStates.{TableState, kept_with}
 use Rattle.rmt_statement_model.specs.Inserts.{Inserts, Refuses, number_for, with_number, number_limit, block_limit}
-use Rattle.rmt_statement_model.specs.Shows.{HoldsNone, Shows}
+use Rattle.rmt_statement_model.specs.Shows.{HoldsNone, Shows, ups}
 use Rattle.rmt_statement_model.specs.Attempts.{IsOpen, IsAccepted}
 use Rattle.rmt_acts.specs.declared.begun.Begun.{Begun}
 use Rattle.rmt_acts.specs.declared.begun.Begun.TheVariants as begun
@@ -48,6 +48,10 @@ pub record HasAttempt (s : Cluster) (id : ℕ) : Type 0 where
   pub number : ℕ
   pub is_open : IsOpen s id replica block number
   pub only : HoldsOnly s replica block number
+
+-- the replica of the open attempt of this id is up
+abbrev pub IsUpWith : Cluster → ℕ → Type 0
+IsUpWith s id = (r : ℕ) (b : Block) (n : ℕ) → IsOpen s id r b n → ups s r ≡ true
 
 -- the table with the block's Get
 abbrev pub with_get : TableState → ℕ → Block → ℕ → TableState

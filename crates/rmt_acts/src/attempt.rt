@@ -3,11 +3,12 @@ ghost use Rattle.std.specs.Prelude.{◌≡◌, length, true, IfOk, OnOk};
 ghost use Rattle.std.specs.List.{All};
 ghost use Rattle.rmt_values.specs.Rows.{fits};
 ghost use Rattle.rmt_events.specs.Clusters.{without_kinds};
+ghost use Rattle.rmt_events.specs.Whole.{IsWhole};
 ghost use Rattle.rmt_cluster.specs.Clusters.{IsNumber};
 ghost use Rattle.rmt_statement_model.specs.TableStates.{TableState, learned};
-ghost use Rattle.rmt_statement_model.specs.Shows.{AllUp, IsIdle, Shows, Leads};
+ghost use Rattle.rmt_statement_model.specs.Shows.{HoldsNone, IsIdle, Shows, Leads, ups};
 ghost use Rattle.rmt_statement_model.specs.Attempts.{IsAllocateReply, IsCommitReply};
-ghost use Rattle.rmt_acts.specs.Inserting.{IsBegun, Begins, IsCommitted, Commits, HasAttempt, HasGet, ComesTo};
+ghost use Rattle.rmt_acts.specs.Inserting.{IsBegun, Begins, IsCommitted, Commits, HasAttempt, IsUpWith, HasGet, ComesTo};
 
 use crate::begun::Begun;
 use crate::committed::Committed;
@@ -48,11 +49,12 @@ fn begin(
     block: Block,
 ) -> Result<Begun, AllocError>
     requires here { IsNumber replica (length cluster.old.replicas) }
-    requires idle { IsIdle cluster.old }
+    requires idle { IsIdle cluster.old replica }
     requires fit { All (λ row. fits cluster.old.table.schema.columns row ≡ true) block.rows }
     ensures begins { IfOk result (λ begun.
         Begins cluster.old replica (without_kinds block) begun cluster.new) }
-    ensures up { IfOk result (λ _. AllUp cluster.new) }
+    ensures whole { IfOk result (λ _. IsWhole cluster.new) }
+    ensures ups { IfOk result (λ _. ups cluster.new ≡ ups cluster.old) }
     ensures schema { cluster.new.table.schema ≡ cluster.old.table.schema }
     ensures replicas { length cluster.new.replicas ≡ length cluster.old.replicas }
 {
@@ -91,9 +93,10 @@ fn committed_by(reply: &Reply) -> Committed
 /// Stages the block of an attempt, and commits it. Nothing happens in between, so its number is held still.
 fn commit(alloc: Global, cluster: &mut Cluster, attempt: u32) -> Result<Committed, AllocError>
     requires there { HasAttempt cluster.old attempt }
-    requires up { AllUp cluster.old }
+    requires up { IsUpWith cluster.old attempt }
     ensures commits { IfOk result (λ done. Commits cluster.old attempt done cluster.new) }
-    ensures idle { IfOk result (λ _. IsIdle cluster.new) }
+    ensures free { IfOk result (λ _. HoldsNone cluster.new) }
+    ensures ups { IfOk result (λ _. ups cluster.new ≡ ups cluster.old) }
     ensures schema { cluster.new.table.schema ≡ cluster.old.table.schema }
     ensures replicas { length cluster.new.replicas ≡ length cluster.old.replicas }
 {
@@ -114,10 +117,11 @@ fn do_get(
 ) -> Result<(), AllocError>
     requires here { IsNumber replica (length cluster.old.replicas) }
     requires there { HasGet cluster.old entry replica }
-    requires idle { IsIdle cluster.old }
+    requires idle { IsIdle cluster.old replica }
     ensures does { OnOk result ((t : TableState) → Shows cluster.old t
         → Shows cluster.new (record t { known = learned t.known replica entry })) }
-    ensures idle { OnOk result (IsIdle cluster.new) }
+    ensures idle { OnOk result (IsIdle cluster.new replica) }
+    ensures ups { OnOk result (ups cluster.new ≡ ups cluster.old) }
     ensures schema { cluster.new.table.schema ≡ cluster.old.table.schema }
     ensures replicas { length cluster.new.replicas ≡ length cluster.old.replicas }
 {
@@ -137,11 +141,12 @@ pub(crate) fn insert_block(
     block: Block,
 ) -> Result<Outcome, AllocError>
     requires here { IsNumber replica (length cluster.old.replicas) }
-    requires idle { IsIdle cluster.old }
+    requires idle { IsIdle cluster.old replica }
     requires fit { All (λ row. fits cluster.old.table.schema.columns row ≡ true) block.rows }
     ensures inserts { IfOk result (λ outcome. (t : TableState) → Shows cluster.old t
         → Leads cluster.new (ComesTo t replica (without_kinds block) outcome)) }
-    ensures idle { IfOk result (λ _. IsIdle cluster.new) }
+    ensures idle { IfOk result (λ _. IsIdle cluster.new replica) }
+    ensures ups { IfOk result (λ _. ups cluster.new ≡ ups cluster.old) }
     ensures schema { cluster.new.table.schema ≡ cluster.old.table.schema }
     ensures replicas { length cluster.new.replicas ≡ length cluster.old.replicas }
 {

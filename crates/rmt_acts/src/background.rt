@@ -1,11 +1,11 @@
-//! Background work, and a replica that is restarted.
-ghost use Rattle.std.specs.Prelude.{◌≡◌, ◌<◌, ◌^◌, length, OnOk};
+//! Background work, and replicas whose sessions end and begin.
+ghost use Rattle.std.specs.Prelude.{◌≡◌, ◌<◌, ◌^◌, ℕ, cond, nat_eq, true, false, length, OnOk};
 ghost use Rattle.rmt_cluster.specs.Clusters.{IsNumber};
 ghost use Rattle.rmt_cluster.specs.Runs.{RunsAll};
 ghost use Rattle.rmt_statement_model.specs.TableStates.{TableState};
 ghost use Rattle.rmt_statement_model.specs.BackgroundWork.{Works};
-ghost use Rattle.rmt_statement_model.specs.Shows.{IsIdle, Shows, Leads};
-ghost use Rattle.rmt_acts.specs.Changing.{BeginsAnew};
+ghost use Rattle.rmt_statement_model.specs.Shows.{HoldsNone, IsIdle, Shows, Leads, ups};
+ghost use Rattle.rmt_acts.specs.Changing.{BeginsAnew, BeginsSession, EndsSession};
 
 use rmt_cluster::Cluster;
 use rmt_events::{Event, Reply, StepRefused};
@@ -20,10 +20,11 @@ pub fn run_turns(
     turns: u32,
 ) -> Result<(), AllocError>
     requires seed { seed < 2 ^ 31 }
-    requires idle { IsIdle cluster.old }
+    requires free { HoldsNone cluster.old }
     ensures runs { OnOk result (RunsAll cluster.old seed turns cluster.new) }
     ensures works { OnOk result ((t : TableState) → Shows cluster.old t → Leads cluster.new (Works t)) }
-    ensures idle { OnOk result (IsIdle cluster.new) }
+    ensures free { OnOk result (HoldsNone cluster.new) }
+    ensures ups { OnOk result (ups cluster.new ≡ ups cluster.old) }
     ensures schema { cluster.new.table.schema ≡ cluster.old.table.schema }
     ensures replicas { length cluster.new.replicas ≡ length cluster.old.replicas }
 {
@@ -40,10 +41,11 @@ pub fn restart_replica(
     replica: ReplicaId,
 ) -> Result<(), AllocError>
     requires here { IsNumber replica (length cluster.old.replicas) }
-    requires idle { IsIdle cluster.old }
+    requires idle { IsIdle cluster.old replica }
     ensures anew { OnOk result (BeginsAnew cluster.old replica cluster.new) }
     ensures restarts { OnOk result ((t : TableState) → Shows cluster.old t → Shows cluster.new t) }
-    ensures idle { OnOk result (IsIdle cluster.new) }
+    ensures idle { OnOk result (IsIdle cluster.new replica) }
+    ensures ups { OnOk result (ups cluster.new ≡ ups cluster.old) }
     ensures schema { cluster.new.table.schema ≡ cluster.old.table.schema }
     ensures replicas { length cluster.new.replicas ≡ length cluster.old.replicas }
 {
@@ -52,5 +54,40 @@ pub fn restart_replica(
         unreachable!()
     }
     let _restarted = cluster.step(alloc, Event::Restart { replica })?;
+    Ok(())
+}
+
+/// Ends a replica's session: the replica is down. What it has stays. At an error no memory was left, and nothing changed.
+pub fn kill(alloc: Global, cluster: &mut Cluster, replica: ReplicaId) -> Result<(), AllocError>
+    requires here { IsNumber replica (length cluster.old.replicas) }
+    ensures ends { OnOk result (EndsSession cluster.old replica cluster.new) }
+    ensures shows { OnOk result ((t : TableState) → Shows cluster.old t → Shows cluster.new t) }
+    ensures up { OnOk result ((k : ℕ) → ups cluster.new k ≡ cond (nat_eq replica k) false (ups cluster.old k)) }
+    ensures free { HoldsNone cluster.old → OnOk result (HoldsNone cluster.new) }
+    ensures schema { cluster.new.table.schema ≡ cluster.old.table.schema }
+    ensures replicas { length cluster.new.replicas ≡ length cluster.old.replicas }
+{
+    let killed = cluster.step(alloc, Event::Kill { replica })?;
+    if let Reply::Refused(StepRefused::Down) = killed {
+        unreachable!()
+    }
+    Ok(())
+}
+
+/// Begins a session of a replica: the replica is up, and looks at each entry of its copy again. At an error no memory was left,
+/// and the replica may be down.
+pub fn restart(alloc: Global, cluster: &mut Cluster, replica: ReplicaId) -> Result<(), AllocError>
+    requires here { IsNumber replica (length cluster.old.replicas) }
+    ensures begins { OnOk result (BeginsSession cluster.old replica cluster.new) }
+    ensures shows { OnOk result ((t : TableState) → Shows cluster.old t → Shows cluster.new t) }
+    ensures up { OnOk result ((k : ℕ) → ups cluster.new k ≡ cond (nat_eq replica k) true (ups cluster.old k)) }
+    ensures free { HoldsNone cluster.old → OnOk result (HoldsNone cluster.new) }
+    ensures schema { cluster.new.table.schema ≡ cluster.old.table.schema }
+    ensures replicas { length cluster.new.replicas ≡ length cluster.old.replicas }
+{
+    let restarted = cluster.step(alloc, Event::Restart { replica })?;
+    if let Reply::Refused(StepRefused::Down) = restarted {
+        unreachable!()
+    }
     Ok(())
 }

@@ -1,7 +1,7 @@
 //! ALTER .. DROP PARTITION.
 ghost use Rattle.std.specs.Prelude.{◌≡◌, length, IfOk};
 ghost use Rattle.rmt_cluster.specs.Clusters.{IsNumber};
-ghost use Rattle.rmt_statement_model.specs.Shows.{IsIdle};
+ghost use Rattle.rmt_statement_model.specs.Shows.{IsIdle, ups};
 ghost use Rattle.rmt_acts.specs.Changing.{DropsTo, HasDrop, HasDropAt, IsNumberAt, DoesDrop};
 
 use rmt_cluster::Cluster;
@@ -36,9 +36,10 @@ fn do_drop(
 ) -> Result<u32, AllocError>
     requires here { IsNumber replica (length cluster.old.replicas) }
     requires there { HasDrop cluster.old entry }
-    requires idle { IsIdle cluster.old }
+    requires idle { IsIdle cluster.old replica }
     ensures does { IfOk result (λ number. DoesDrop cluster.old replica entry number cluster.new) }
-    ensures idle { IfOk result (λ _. IsIdle cluster.new) }
+    ensures idle { IfOk result (λ _. IsIdle cluster.new replica) }
+    ensures ups { IfOk result (λ _. ups cluster.new ≡ ups cluster.old) }
     ensures schema { cluster.new.table.schema ≡ cluster.old.table.schema }
     ensures replicas { length cluster.new.replicas ≡ length cluster.old.replicas }
 {
@@ -63,9 +64,10 @@ pub fn drop_partition(
     partition: PartitionId,
 ) -> Result<Result<u32, Refusal>, AllocError>
     requires here { IsNumber replica (length cluster.old.replicas) }
-    requires idle { IsIdle cluster.old }
+    requires idle { IsIdle cluster.old replica }
     ensures drops { IfOk result (λ below. DropsTo cluster.old replica partition below cluster.new) }
-    ensures idle { IfOk result (λ _. IsIdle cluster.new) }
+    ensures idle { IfOk result (λ _. IsIdle cluster.new replica) }
+    ensures ups { IfOk result (λ _. ups cluster.new ≡ ups cluster.old) }
     ensures schema { cluster.new.table.schema ≡ cluster.old.table.schema }
     ensures replicas { length cluster.new.replicas ≡ length cluster.old.replicas }
 {

@@ -6,7 +6,7 @@ ghost use Rattle.rmt_events.specs.Clusters.{without_kinds};
 ghost use Rattle.rmt_cluster.specs.Clusters.{IsNumber};
 ghost use Rattle.rmt_statement_model.specs.TableStates.{TableState};
 ghost use Rattle.rmt_statement_model.specs.Inserts.{InsertsAll};
-ghost use Rattle.rmt_statement_model.specs.Shows.{IsIdle, Shows, Leads};
+ghost use Rattle.rmt_statement_model.specs.Shows.{IsIdle, Shows, Leads, ups};
 
 use crate::attempt::insert_block;
 use crate::insertion::Insertion;
@@ -26,12 +26,13 @@ pub fn insert_blocks(
     blocks: Vec<Block>,
 ) -> Result<Insertion, AllocError>
     requires here { IsNumber replica (length cluster.old.replicas) }
-    requires idle { IsIdle cluster.old }
+    requires idle { IsIdle cluster.old replica }
     requires fit { All (λ b. All (λ row. fits cluster.old.table.schema.columns row ≡ true) b.rows)
         blocks.items }
     ensures inserts { IfOk result (λ i. (t : TableState) → Shows cluster.old t → Leads cluster.new
         (InsertsAll t replica (map without_kinds blocks.items) i.pieces i.refused)) }
-    ensures idle { IfOk result (λ _. IsIdle cluster.new) }
+    ensures idle { IfOk result (λ _. IsIdle cluster.new replica) }
+    ensures ups { IfOk result (λ _. ups cluster.new ≡ ups cluster.old) }
     ensures schema { cluster.new.table.schema ≡ cluster.old.table.schema }
     ensures replicas { length cluster.new.replicas ≡ length cluster.old.replicas }
 {

@@ -4,6 +4,7 @@
 mod attempt;
 mod background;
 mod begun;
+mod checking;
 mod committed;
 mod drop;
 mod insert;
@@ -18,7 +19,8 @@ mod reading;
 mod syncing;
 mod waiting;
 
-pub use background::{restart_replica, run_turns};
+pub use background::{kill, restart, restart_replica, run_turns};
+pub use checking::part_digests;
 pub use drop::drop_partition;
 pub use insert::insert_blocks;
 pub use insertion::Insertion;

@@ -9,13 +9,13 @@ ghost use Rattle.rmt_model.specs.Lawful.{entry_at};
 ghost use Rattle.rmt_cluster.specs.Clusters.{IsNumber};
 ghost use Rattle.rmt_statement_model.specs.TableStates.{TableState};
 ghost use Rattle.rmt_statement_model.specs.Optimizes.{live_of, OptimizesTable};
-ghost use Rattle.rmt_statement_model.specs.Shows.{IsIdle, IsUpToDate, Shows, Leads};
+ghost use Rattle.rmt_statement_model.specs.Shows.{IsIdle, IsUpToDate, Shows, Leads, ups};
 ghost use Rattle.rmt_acts.specs.Optimizing.{IsMergeAt, IsToldAs, OptimizesTo};
 
 use crate::optimization::Optimization;
 use crate::optimized::Optimized;
 use crate::partitions::{live_names, partitions};
-use crate::syncing::sync_replica;
+use crate::syncing::{catch_up, sync_replica};
 use rmt_cluster::Cluster;
 use rmt_entries::Entry;
 use rmt_events::{Event, Reply, StepRefused};
@@ -67,25 +67,28 @@ fn optimize_partition(
     partition: PartitionId,
 ) -> Result<Optimized, AllocError>
     requires here { IsNumber replica (length cluster.old.replicas) }
-    requires idle { IsIdle cluster.old }
+    requires idle { IsIdle cluster.old replica }
     requires whole { IsUpToDate cluster.old replica }
     requires some { (a : Name) × Has (live_of cluster.old.table.log partition) a }
     ensures optimizes { IfOk result (λ o. OptimizesTo cluster.old replica partition o cluster.new) }
     ensures whole { IfOk result (λ _. IsUpToDate cluster.new replica) }
-    ensures idle { IfOk result (λ _. IsIdle cluster.new) }
+    ensures idle { IfOk result (λ _. IsIdle cluster.new replica) }
+    ensures ups { IfOk result (λ _. ups cluster.new ≡ ups cluster.old) }
     ensures schema { cluster.new.table.schema ≡ cluster.old.table.schema }
     ensures replicas { length cluster.new.replicas ≡ length cluster.old.replicas }
 {
+    // What always holds of a cluster is known here.
+    cluster.drained_replicas_agree();
     let sources = live_names(alloc, cluster.copy(replica), partition)?;
     if sources.len() == 1 {
         let name = sources.as_slice()[0];
-        sync_replica(alloc, cluster, replica)?;
+        catch_up(alloc, cluster, replica)?;
         return Ok(Optimized::Name(name));
     }
     let reply = cluster.step(alloc, Event::Merge { replica, sources })?;
     match &reply {
         Reply::Entry(place) => {
-            sync_replica(alloc, cluster, replica)?;
+            catch_up(alloc, cluster, replica)?;
             let name = merged_at(cluster.copy(replica), *place as usize);
             Ok(Optimized::Name(name))
         }
@@ -95,8 +98,8 @@ fn optimize_partition(
 }
 
 /// Merges all parts of each partition into one, at a replica that is brought up to date first and after each; or of one
-/// partition alone. It ends at the first partition whose parts can't be merged; what was merged stays so. At an error no
-/// memory was left, and what was done stays done.
+/// partition alone. It ends at the first partition whose parts can't be merged, or before all where the replica lacks a part
+/// whose source is down; what was merged stays so. At an error no memory was left, and what was done stays done.
 pub fn optimize(
     alloc: Global,
     cluster: &mut Cluster,
@@ -104,16 +107,20 @@ pub fn optimize(
     asked: Option<PartitionId>,
 ) -> Result<Optimization, AllocError>
     requires here { IsNumber replica (length cluster.old.replicas) }
-    requires idle { IsIdle cluster.old }
+    requires idle { IsIdle cluster.old replica }
     ensures optimizes { IfOk result (λ o. (t : TableState) → Shows cluster.old t
-        → Leads cluster.new (OptimizesTable t replica asked o.names o.refused)) }
-    ensures idle { IfOk result (λ _. IsIdle cluster.new) }
+        → Leads cluster.new (OptimizesTable (ups cluster.old) t replica asked o.names o.refused)) }
+    ensures idle { IfOk result (λ _. IsIdle cluster.new replica) }
+    ensures ups { IfOk result (λ _. ups cluster.new ≡ ups cluster.old) }
     ensures schema { cluster.new.table.schema ≡ cluster.old.table.schema }
     ensures replicas { length cluster.new.replicas ≡ length cluster.old.replicas }
 {
     // What always holds of a cluster is known here.
     cluster.drained_replicas_agree();
-    sync_replica(alloc, cluster, replica)?;
+    if let Some(refusal) = sync_replica(alloc, cluster, replica)? {
+        let (names, refused) = (List::empty(alloc), Some(refusal));
+        return Ok(Optimization { names, refused });
+    }
     let all = partitions(alloc, cluster.copy(replica), asked)?;
     let mut names = Vec::new(alloc);
     'partitions: for partition in &all {

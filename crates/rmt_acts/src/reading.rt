@@ -1,5 +1,5 @@
 //! What is read of a table at a replica.
-ghost use Rattle.std.specs.Prelude.{◌≡◌, ℕ, length, slice_get, IfOk};
+ghost use Rattle.std.specs.Prelude.{◌≡◌, ℕ, length, slice_get, true, IfOk};
 ghost use Rattle.std.specs.declared.option.Option.TheVariants.{Some};
 ghost use Rattle.std.specs.List.{All, filter};
 ghost use Rattle.rmt_cluster.specs.Clusters.{IsNumber};
@@ -7,10 +7,11 @@ ghost use Rattle.rmt_row.specs.Token.{Token};
 ghost use Rattle.rmt_model.specs.Lawful.{is_mutation, mutation_count};
 ghost use Rattle.rmt_changes.specs.Changes.{entries_of};
 ghost use Rattle.rmt_changes.specs.Laws.{EntryFits};
+ghost use Rattle.rmt_format.specs.PartBytes.{HasPartBytes};
 ghost use Rattle.rmt_query.specs.Answers.{answer_of};
 ghost use Rattle.rmt_statement_model.specs.TableStates.{TableState, plain_rows};
 ghost use Rattle.rmt_statement_model.specs.Reads.{IsReading, KnowsAll};
-ghost use Rattle.rmt_statement_model.specs.Shows.{IsIdle, Shows};
+ghost use Rattle.rmt_statement_model.specs.Shows.{Shows, ups};
 ghost use Rattle.rmt_acts.specs.Waiting.{IsPlaceOf};
 
 use rmt_cluster::Cluster;
@@ -37,10 +38,11 @@ pub fn read_parts(
     replica: ReplicaId,
 ) -> Result<Snapshot, AllocError>
     requires here { IsNumber replica (length cluster.now.replicas) }
-    requires idle { IsIdle cluster.now }
+    requires up { ups cluster.now replica ≡ true }
     ensures reading { IfOk result (λ parts. (t : TableState) → Shows cluster.now t
         → IsReading t replica parts) }
     ensures keys { IfOk result (All (λ part. part.rows.key ≡ cluster.now.table.schema.key)) }
+    ensures bytes { IfOk result (All (λ part. HasPartBytes cluster.now.table.schema part.rows)) }
 {
     // What always holds of a cluster is known here.
     cluster.drained_replicas_agree();
@@ -75,7 +77,7 @@ pub fn answer_up_to_date(
     query: &CheckedQuery,
 ) -> Result<Vec<Tuple>, AllocError>
     requires here { IsNumber replica (length cluster.now.replicas) }
-    requires idle { IsIdle cluster.now }
+    requires up { ups cluster.now replica ≡ true }
     ensures { IfOk result (λ tuples. (t : TableState) → Shows cluster.now t → KnowsAll t replica
         → tuples.items ≡ answer_of t.schema query.now (plain_rows t)) }
 {

@@ -1,27 +1,69 @@
 //! A replica is brought up to date.
-ghost use Rattle.std.specs.Prelude.{◌≡◌, length, OnOk};
+ghost use Rattle.std.specs.Prelude.{◌≡◌, ◌≢◌, length, IfOk, OnOk};
 ghost use Rattle.rmt_cluster.specs.Clusters.{IsNumber};
-ghost use Rattle.rmt_statement_model.specs.TableStates.{TableState, synced};
-ghost use Rattle.rmt_statement_model.specs.Shows.{IsIdle, IsUpToDate, Shows};
+ghost use Rattle.rmt_cluster.specs.declared.sync_error.SyncError.TheVariants.{ReplicaDown};
+ghost use Rattle.rmt_statement_model.specs.Shows.{IsIdle, ups};
+ghost use Rattle.rmt_acts.specs.Syncing.{HasDoneGets, IsSynced, IsToldAs, SyncsReplica};
 
 use rmt_cluster::{Cluster, SyncError};
+use rmt_reply::Refusal;
 use rmt_values::ReplicaId;
 use std::alloc::{AllocError, Global};
 
-/// Brings a replica up to date: every place of the log is known there. At an error no memory was left, and what was done of
-/// the log stays done.
+/// The refusal of a statement whose sync ended so, at a replica that is up.
+fn refusal_of(error: &SyncError) -> Result<Option<Refusal>, AllocError>
+    requires { error.now ≢ ReplicaDown }
+    ensures { IsToldAs error.now result }
+{
+    match error {
+        SyncError::NoSource { part, replica } => Ok(Some(Refusal::NoSource {
+            part: *part,
+            replica: *replica,
+        })),
+        SyncError::Memory => Err(AllocError),
+        SyncError::ReplicaDown => unreachable!(),
+    }
+}
+
+/// Brings a replica up to date: every place of the log is known there. Or gives the refusal, where the replica lacks a part
+/// whose source is down, and which no replica that is up has; what stands before it in the log is known then. At an error no
+/// memory was left, and what was done of the log stays done.
 pub fn sync_replica(
+    alloc: Global,
+    cluster: &mut Cluster,
+    replica: ReplicaId,
+) -> Result<Option<Refusal>, AllocError>
+    requires here { IsNumber replica (length cluster.old.replicas) }
+    requires idle { IsIdle cluster.old replica }
+    ensures syncs { IfOk result (λ refused. SyncsReplica cluster.old replica refused cluster.new) }
+    ensures table { IfOk result (λ _. cluster.new.table ≡ cluster.old.table) }
+    ensures idle { IfOk result (λ _. IsIdle cluster.new replica) }
+    ensures ups { IfOk result (λ _. ups cluster.new ≡ ups cluster.old) }
+    ensures schema { cluster.new.table.schema ≡ cluster.old.table.schema }
+    ensures replicas { length cluster.new.replicas ≡ length cluster.old.replicas }
+{
+    // What always holds of a cluster is known here.
+    cluster.drained_replicas_agree();
+    match cluster.sync(alloc, replica) {
+        Ok(()) => Ok(None),
+        Err(error) => refusal_of(&error),
+    }
+}
+
+/// Brings a replica up to date that has done each Get of the log. At an error no memory was left, and what was done of the log
+/// stays done.
+pub(crate) fn catch_up(
     alloc: Global,
     cluster: &mut Cluster,
     replica: ReplicaId,
 ) -> Result<(), AllocError>
     requires here { IsNumber replica (length cluster.old.replicas) }
-    requires idle { IsIdle cluster.old }
-    ensures syncs { OnOk result ((t : TableState) → Shows cluster.old t
-        → Shows cluster.new (synced replica t)) }
-    ensures whole { OnOk result (IsUpToDate cluster.new replica) }
+    requires idle { IsIdle cluster.old replica }
+    requires gets { HasDoneGets cluster.old replica }
+    ensures syncs { OnOk result (IsSynced cluster.old replica cluster.new) }
     ensures table { OnOk result (cluster.new.table ≡ cluster.old.table) }
-    ensures idle { OnOk result (IsIdle cluster.new) }
+    ensures idle { OnOk result (IsIdle cluster.new replica) }
+    ensures ups { OnOk result (ups cluster.new ≡ ups cluster.old) }
     ensures schema { cluster.new.table.schema ≡ cluster.old.table.schema }
     ensures replicas { length cluster.new.replicas ≡ length cluster.old.replicas }
 {

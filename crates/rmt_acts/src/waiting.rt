@@ -5,11 +5,11 @@ ghost use Rattle.rmt_model.specs.Live.{live};
 ghost use Rattle.rmt_model.specs.Lawful.{mutation_count};
 ghost use Rattle.rmt_cluster.specs.Clusters.{IsNumber};
 ghost use Rattle.rmt_events.specs.LogEvents.{IsMutable};
-ghost use Rattle.rmt_statement_model.specs.Shows.{IsIdle, IsUpToDate};
+ghost use Rattle.rmt_statement_model.specs.Shows.{IsIdle, IsUpToDate, ups};
 ghost use Rattle.rmt_acts.specs.Waiting.{IsPlaceOf, MutatesOne, Settles, WaitsTo};
 
 use crate::reading::all_mutations;
-use crate::syncing::sync_replica;
+use crate::syncing::{catch_up, sync_replica};
 use rmt_cluster::Cluster;
 use rmt_events::{Event, Reply, StepRefused};
 use rmt_history::LogCopy;
@@ -39,18 +39,19 @@ fn mutate_part(
     upto: u32,
 ) -> Result<Option<Refusal>, AllocError>
     requires here { IsNumber replica (length cluster.old.replicas) }
-    requires idle { IsIdle cluster.old }
+    requires idle { IsIdle cluster.old replica }
     requires whole { IsUpToDate cluster.old replica }
     requires mutable { IsMutable cluster.old.table.log old upto }
     ensures mutates { IfOk result (λ refused. MutatesOne cluster.old replica old upto refused cluster.new) }
-    ensures idle { IfOk result (λ _. IsIdle cluster.new) }
+    ensures idle { IfOk result (λ _. IsIdle cluster.new replica) }
+    ensures ups { IfOk result (λ _. ups cluster.new ≡ ups cluster.old) }
     ensures schema { cluster.new.table.schema ≡ cluster.old.table.schema }
     ensures replicas { length cluster.new.replicas ≡ length cluster.old.replicas }
 {
     let reply = cluster.step(alloc, Event::Mutate { replica, old, upto })?;
     match reply {
         Reply::Entry(_) => {
-            sync_replica(alloc, cluster, replica)?;
+            catch_up(alloc, cluster, replica)?;
             Ok(None)
         }
         Reply::Refused(why) => match why {
@@ -73,12 +74,13 @@ fn settle_part(
     place: usize,
 ) -> Result<Option<Refusal>, AllocError>
     requires here { IsNumber replica (length cluster.old.replicas) }
-    requires idle { IsIdle cluster.old }
+    requires idle { IsIdle cluster.old replica }
     requires whole { IsUpToDate cluster.old replica }
     requires is_live { Has (live cluster.old.table.log) part }
     requires below { place < length cluster.old.table.log }
     ensures settles { IfOk result (λ refused. Settles cluster.old replica part place refused cluster.new) }
-    ensures idle { IfOk result (λ _. IsIdle cluster.new) }
+    ensures idle { IfOk result (λ _. IsIdle cluster.new replica) }
+    ensures ups { IfOk result (λ _. ups cluster.new ≡ ups cluster.old) }
     ensures schema { cluster.new.table.schema ≡ cluster.old.table.schema }
     ensures replicas { length cluster.new.replicas ≡ length cluster.old.replicas }
 {
@@ -93,8 +95,8 @@ fn settle_part(
 
 /// Waits for a mutation at a replica: one after the other, the live parts for which it, or one before it, is pending are
 /// mutated up to the last such one, the replica brought up to date before and after each. It ends at the first part for which
-/// one more entry would pass a limit, with that refusal; what was mutated stays so. At an error no memory was left, and what
-/// was done stays done.
+/// one more entry would pass a limit, with that refusal, or before all where the replica lacks a part whose source is down; what
+/// was mutated stays so. At an error no memory was left, and what was done stays done.
 pub fn wait_for(
     alloc: Global,
     cluster: &mut Cluster,
@@ -102,14 +104,17 @@ pub fn wait_for(
     id: u32,
 ) -> Result<Option<Refusal>, AllocError>
     requires here { IsNumber replica (length cluster.old.replicas) }
-    requires idle { IsIdle cluster.old }
+    requires idle { IsIdle cluster.old replica }
     requires known { id < mutation_count cluster.old.table.log }
     ensures waits { IfOk result (λ refused. WaitsTo cluster.old replica id refused cluster.new) }
-    ensures idle { IfOk result (λ _. IsIdle cluster.new) }
+    ensures idle { IfOk result (λ _. IsIdle cluster.new replica) }
+    ensures ups { IfOk result (λ _. ups cluster.new ≡ ups cluster.old) }
     ensures schema { cluster.new.table.schema ≡ cluster.old.table.schema }
     ensures replicas { length cluster.new.replicas ≡ length cluster.old.replicas }
 {
-    sync_replica(alloc, cluster, replica)?;
+    if let Some(lacking) = sync_replica(alloc, cluster, replica)? {
+        return Ok(Some(lacking));
+    }
     // What always holds of a cluster is known here.
     cluster.drained_replicas_agree();
     let place = place_of(cluster.copy(replica), id);

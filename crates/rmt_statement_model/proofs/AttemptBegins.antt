@@ -22,7 +22,8 @@ use Rattle.rmt_events.proofs.TableSteps.{lock-new}
 use Rattle.rmt_events.proofs.WholeReplica.{follower}
 use Rattle.rmt_statement_model.specs.TableStates.{TableState, kept_with}
 use Rattle.rmt_statement_model.specs.Inserts.{number_for, with_number, number_limit}
-use Rattle.rmt_statement_model.specs.Shows.{Shows, AllUp}
+use Rattle.rmt_statement_model.specs.Shows.{Shows, ups}
+use Rattle.rmt_statement_model.proofs.UpLaws.{up-told}
 use Rattle.rmt_statement_model.specs.Attempts.{IsAllocateReply, attempt_of, IsOpen}
 use Rattle.rmt_statement_model.proofs.ShownSteps.{kept-shown, number-shown, TellsNoCommit, keeps-stored, shows-next, shows-quiet}
 use Rattle.rmt_events.specs.declared.event.Event.{Event}
@@ -55,11 +56,11 @@ refused-number s r b (rf.LimitReached limit value) h c = tt
 refused-number s r b why h c = absurd c
 
 -- nothing else is answered
-pub allocate-reply : (s u : Cluster) (r : ℕ) (raw : Offered) (reply : Reply) (x : Replica) → IsWhole s → AllUp s → IsNumbered s r x → Step s (ev.Allocate r raw 0) reply u → IsAllocateReply reply
+pub allocate-reply : (s u : Cluster) (r : ℕ) (raw : Offered) (reply : Reply) (x : Replica) → IsWhole s → ups s r ≡ true → IsNumbered s r x → Step s (ev.Allocate r raw 0) reply u → IsAllocateReply reply
 allocate-reply s u r raw reply x w up at k = go k.does
   where
     session : Has s.table.sessions r
-    session = subst (λ j. Has s.table.sessions j) at.number ((Follows.session (follower s r x w at)).0 (Each-at (λ z. z.up ≡ true) s.replicas x up at.is_in))
+    session = subst (λ j. Has s.table.sessions j) at.number ((Follows.session (follower s r x w at)).0 (up-told s r x w at up))
 
     go : Does s (ev.Allocate r raw 0) reply k.after → IsAllocateReply reply
     go (inl d) = subst (λ (y : Reply). IsAllocateReply y) (sym d.answer) tt

@@ -8,11 +8,11 @@ use Rattle.rmt_events.specs.ReplicaCalls.{IsStaged, comes_before, staged_without
 use Rattle.rmt_events.specs.ReplicaCalls as calls
 use Rattle.rmt_events.specs.Clusters.{Attempt, Cluster}
 use Rattle.rmt_events.specs.Whole.{HoldDifferentNumbers, IsWhole}
-use Rattle.rmt_events.specs.ClusterChanges.{IsNumbered}
+use Rattle.rmt_events.specs.ClusterChanges.{IsNumbered, IsDown}
 use Rattle.rmt_events.specs.InsertEvents.{StagesAttempt, NoStage}
 use Rattle.rmt_events.specs.Steps.{Does, Step}
 use Rattle.rmt_statement_model.specs.TableStates.{TableState}
-use Rattle.rmt_statement_model.specs.Shows.{Shows, AllUp}
+use Rattle.rmt_statement_model.specs.Shows.{Shows, ups}
 use Rattle.rmt_statement_model.specs.Attempts.{attempt_of, IsOpen, IsStagedAt}
 use Rattle.rmt_statement_model.proofs.Replaced.{numbered-new}
 use Rattle.rmt_statement_model.proofs.UpLaws.{not-down}
@@ -45,10 +45,12 @@ block-new z (y ∷ ys) = go (comes_before y z) (block-new z ys)
     go false h = inl refl
 
 -- nothing keeps the block of an open attempt from being staged at a replica that is up
-refused-stage : (s : Cluster) (id r : ℕ) (b : Block) (n : ℕ) (why : StepRefused) → AllUp s → IsOpen s id r b n → NoStage s id why → ⊥
-refused-stage s id r b n rf.NoAttempt up o c = c (attempt_of id r b n) (record { is_in = o.there; id_is = refl })
-refused-stage s id r b n rf.Down up o c = not-down s (Attempt.replica c.0) up c.2
-refused-stage s id r b n why up o c = c
+refused-stage : (s : Cluster) (id r : ℕ) (b : Block) (n : ℕ) (why : StepRefused) → IsWhole s → ups s r ≡ true → IsOpen s id r b n → NoStage s id why → ⊥
+refused-stage s id r b n rf.NoAttempt w up o c = c (attempt_of id r b n) (record { is_in = o.there; id_is = refl })
+refused-stage s id r b n rf.Down w up o c =
+    let q = one-attempt s c.0 (attempt_of id r b n) w c.1.is_in o.there c.1.id_is in
+    not-down s r w up (subst (λ j. IsDown s j) (ap (λ (x : Attempt). x.replica) q) c.2)
+refused-stage s id r b n why w up o c = c
 
 -- the attempt is open still, and its block is staged
 stages : (s u : Cluster) (id r : ℕ) (b : Block) (n : ℕ) (reply : Reply) → IsOpen s id r b n → (k : Step s (ev.Stage id) reply u) → (d : StagesAttempt s id reply k.after) → d.attempt ≡ attempt_of id r b n → IsReady u id r b n
@@ -73,7 +75,7 @@ stages s u id r b n reply o k d q =
     staged-are = ap (λ (z : Replica). z.staged) d.at.does ∙ ap (λ (x : Attempt). staged_with d.at.old.staged x.number x.block) q
 
 -- the block is staged, and what is shown stays
-pub staged : (s u : Cluster) (id r : ℕ) (b : Block) (n : ℕ) (reply : Reply) → IsWhole s → AllUp s → IsOpen s id r b n → Step s (ev.Stage id) reply u → (reply ≡ rp.Done) × IsReady u id r b n × ((t : TableState) → Shows s t → Shows u t)
+pub staged : (s u : Cluster) (id r : ℕ) (b : Block) (n : ℕ) (reply : Reply) → IsWhole s → ups s r ≡ true → IsOpen s id r b n → Step s (ev.Stage id) reply u → (reply ≡ rp.Done) × IsReady u id r b n × ((t : TableState) → Shows s t → Shows u t)
 staged s u id r b n reply w up o k = go k.does
   where
     go : Does s (ev.Stage id) reply k.after → (reply ≡ rp.Done) × IsReady u id r b n × ((t : TableState) → Shows s t → Shows u t)
@@ -82,4 +84,4 @@ staged s u id r b n reply w up o k = go k.does
       stages s u id r b n reply o k d (one-attempt s d.attempt (attempt_of id r b n) w d.is.is_in o.there d.is.id_is),
       λ t h. shows-quiet s u (ev.Stage id) reply t w k (ap (λ (x : Cluster). x.table) d.at.change) (ap (λ (x : Cluster). x.events) d.at.change) (λ xs i. refl) h,
     )
-    go (inr d) = absurd (refused-stage s id r b n d.why up o d.cause)
+    go (inr d) = absurd (refused-stage s id r b n d.why w up o d.cause)

@@ -1,5 +1,5 @@
 -- A replica pulls the log and looks at an entry of it: why it goes so, and what the cluster shows then.
-use Rattle.std.proofs.Common.{◌≡◌, ℕ, ◌⊎◌, inl, inr, List, length, refl, sym, ap, subst, arith, ◌∙◌}
+use Rattle.std.proofs.Common.{◌≡◌, ℕ, ◌⊎◌, inl, inr, true, List, length, refl, sym, ap, subst, arith, ◌∙◌}
 use Rattle.std.specs.declared.option.Option.{Option}
 use Rattle.std.specs.declared.option.Option.TheVariants.{Some}
 use Rattle.rmt_names.specs.Names.{Name}
@@ -18,7 +18,7 @@ use Rattle.rmt_events.specs.Steps.{PullsLog, NoPull, Does, Step}
 use Rattle.rmt_events.proofs.WholeTries.{one-replica}
 use Rattle.rmt_events.proofs.Drains.{nat-same}
 use Rattle.rmt_statement_model.specs.TableStates.{TableState, learned}
-use Rattle.rmt_statement_model.specs.Shows.{Shows, AllUp}
+use Rattle.rmt_statement_model.specs.Shows.{Shows, ups}
 use Rattle.rmt_statement_model.specs.Attempts.{IsStagedAt, IsAccepted}
 use Rattle.rmt_statement_model.proofs.Replaced.{has-kept, numbered-still, numbered-new}
 use Rattle.rmt_statement_model.proofs.KnowsLaws.{learns-step}
@@ -73,9 +73,9 @@ quiet-shows s u e reply w q st t h = absurd q
 -- ---- the log is pulled
 
 -- a replica that is up isn't refused
-refused-pull : (s : Cluster) (k : ℕ) (why : StepRefused) → AllUp s → NoPull s k why → ⊥
-refused-pull s k rf.Down up c = not-down s k up c
-refused-pull s k why up c = c
+refused-pull : (s : Cluster) (k : ℕ) (why : StepRefused) → IsWhole s → ups s k ≡ true → NoPull s k why → ⊥
+refused-pull s k rf.Down w up c = not-down s k w up c
+refused-pull s k why w up c = c
 
 -- the replica has the whole log then
 whole-log : (s u : Cluster) (k : ℕ) (reply : Reply) → (st : Step s (ev.Pull k) reply u) → PullsLog s k reply st.after → HasWholeLog u k
@@ -87,12 +87,12 @@ whole-log s u k reply st d =
     }
 
 -- the log is pulled, and what is shown stays
-pub pulled : (s u : Cluster) (k : ℕ) (x : Replica) (reply : Reply) → IsWhole s → AllUp s → IsNumbered s k x → Step s (ev.Pull k) reply u → IsPulled reply × HasWholeLog u k × ((t : TableState) → Shows s t → Shows u t)
+pub pulled : (s u : Cluster) (k : ℕ) (x : Replica) (reply : Reply) → IsWhole s → ups s k ≡ true → IsNumbered s k x → Step s (ev.Pull k) reply u → IsPulled reply × HasWholeLog u k × ((t : TableState) → Shows s t → Shows u t)
 pulled s u k x reply w up at st = go st.does
   where
     go : Does s (ev.Pull k) reply st.after → IsPulled reply × HasWholeLog u k × ((t : TableState) → Shows s t → Shows u t)
     go (inl d) = (subst (λ (y : Reply). IsPulled y) (sym d.answer) tt, whole-log s u k reply st d, λ t h. quiet-shows s u (ev.Pull k) reply w tt st t h)
-    go (inr d) = absurd (refused-pull s k d.why up d.cause)
+    go (inr d) = absurd (refused-pull s k d.why w up d.cause)
 
 -- what is staged at a replica stays staged
 staged-pulls : (s u : Cluster) (k r : ℕ) (b : Block) (n : ℕ) (reply : Reply) → IsWhole s → IsStagedAt s r b n → (st : Step s (ev.Pull k) reply u) → PullsLog s k reply st.after → IsStagedAt u r b n
@@ -159,8 +159,8 @@ own-entry s place r b n x e w a l k =
     some-same e (Get b.partition n b.digest r 0) (sym k.at ∙ (ap (λ (y : List Entry). entry_at y place) (own-log s r x w l k.is.at) ∙ a.entry))
 
 -- a block that is accepted and staged is done at its replica
-refused-apply : (s : Cluster) (place r : ℕ) (b : Block) (n : ℕ) (why : StepRefused) → IsWhole s → AllUp s → IsAccepted s place r b n → HasWholeLog s r → NoApply s r place why → ⊥
-refused-apply s place r b n rf.Down w up a l c = not-down s r up c
+refused-apply : (s : Cluster) (place r : ℕ) (b : Block) (n : ℕ) (why : StepRefused) → IsWhole s → ups s r ≡ true → IsAccepted s place r b n → HasWholeLog s r → NoApply s r place why → ⊥
+refused-apply s place r b n rf.Down w up a l c = not-down s r w up c
 refused-apply s place r b n rf.NotLive w up a l c =
     let e = ap (λ (y : List Entry). length y) (own-log s r c.0 w l c.1.at) in
     let m = c.2 in
@@ -173,7 +173,7 @@ refused-apply s place r b n rf.FetchesStopped w up a l c =
 refused-apply s place r b n why w up a l c = c
 
 -- the entry of the block is looked at
-pub apply-reply : (s u : Cluster) (place r : ℕ) (b : Block) (n : ℕ) (reply : Reply) → IsWhole s → AllUp s → IsAccepted s place r b n → HasWholeLog s r → Step s (ev.Apply r place) reply u → IsApplied reply
+pub apply-reply : (s u : Cluster) (place r : ℕ) (b : Block) (n : ℕ) (reply : Reply) → IsWhole s → ups s r ≡ true → IsAccepted s place r b n → HasWholeLog s r → Step s (ev.Apply r place) reply u → IsApplied reply
 apply-reply s u place r b n reply w up a l st = go st.does
   where
     go : Does s (ev.Apply r place) reply st.after → IsApplied reply

@@ -22,7 +22,7 @@ use Rattle.rmt_events.proofs.WholeTries.{one-replica}
 use Rattle.rmt_reply.specs.declared.refusal.Refusal.TheVariants.{LimitReached}
 use Rattle.rmt_statement_model.specs.TableStates.{TableState, learned}
 use Rattle.rmt_statement_model.specs.Drops.{with_drop, Drops, DropsNothing, LacksDrop}
-use Rattle.rmt_statement_model.specs.Shows.{Shows, AllUp, Leads}
+use Rattle.rmt_statement_model.specs.Shows.{Shows, ups, Leads}
 use Rattle.rmt_statement_model.proofs.UpLaws.{not-down}
 use Rattle.rmt_statement_model.proofs.ShownSteps.{shows-quiet}
 use Rattle.rmt_statement_model.proofs.AttemptSteps.{HasWholeLog, IsApplied, quiet-shows, applied-shows}
@@ -149,8 +149,8 @@ own-entry : (s : Cluster) (r place : ℕ) (p : Option ℕ) (n : ℕ) (x : Replic
 own-entry s r place p n x e w l q k = some-same e (DropRange p n) (sym k.at ∙ (ap (λ (y : List Entry). entry_at y place) (own-log s r x w l k.is.at) ∙ q))
 
 -- nothing keeps a drop in the copy of a replica that is up from being done
-refused-apply : (s : Cluster) (r place : ℕ) (p : Option ℕ) (n : ℕ) (why : StepRefused) → IsWhole s → AllUp s → HasWholeLog s r → entry_at s.table.log place ≡ Some (DropRange p n) → NoApply s r place why → ⊥
-refused-apply s r place p n rf.Down w up l q c = not-down s r up c
+refused-apply : (s : Cluster) (r place : ℕ) (p : Option ℕ) (n : ℕ) (why : StepRefused) → IsWhole s → ups s r ≡ true → HasWholeLog s r → entry_at s.table.log place ≡ Some (DropRange p n) → NoApply s r place why → ⊥
+refused-apply s r place p n rf.Down w up l q c = not-down s r w up c
 refused-apply s r place p n rf.NotLive w up l q c =
     let e = ap (λ (y : List Entry). length y) (own-log s r c.0 w l c.1.at) in
     let m = c.2 in
@@ -161,7 +161,7 @@ refused-apply s r place p n rf.FetchesStopped w up l q c = subst (λ (y : Entry)
 refused-apply s r place p n why w up l q c = c
 
 -- the entry of a drop is looked at by a replica that is up and has the whole log
-pub drop-applied : (s u : Cluster) (r place : ℕ) (p : Option ℕ) (n : ℕ) (reply : Reply) → IsWhole s → AllUp s → HasWholeLog s r → entry_at s.table.log place ≡ Some (DropRange p n) → Step s (ev.Apply r place) reply u → IsApplied reply
+pub drop-applied : (s u : Cluster) (r place : ℕ) (p : Option ℕ) (n : ℕ) (reply : Reply) → IsWhole s → ups s r ≡ true → HasWholeLog s r → entry_at s.table.log place ≡ Some (DropRange p n) → Step s (ev.Apply r place) reply u → IsApplied reply
 drop-applied s u r place p n reply w up l q st = go st.does
   where
     go : Does s (ev.Apply r place) reply st.after → IsApplied reply

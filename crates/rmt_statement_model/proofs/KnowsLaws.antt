@@ -1,5 +1,5 @@
 -- What is known at replicas stays known under each event; an entry that was looked at is known then.
-use Rattle.std.proofs.Common.{◌≡◌, ℕ, ◌≤◌, ◌⊎◌, inl, inr, ◌&&◌, ◌||◌, Bool, true, false, List, length, refl, sym, ap, subst, arith, nat_eq, nat_lt}
+use Rattle.std.proofs.Common.{◌≡◌, ℕ, ◌<◌, ◌≤◌, ◌⊎◌, inl, inr, ◌&&◌, ◌||◌, Bool, true, false, List, length, refl, sym, ap, subst, arith, nat_eq, nat_lt}
 use Rattle.std.proofs.lemmas.Bool.Decides.{nat_tests}
 use Rattle.rmt_entries.specs.declared.entry.Entry.{Entry}
 use Rattle.rmt_model.specs.Words.{Has}
@@ -124,15 +124,12 @@ learns-step s t k i comes known w d f = subst (λ (u : Cluster). EachKnows u (le
     looked (inl a) = applies-known s d.after k i (rp.Applied comes) known w a f
     looked (inr a) = let e = a.answer in absurd (cc)
 
--- ---- a drained replica
+-- ---- a replica that has done its first entries
 
--- all is known at a replica that has the whole log, and has done all of it
-pub drained-known : (s : Cluster) (x : Replica) (known : ℕ → ℕ → Bool) → IsWhole s → Has s.replicas x → x.log ≡ s.table.log → IsDrained x → EachKnows s known → EachKnows s (learned_to known x.number (length s.table.log))
-drained-known s x known w h e d f z i = go (nat-same z.number x.number)
+-- these are known there
+pub done-known : (s : Cluster) (x : Replica) (known : ℕ → ℕ → Bool) (len : ℕ) → IsWhole s → Has s.replicas x → len ≤ length x.log → ((j : ℕ) → j < len → done_at x.done j ≡ true) → EachKnows s known → EachKnows s (learned_to known x.number len)
+done-known s x known len w h b d f z i = go (nat-same z.number x.number)
   where
-    is-len : length x.log ≡ length s.table.log
-    is-len = ap (λ (l : List Entry). length l) e
-
     not-below : (j n : ℕ) → n ≤ j → nat_lt j n ≡ false
     not-below j n q = grind (arith, nat_tests)
 
@@ -149,12 +146,12 @@ drained-known s x known w h e d f z i = go (nat-same z.number x.number)
     neither true b p q = absurd (cc)
     neither false true p q = absurd (cc)
 
-    -- the replica itself knows all
-    here : Knows x (λ j. nat_lt j (length s.table.log) || known x.number j)
+    -- the replica itself knows them
+    here : Knows x (λ j. nat_lt j len || known x.number j)
     here = record {
-      within = λ j l. neither (nat_lt j (length s.table.log)) (known x.number j) (not-below j (length s.table.log) (omega (arith, l, is-len))) ((f x h).within j l);
-      fair = fair-fewer x.log (λ j. nat_lt j (length s.table.log) || known x.number j) (λ j. known x.number j || done_at x.done j) (names_of x.parts)
-          (λ j l q. either (nat_lt j (length s.table.log)) (known x.number j) (done_at x.done j) q (λ b. d j l))
+      within = λ j l. neither (nat_lt j len) (known x.number j) (not-below j len (omega (arith, l, b))) ((f x h).within j l);
+      fair = fair-fewer x.log (λ j. nat_lt j len || known x.number j) (λ j. known x.number j || done_at x.done j) (names_of x.parts)
+          (λ j l q. either (nat_lt j len) (known x.number j) (done_at x.done j) q (λ c. d j (let u : j < len = grind (arith, nat_tests) in u)))
           (fair-both x.log (known x.number) (done_at x.done) (names_of x.parts) (f x h).fair (IsStanding.fair (Follows.stands (Each-at (Follows s) s.replicas x w.follow h))));
     }
 
@@ -166,16 +163,22 @@ drained-known s x known w h e d f z i = go (nat-same z.number x.number)
     drops-all true b c q r = absurd (cc)
     drops-all false b c q r = r
 
-    go : (z.number ≡ x.number) ⊎ (z.number ≡ x.number → ⊥) → Knows z (learned_to known x.number (length s.table.log) z.number)
+    go : (z.number ≡ x.number) ⊎ (z.number ≡ x.number → ⊥) → Knows z (learned_to known x.number len z.number)
     go (inl q) =
         let t : x ≡ z = one-replica s x z w h i (sym q) in
         let n : nat_eq z.number x.number ≡ true = grind (arith, nat_tests) in
-        knows-fewer z (λ j. nat_lt j (length s.table.log) || known z.number j) (learned_to known x.number (length s.table.log) z.number) (λ j r. drops-left (nat_eq z.number x.number) (nat_lt j (length s.table.log)) (known z.number j) n r)
-        (subst (λ (v : Replica). Knows v (λ j. nat_lt j (length s.table.log) || known v.number j)) t here)
+        knows-fewer z (λ j. nat_lt j len || known z.number j) (learned_to known x.number len z.number) (λ j r. drops-left (nat_eq z.number x.number) (nat_lt j len) (known z.number j) n r)
+        (subst (λ (v : Replica). Knows v (λ j. nat_lt j len || known v.number j)) t here)
     go (inr q) =
         let n : nat_eq z.number x.number ≡ false = other (nat_eq z.number x.number) refl q in
-        knows-fewer z (known z.number) (learned_to known x.number (length s.table.log) z.number) (λ j r. drops-all (nat_eq z.number x.number) (nat_lt j (length s.table.log)) (known z.number j) n r) (f z i)
+        knows-fewer z (known z.number) (learned_to known x.number len z.number) (λ j r. drops-all (nat_eq z.number x.number) (nat_lt j len) (known z.number j) n r) (f z i)
       where
         other : (b : Bool) → nat_eq z.number x.number ≡ b → (z.number ≡ x.number → ⊥) → b ≡ false
         other false e n = refl
         other true e n = absurd (n (let u : z.number ≡ x.number = grind (arith, nat_tests) in u))
+
+-- all is known at a replica that has the whole log, and has done all of it
+pub drained-known : (s : Cluster) (x : Replica) (known : ℕ → ℕ → Bool) → IsWhole s → Has s.replicas x → x.log ≡ s.table.log → IsDrained x → EachKnows s known → EachKnows s (learned_to known x.number (length s.table.log))
+drained-known s x known w h e d f =
+    let n = ap (λ (l : List Entry). length l) e in
+    done-known s x known (length s.table.log) w h (omega (arith, n)) (λ j l. d j (omega (arith, l, n))) f

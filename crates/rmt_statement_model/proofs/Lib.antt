@@ -9,6 +9,7 @@ pub mod AttemptCommits
 pub mod AttemptSteps
 pub mod ReadLaws
 pub mod SyncLaws
+pub mod LostSourceLaws
 pub mod InsertRows
 pub mod LockSteps
 pub mod RestartRows

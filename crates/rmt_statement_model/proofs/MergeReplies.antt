@@ -46,8 +46,8 @@ whole-copy : (s : Cluster) (k : ℕ) (x : Replica) → IsWhole s → IsUpToDate 
 whole-copy s k x w d y = ap (λ (z : Replica). z.log) (one-replica s x d.replica w y.at.is_in d.at.is_in (y.at.number ∙ sym d.at.number)) ∙ d.whole
 
 -- where no insert is under way and the copy is whole, a merge of names that can be merged isn't refused otherwise
-refused-merge : (s : Cluster) (k : ℕ) (first second : Name) (rest : List Name) (why : StepRefused) → IsWhole s → IsIdle s → IsUpToDate s k → AreMergeable s.table.log (first ∷ second ∷ rest) → NoMerge s k (first ∷ second ∷ rest) why → IsMergeReply (rp.Refused why)
-refused-merge s k first second rest rf.Down w i d m c = absurd (not-down s k i.up c)
+refused-merge : (s : Cluster) (k : ℕ) (first second : Name) (rest : List Name) (why : StepRefused) → IsWhole s → IsIdle s k → IsUpToDate s k → AreMergeable s.table.log (first ∷ second ∷ rest) → NoMerge s k (first ∷ second ∷ rest) why → IsMergeReply (rp.Refused why)
+refused-merge s k first second rest rf.Down w i d m c = absurd (not-down s k w i.up c)
 refused-merge s k first second rest rf.NotLive w i d m c = absurd (c.2 (subst (λ (l : List Entry). AreMergeable l (first ∷ second ∷ rest)) (sym (whole-copy s k c.0 w d c.1)) m))
 refused-merge s k first second rest (rf.LogMoved seen found) w i d m c =
     let e : length c.0.log ≡ length s.table.log = ap (λ (l : List Entry). length l) (whole-copy s k c.0 w d c.1) in
@@ -58,7 +58,7 @@ refused-merge s k first second rest (rf.LimitReached limit value) w i d m c = tt
 refused-merge s k first second rest why w i d m c = absurd c
 
 -- nothing else is answered
-pub merge-reply : (s u : Cluster) (k : ℕ) (p : Option ℕ) (first second : Name) (rest : List Name) (reply : Reply) → IsWhole s → IsIdle s → IsUpToDate s k → live_of s.table.log p ≡ first ∷ second ∷ rest → Step s (ev.Merge k (first ∷ second ∷ rest)) reply u → IsMergeReply reply
+pub merge-reply : (s u : Cluster) (k : ℕ) (p : Option ℕ) (first second : Name) (rest : List Name) (reply : Reply) → IsWhole s → IsIdle s k → IsUpToDate s k → live_of s.table.log p ≡ first ∷ second ∷ rest → Step s (ev.Merge k (first ∷ second ∷ rest)) reply u → IsMergeReply reply
 merge-reply s u k p first second rest reply w i d e step = go step.does
   where
     go : Does s (ev.Merge k (first ∷ second ∷ rest)) reply step.after → IsMergeReply reply

@@ -16,8 +16,8 @@ use Rattle.rmt_events.specs.Draws.{turn, Runs}
 use Rattle.rmt_events.proofs.WholeSteps.{whole-step}
 use Rattle.rmt_statement_model.specs.TableStates.{TableState}
 use Rattle.rmt_statement_model.specs.BackgroundWork.{IsOfWorker, Works}
-use Rattle.rmt_statement_model.specs.Shows.{Shows, Leads, IsIdle}
-use Rattle.rmt_statement_model.proofs.UpLaws.{up-step}
+use Rattle.rmt_statement_model.specs.Shows.{Shows, Leads, HoldsNone, ups}
+use Rattle.rmt_statement_model.proofs.UpLaws.{ups-step}
 use Rattle.rmt_statement_model.proofs.ShownSteps.{TellsNoCommit, shows-quiet}
 use Rattle.rmt_statement_model.proofs.AttemptSteps.{quiet-shows}
 use Rattle.rmt_statement_model.proofs.LockSteps.{none-held}
@@ -123,7 +123,7 @@ mutate-move s u k part upto reply w st t h = go st.does
     go (inr d) = declined-move s u (ev.Mutate k part upto) reply _ w st d (λ xs i. refl) t h
 
 -- what such an event does to the table
-turn-move : (s u : Cluster) (e : Event) (reply : Reply) → IsWhole s → IsOfTurn e → Step s e reply u → (t : TableState) → Shows s t → Leads u (Works t)
+turn-move : (s u : Cluster) (e : Event) (reply : Reply) → IsWhole s → IsOfTurn (ups s) e → Step s e reply u → (t : TableState) → Shows s t → Leads u (Works t)
 turn-move s u (ev.Pull k) reply w q st t h = still s u t w h (quiet-shows s u (ev.Pull k) reply w tt st t h)
 turn-move s u (ev.Apply k i) reply w q st t h = still s u t w h (quiet-shows s u (ev.Apply k i) reply w tt st t h)
 turn-move s u (ev.Merge k names) reply w q st t h = merge-move s u k names reply w st t h
@@ -143,16 +143,19 @@ pub run-row : (s u : Cluster) (seed n x : ℕ) → IsWhole s → Runs s seed n u
 run-row s u seed zero x w r t h = still s u t w h (subst (λ (y : Cluster). Shows y t) (sym r.0) h)
 run-row s u seed (suc n) x w r t h =
     let f = run-row s r.0 seed n r.1 w r.3 t h in
-    let g = turn-move r.0 u (turn r.0 r.1).event r.2 (run-whole s r.0 seed n r.1 w r.3) (turn-is r.0 r.1) r.4 f.state f.shows in
+    let g = turn-move r.0 u (turn r.0 r.1).event r.2 (run-whole s r.0 seed n r.1 w r.3) (turn-is r.0 r.1 (run-whole s r.0 seed n r.1 w r.3)) r.4 f.state f.shows in
     record { state = g.state; holds = works-then t f.state g.state f.holds g.holds; shows = g.shows }
 
--- an idle cluster is idle after it
-pub run-idle : (s u : Cluster) (seed n x : ℕ) → Runs s seed n u x → IsIdle s → IsIdle u
-run-idle s u seed zero x r i = subst IsIdle (sym r.0) i
-run-idle s u seed (suc n) x r i =
-    let f = run-idle s r.0 seed n r.1 r.3 i in
+-- no insert gets under way
+pub run-free : (s u : Cluster) (seed n x : ℕ) → IsWhole s → Runs s seed n u x → HoldsNone s → HoldsNone u
+run-free s u seed zero x w r i = subst HoldsNone (sym r.0) i
+run-free s u seed (suc n) x w r i =
+    none-held r.0 u (turn r.0 r.1).event r.2 (turn-locks (ups r.0) (turn r.0 r.1).event (turn-is r.0 r.1 (run-whole s r.0 seed n r.1 w r.3))) r.4 (run-free s r.0 seed n r.1 w r.3 i)
+
+-- the same replicas are up
+pub run-ups : (s u : Cluster) (seed n x : ℕ) → IsWhole s → Runs s seed n u x → ups u ≡ ups s
+run-ups s u seed zero x w r = ap ups r.0
+run-ups s u seed (suc n) x w r =
+    let m = run-whole s r.0 seed n r.1 w r.3 in
     let e = (turn r.0 r.1).event in
-    record {
-      up = up-step r.0 u e r.2 (turn-sessions e (turn-is r.0 r.1)) r.4 f.up;
-      free = none-held r.0 u e r.2 (turn-locks e (turn-is r.0 r.1)) r.4 f.free;
-    }
+    ups-step r.0 u e r.2 m (turn-sessions (ups r.0) e (turn-is r.0 r.1 m)) r.4 ∙ run-ups s r.0 seed n r.1 w r.3

@@ -1,5 +1,5 @@
 -- What a replica does with its log leaves shown what is shown, and one that has done all of it knows the whole log.
-use Rattle.std.proofs.Common.{◌≡◌, ◌∙◌, ℕ, inl, inr, List, [], ◌∷◌, length, sym, ap, subst}
+use Rattle.std.proofs.Common.{◌≡◌, ◌∙◌, ℕ, inl, inr, Bool, List, [], ◌∷◌, length, sym, ap, subst}
 use Rattle.rmt_entries.specs.declared.entry.Entry.{Entry}
 use Rattle.rmt_model.specs.Words.{Each}
 use Rattle.rmt_events.specs.Clusters.{Cluster}
@@ -10,26 +10,26 @@ use Rattle.rmt_events.specs.declared.event.Event.{Event}
 use Rattle.rmt_events.specs.declared.event.Event.TheVariants as ev
 use Rattle.rmt_events.specs.declared.reply.Reply.{Reply}
 use Rattle.rmt_statement_model.specs.TableStates.{TableState, learned_to, synced}
-use Rattle.rmt_statement_model.specs.Shows.{EachKnows, Shows, AllUp, IsUpToDate}
+use Rattle.rmt_statement_model.specs.Shows.{EachKnows, Shows, ups, IsUpToDate}
 use Rattle.rmt_statement_model.proofs.KnowsLaws.{drained-known}
 use Rattle.rmt_statement_model.proofs.AttemptSteps.{IsPullOrApply, quiet-shows}
-use Rattle.rmt_statement_model.proofs.UpLaws.{KeepsSessions, up-step}
+use Rattle.rmt_statement_model.proofs.UpLaws.{KeepsSessions, ups-step}
 
 -- pulls and applied entries leave shown what is shown
 pub after-shows : (s u : Cluster) (events : List (Event × Reply)) → IsWhole s → After s events u → Each (λ x. IsPullOrApply x.0) events → (t : TableState) → Shows s t → Shows u t
 after-shows s u [] w a p t h = subst (λ (x : Cluster). Shows x t) (sym a) h
 after-shows s u (x ∷ rest) w a p t h = quiet-shows a.0 u x.0 x.1 (whole-after s a.0 rest w a.1) p.0 a.2 t (after-shows s a.0 rest w a.1 p.1 t h)
 
--- no session ends by them
-keeps-sessions : (e : Event) → IsPullOrApply e → KeepsSessions e
-keeps-sessions (ev.Pull k) q = tt
-keeps-sessions (ev.Apply k i) q = tt
-keeps-sessions e q = absurd q
+-- no session ends by them, and none begins
+keeps-sessions : (up : ℕ → Bool) (e : Event) → IsPullOrApply e → KeepsSessions up e
+keeps-sessions up (ev.Pull k) q = tt
+keeps-sessions up (ev.Apply k i) q = tt
+keeps-sessions up e q = absurd q
 
--- nor does a replica go down
-pub after-up : (s u : Cluster) (events : List (Event × Reply)) → After s events u → Each (λ x. IsPullOrApply x.0) events → AllUp s → AllUp u
-after-up s u [] a p h = subst AllUp (sym a) h
-after-up s u (x ∷ rest) a p h = up-step a.0 u x.0 x.1 (keeps-sessions x.0 p.0) a.2 (after-up s a.0 rest a.1 p.1 h)
+-- the same replicas are up
+pub after-ups : (s u : Cluster) (events : List (Event × Reply)) → IsWhole s → After s events u → Each (λ x. IsPullOrApply x.0) events → ups u ≡ ups s
+after-ups s u [] w a p = ap ups a
+after-ups s u (x ∷ rest) w a p = ups-step a.0 u x.0 x.1 (whole-after s a.0 rest w a.1) (keeps-sessions (ups a.0) x.0 p.0) a.2 ∙ after-ups s a.0 rest w a.1 p.1
 
 -- a replica that has the whole log and has done all of it knows every place
 pub synced-shows : (u : Cluster) (k : ℕ) (t : TableState) → IsWhole u → IsUpToDate u k → Shows u t → Shows u (synced k t)

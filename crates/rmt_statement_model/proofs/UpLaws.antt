@@ -1,6 +1,8 @@
--- Where every replica is up, each event but Kill leaves every replica up.
-use Rattle.std.proofs.Common.{◌≡◌, ℕ, inl, inr, true, List, refl, sym, ap, subst, ◌∙◌}
-use Rattle.rmt_model.specs.Words.{Each}
+-- Which replicas are up stays so under each event but Kill, and Restart of a replica that is down.
+use Rattle.std.proofs.Common.{◌≡◌, ℕ, ◌<◌, inl, inr, Bool, true, false, cond, List, [], ◌∷◌, refl, sym, ap, subst, ◌∙◌, arith, nat_eq}
+use Rattle.std.proofs.Math.Path.{fun_ext}
+use Rattle.std.proofs.lemmas.Bool.Decides.{nat_tests}
+use Rattle.rmt_model.specs.Words.{Has, Pairwise}
 use Rattle.rmt_model.proofs.Lists.{Each-at}
 use Rattle.rmt_events.specs.Views.{Replica}
 use Rattle.rmt_events.specs.ReplicaCalls.{Settles}
@@ -9,35 +11,90 @@ use Rattle.rmt_events.specs.ClusterChanges.{IsNumbered, AtReplica, IsDown}
 use Rattle.rmt_events.specs.InsertEvents.{EndsAttempt}
 use Rattle.rmt_events.specs.ApplyEvents.{AppliesTo}
 use Rattle.rmt_events.specs.Steps.{Does, Step}
-use Rattle.rmt_events.proofs.Moves.{each-with}
-use Rattle.rmt_statement_model.specs.Shows.{AllUp}
+use Rattle.rmt_events.specs.Whole.{IsWhole}
+use Rattle.rmt_events.proofs.Supplies.{number-applies}
+use Rattle.rmt_statement_model.specs.Shows.{up_at, ups}
 use Rattle.rmt_events.specs.declared.event.Event.{Event}
 use Rattle.rmt_events.specs.declared.reply.Reply.{Reply}
 use Rattle.rmt_events.specs.declared.applied.Applied.{Applied}
 use Rattle.rmt_events.specs.declared.event.Event.TheVariants as ev
 use Rattle.rmt_events.specs.declared.applied.Applied.TheVariants as ap_
 
--- the event ends no session
-abbrev pub KeepsSessions : Event → Type 0
-KeepsSessions (ev.Kill k) = ⊥
-KeepsSessions e = Unit {0}
+-- ---- which replicas are up
+
+same-number : (i j : ℕ) → i ≡ j → nat_eq i j ≡ true
+same-number i j e = grind (arith, nat_tests)
+
+other-number : (i j : ℕ) → (i ≡ j → ⊥) → nat_eq i j ≡ false
+other-number i j n = go (nat_eq i j) refl
+  where
+    go : (b : Bool) → nat_eq i j ≡ b → b ≡ false
+    go false e = refl
+    go true e = absurd (n (let u : i ≡ j = grind (arith, nat_tests) in u))
+
+-- each replica tells whether that of its number is up
+pub up-of : (xs : List Replica) (x : Replica) → Pairwise (λ a b. a.number < b.number) xs → Has xs x → up_at xs x.number ≡ x.up
+up-of [] x r h = absurd h
+up-of (z ∷ xs) x r (inl e) = rw (same-number z.number x.number (ap (λ (v : Replica). v.number) e)) (ap (λ (v : Replica). v.up) e)
+up-of (z ∷ xs) x r (inr h) =
+    let l = Each-at (λ b. z.number < b.number) xs x r.0 h in
+    rw (other-number z.number x.number (λ e. absurd (omega (arith, l, e)))) (up-of xs x r.1 h)
+
+-- with another one in place of that of a number
+pub up-with : (xs : List Replica) (k j : ℕ) (x y : Replica) → Has xs x → x.number ≡ k → y.number ≡ k → up_at (with_replica xs k y) j ≡ cond (nat_eq k j) y.up (up_at xs j)
+up-with [] k j x y h e f = absurd h
+up-with (z ∷ xs) k j x y h e f = go (nat_eq z.number k) refl h (λ m. up-with xs k j x y m e f)
+  where
+    same : (b : Bool) → nat_eq k j ≡ b → nat_eq z.number k ≡ true → cond (nat_eq y.number j) y.up (up_at xs j) ≡ cond b y.up (cond (nat_eq z.number j) z.up (up_at xs j))
+    same true q r = let u : nat_eq y.number j ≡ true = grind (arith, nat_tests) in rw u refl
+    same false q r = let u : nat_eq y.number j ≡ false = grind (arith, nat_tests) in let v : nat_eq z.number j ≡ false = grind (arith, nat_tests) in rw (u, v) refl
+
+    other : (b d : Bool) → nat_eq k j ≡ b → nat_eq z.number j ≡ d → nat_eq z.number k ≡ false → cond d z.up (cond b y.up (up_at xs j)) ≡ cond b y.up (cond d z.up (up_at xs j))
+    other true true q r n = absurd (grind (arith, nat_tests))
+    other true false q r n = refl
+    other false true q r n = refl
+    other false false q r n = refl
+
+    go : (b : Bool) → nat_eq z.number k ≡ b → Has (z ∷ xs) x → (Has xs x → up_at (with_replica xs k y) j ≡ cond (nat_eq k j) y.up (up_at xs j)) → up_at (cond b (y ∷ xs) (z ∷ with_replica xs k y)) j ≡ cond (nat_eq k j) y.up (cond (nat_eq z.number j) z.up (up_at xs j))
+    go true q m g = same (nat_eq k j) refl q
+    go false q (inl m) g = let u : z.number ≡ k = ap (λ (v : Replica). v.number) m ∙ e in absurd (grind (arith, nat_tests))
+    go false q (inr m) g = ap (λ (b : Bool). cond (nat_eq z.number j) z.up b) (g m) ∙ other (nat_eq k j) (nat_eq z.number j) refl refl q
+
+-- ---- events
+
+-- the event ends no session, and begins none at a replica that is down
+abbrev pub KeepsSessions : (ℕ → Bool) → Event → Type 0
+KeepsSessions up (ev.Kill k) = ⊥
+KeepsSessions up (ev.Restart k) = up k ≡ true
+KeepsSessions up e = Unit {0}
+
+-- each replica is up as before
+abbrev AreUpAsBefore : Cluster → Cluster → Type 0
+AreUpAsBefore s u = (k : ℕ) → ups u k ≡ ups s k
 
 -- the cluster is another one with the same replicas
-up-same : (s u : Cluster) → u.replicas ≡ s.replicas → AllUp s → AllUp u
-up-same s u e f = subst (λ (xs : List Replica). Each (λ x. x.up ≡ true) xs) (sym e) f
+ups-same : (s u : Cluster) → u.replicas ≡ s.replicas → AreUpAsBefore s u
+ups-same s u e k = ap (λ (xs : List Replica). up_at xs k) e
 
--- one replica changes, and is up
-up-replaced : (s u : Cluster) (k : ℕ) (x y : Replica) → u.replicas ≡ with_replica s.replicas k y → IsNumbered s k x → y.up ≡ x.up → AllUp s → AllUp u
-up-replaced s u k x y e at q f =
-    subst (λ (xs : List Replica). Each (λ x. x.up ≡ true) xs) (sym e) (each-with (λ x. x.up ≡ true) s.replicas k y f (q ∙ Each-at (λ x. x.up ≡ true) s.replicas x f at.is_in))
+-- one replica changes, and is up as before
+ups-replaced : (s u : Cluster) (k : ℕ) (x y : Replica) → IsWhole s → u.replicas ≡ with_replica s.replicas k y → IsNumbered s k x → y.number ≡ x.number → y.up ≡ x.up → AreUpAsBefore s u
+ups-replaced s u k x y w e at n q j =
+    ap (λ (xs : List Replica). up_at xs j) e ∙ (up-with s.replicas k j x y at.is_in at.number (n ∙ at.number) ∙ go (nat_eq k j) refl)
+  where
+    is : up_at s.replicas k ≡ x.up
+    is = subst (λ i. up_at s.replicas i ≡ x.up) at.number (up-of s.replicas x w.rising at.is_in)
+
+    go : (b : Bool) → nat_eq k j ≡ b → cond b y.up (up_at s.replicas j) ≡ up_at s.replicas j
+    go true r = q ∙ (sym is ∙ ap (λ i. up_at s.replicas i) (let m : k ≡ j = grind (arith, nat_tests) in m))
+    go false r = refl
 
 -- it alone changes
-up-at : (s u : Cluster) (k : ℕ) (Change : Replica → Replica → Type 0) → (a : AtReplica s k Change u) → a.new.up ≡ a.old.up → AllUp s → AllUp u
-up-at s u k Change a q f = up-replaced s u k a.old a.new (ap (λ (x : Cluster). x.replicas) a.change) a.at q f
+ups-at : (s u : Cluster) (k : ℕ) (Change : Replica → Replica → Type 0) → IsWhole s → (a : AtReplica s k Change u) → a.new.number ≡ a.old.number → a.new.up ≡ a.old.up → AreUpAsBefore s u
+ups-at s u k Change w a n q = ups-replaced s u k a.old a.new w (ap (λ (x : Cluster). x.replicas) a.change) a.at n q
 
 -- an attempt ends
-up-ends : (s u : Cluster) (id : ℕ) → EndsAttempt s id u → AllUp s → AllUp u
-up-ends s u id e f = up-replaced s u e.attempt.replica e.replica e.new (ap (λ (x : Cluster). x.replicas) e.change) e.at (ap (λ (z : Replica). z.up) e.unstages) f
+ups-ends : (s u : Cluster) (id : ℕ) → IsWhole s → EndsAttempt s id u → AreUpAsBefore s u
+ups-ends s u id w e = ups-replaced s u e.attempt.replica e.replica e.new w (ap (λ (x : Cluster). x.replicas) e.change) e.at (ap (λ (z : Replica). z.number) e.unstages) (ap (λ (z : Replica). z.up) e.unstages)
 
 -- an entry is looked at
 up-applies : (s : Cluster) (x y : Replica) (i : ℕ) (comes : Applied) → AppliesTo s i comes x y → y.up ≡ x.up
@@ -47,40 +104,53 @@ up-applies s x y i ap_.Installed (inl a) = ap (λ (z : Replica). z.up) a.1.chang
 up-applies s x y i ap_.Installed (inr a) = ap (λ (z : Replica). z.up) a.does.change
 
 -- what the event does, before it is stored
-up-does : (s u : Cluster) (e : Event) (r : Reply) → KeepsSessions e → Does s e r u → AllUp s → AllUp u
-up-does s u (ev.Allocate k b need) r q (inl d) f = up-same s u (ap (λ (x : Cluster). x.replicas) d.change) f
-up-does s u (ev.Allocate k b need) r q (inr d) f = up-same s u (ap (λ (x : Cluster). x.replicas) d.unchanged) f
-up-does s u (ev.Again id) r q (inl d) f = up-same s u (ap (λ (x : Cluster). x.replicas) d.change) f
-up-does s u (ev.Again id) r q (inr d) f = up-same s u (ap (λ (x : Cluster). x.replicas) d.unchanged) f
-up-does s u (ev.Stage id) r q (inl d) f = up-at s u d.attempt.replica _ d.at (ap (λ (z : Replica). z.up) d.at.does) f
-up-does s u (ev.Stage id) r q (inr d) f = up-same s u (ap (λ (x : Cluster). x.replicas) d.unchanged) f
-up-does s u (ev.Commit id) r q (inl d) f = up-same s u (ap (λ (x : Cluster). x.replicas) d.change) f
-up-does s u (ev.Commit id) r q (inr (inl d)) f = up-ends s u id d.ends f
-up-does s u (ev.Commit id) r q (inr (inr d)) f = up-same s u (ap (λ (x : Cluster). x.replicas) d.unchanged) f
-up-does s u (ev.Abandon id) r q (inl d) f = up-ends s u id d.0 f
-up-does s u (ev.Abandon id) r q (inr d) f = up-same s u (ap (λ (x : Cluster). x.replicas) d.unchanged) f
-up-does s u (ev.Pull k) r q (inl d) f = up-at s u k _ d.at (ap (λ (z : Replica). z.up) d.at.does) f
-up-does s u (ev.Pull k) r q (inr d) f = up-same s u (ap (λ (x : Cluster). x.replicas) d.unchanged) f
-up-does s u (ev.Apply k i) r q (inl d) f = up-at s u k _ d.at (up-applies s d.at.old d.at.new i d.comes d.at.does.1) f
-up-does s u (ev.Apply k i) r q (inr d) f = up-same s u (ap (λ (x : Cluster). x.replicas) d.unchanged) f
-up-does s u (ev.Merge k sources) r q (inl d) f = up-same s u (ap (λ (x : Cluster). x.replicas) d.appends.at.change) f
-up-does s u (ev.Merge k sources) r q (inr d) f = up-same s u (ap (λ (x : Cluster). x.replicas) d.unchanged) f
-up-does s u (ev.Mutate k part upto) r q (inl d) f = up-same s u (ap (λ (x : Cluster). x.replicas) d.appends.at.change) f
-up-does s u (ev.Mutate k part upto) r q (inr d) f = up-same s u (ap (λ (x : Cluster). x.replicas) d.unchanged) f
-up-does s u (ev.CreateMutation command) r q (inl d) f = up-same s u (ap (λ (x : Cluster). x.replicas) d.at.change) f
-up-does s u (ev.CreateMutation command) r q (inr d) f = up-same s u (ap (λ (x : Cluster). x.replicas) d.unchanged) f
-up-does s u (ev.DropPartition p) r q (inl d) f = up-same s u (ap (λ (x : Cluster). x.replicas) d.1.at.change) f
-up-does s u (ev.DropPartition p) r q (inr (inl d)) f = up-same s u (ap (λ (x : Cluster). x.replicas) d.unchanged) f
-up-does s u (ev.DropPartition p) r q (inr (inr d)) f = up-same s u (ap (λ (x : Cluster). x.replicas) d.unchanged) f
-up-does s u (ev.Kill k) r q d f = absurd q
-up-does s u (ev.Restart k) r q d f =
-    subst (λ (xs : List Replica). Each (λ x. x.up ≡ true) xs) (sym (ap (λ (x : Cluster). x.replicas) d.change)) (each-with (λ x. x.up ≡ true) s.replicas k d.new f (ap (λ (z : Replica). z.up) d.wakes))
-up-does s u (ev.Fetches k allowed) r q d f = up-replaced s u k d.old (record d.old { fetches = allowed }) (ap (λ (x : Cluster). x.replicas) d.change) d.at refl f
+ups-does : (s u : Cluster) (e : Event) (r : Reply) → IsWhole s → KeepsSessions (ups s) e → Does s e r u → AreUpAsBefore s u
+ups-does s u (ev.Allocate k b need) r w q (inl d) = ups-same s u (ap (λ (x : Cluster). x.replicas) d.change)
+ups-does s u (ev.Allocate k b need) r w q (inr d) = ups-same s u (ap (λ (x : Cluster). x.replicas) d.unchanged)
+ups-does s u (ev.Again id) r w q (inl d) = ups-same s u (ap (λ (x : Cluster). x.replicas) d.change)
+ups-does s u (ev.Again id) r w q (inr d) = ups-same s u (ap (λ (x : Cluster). x.replicas) d.unchanged)
+ups-does s u (ev.Stage id) r w q (inl d) = ups-at s u d.attempt.replica _ w d.at (ap (λ (z : Replica). z.number) d.at.does) (ap (λ (z : Replica). z.up) d.at.does)
+ups-does s u (ev.Stage id) r w q (inr d) = ups-same s u (ap (λ (x : Cluster). x.replicas) d.unchanged)
+ups-does s u (ev.Commit id) r w q (inl d) = ups-same s u (ap (λ (x : Cluster). x.replicas) d.change)
+ups-does s u (ev.Commit id) r w q (inr (inl d)) = ups-ends s u id w d.ends
+ups-does s u (ev.Commit id) r w q (inr (inr d)) = ups-same s u (ap (λ (x : Cluster). x.replicas) d.unchanged)
+ups-does s u (ev.Abandon id) r w q (inl d) = ups-ends s u id w d.0
+ups-does s u (ev.Abandon id) r w q (inr d) = ups-same s u (ap (λ (x : Cluster). x.replicas) d.unchanged)
+ups-does s u (ev.Pull k) r w q (inl d) = ups-at s u k _ w d.at (ap (λ (z : Replica). z.number) d.at.does) (ap (λ (z : Replica). z.up) d.at.does)
+ups-does s u (ev.Pull k) r w q (inr d) = ups-same s u (ap (λ (x : Cluster). x.replicas) d.unchanged)
+ups-does s u (ev.Apply k i) r w q (inl d) = ups-at s u k _ w d.at (number-applies s d.at.old d.at.new i d.comes d.at.does.1) (up-applies s d.at.old d.at.new i d.comes d.at.does.1)
+ups-does s u (ev.Apply k i) r w q (inr d) = ups-same s u (ap (λ (x : Cluster). x.replicas) d.unchanged)
+ups-does s u (ev.Merge k sources) r w q (inl d) = ups-same s u (ap (λ (x : Cluster). x.replicas) d.appends.at.change)
+ups-does s u (ev.Merge k sources) r w q (inr d) = ups-same s u (ap (λ (x : Cluster). x.replicas) d.unchanged)
+ups-does s u (ev.Mutate k part upto) r w q (inl d) = ups-same s u (ap (λ (x : Cluster). x.replicas) d.appends.at.change)
+ups-does s u (ev.Mutate k part upto) r w q (inr d) = ups-same s u (ap (λ (x : Cluster). x.replicas) d.unchanged)
+ups-does s u (ev.CreateMutation command) r w q (inl d) = ups-same s u (ap (λ (x : Cluster). x.replicas) d.at.change)
+ups-does s u (ev.CreateMutation command) r w q (inr d) = ups-same s u (ap (λ (x : Cluster). x.replicas) d.unchanged)
+ups-does s u (ev.DropPartition p) r w q (inl d) = ups-same s u (ap (λ (x : Cluster). x.replicas) d.1.at.change)
+ups-does s u (ev.DropPartition p) r w q (inr (inl d)) = ups-same s u (ap (λ (x : Cluster). x.replicas) d.unchanged)
+ups-does s u (ev.DropPartition p) r w q (inr (inr d)) = ups-same s u (ap (λ (x : Cluster). x.replicas) d.unchanged)
+ups-does s u (ev.Kill k) r w q d = absurd q
+ups-does s u (ev.Restart k) r w q d =
+    let is : up_at s.replicas k ≡ d.old.up = subst (λ i. up_at s.replicas i ≡ d.old.up) d.at.number (up-of s.replicas d.old w.rising d.at.is_in) in
+    ups-replaced s u k d.old d.new w (ap (λ (x : Cluster). x.replicas) d.change) d.at (ap (λ (z : Replica). z.number) d.wakes) (ap (λ (z : Replica). z.up) d.wakes ∙ (sym q ∙ is))
+ups-does s u (ev.Fetches k allowed) r w q d = ups-replaced s u k d.old (record d.old { fetches = allowed }) w (ap (λ (x : Cluster). x.replicas) d.change) d.at refl refl
 
--- an event that ends no session leaves every replica up
-pub up-step : (s u : Cluster) (e : Event) (r : Reply) → KeepsSessions e → Step s e r u → AllUp s → AllUp u
-up-step s u e r q k f = up-same k.after u (ap (λ (x : Cluster). x.replicas) k.stored) (up-does s k.after e r q k.does f)
+-- the same replicas are up after such an event
+pub ups-step : (s u : Cluster) (e : Event) (r : Reply) → IsWhole s → KeepsSessions (ups s) e → Step s e r u → ups u ≡ ups s
+ups-step s u e r w q k = fun_ext (λ j. ap (λ (x : Cluster). up_at x.replicas j) k.stored ∙ ups-does s k.after e r w q k.does j)
 
--- no replica is down then
-pub not-down : (s : Cluster) (k : ℕ) → AllUp s → IsDown s k → ⊥
-not-down s k f d = let e = Each-at (λ x. x.up ≡ true) s.replicas d.replica f d.at.is_in in let q = d.down in absurd (cc)
+-- a replica that is up is so after it
+pub up-step : (s u : Cluster) (e : Event) (r : Reply) (k : ℕ) → IsWhole s → KeepsSessions (ups s) e → Step s e r u → ups s k ≡ true → ups u k ≡ true
+up-step s u e r k w q st h = ap (λ (f : ℕ → Bool). f k) (ups-step s u e r w q st) ∙ h
+
+-- the replica is up where it is told so
+pub up-told : (s : Cluster) (k : ℕ) (x : Replica) → IsWhole s → IsNumbered s k x → ups s k ≡ true → x.up ≡ true
+up-told s k x w at h = sym (up-of s.replicas x w.rising at.is_in) ∙ (ap (λ i. up_at s.replicas i) at.number ∙ h)
+
+-- it isn't down then
+pub not-down : (s : Cluster) (k : ℕ) → IsWhole s → ups s k ≡ true → IsDown s k → ⊥
+not-down s k w h d = let e = up-told s k d.replica w d.at h in let q = d.down in absurd (cc)
+
+-- a replica that is down is told so
+pub down-told : (s : Cluster) (k : ℕ) → IsWhole s → IsDown s k → ups s k ≡ false
+down-told s k w d = ap (λ i. up_at s.replicas i) (sym d.at.number) ∙ (up-of s.replicas d.replica w.rising d.at.is_in ∙ d.down)

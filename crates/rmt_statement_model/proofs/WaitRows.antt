@@ -21,7 +21,7 @@ use Rattle.rmt_events.proofs.Copies.{entry-behind}
 use Rattle.rmt_events.proofs.Moves.{blocks-same}
 use Rattle.rmt_events.proofs.WholeTries.{one-replica}
 use Rattle.rmt_statement_model.specs.TableStates.{TableState, learned_to, synced}
-use Rattle.rmt_statement_model.specs.Shows.{Shows, AllUp, IsUpToDate}
+use Rattle.rmt_statement_model.specs.Shows.{Shows, ups, IsUpToDate}
 use Rattle.rmt_statement_model.specs.Waits.{MutatesUpTo, MutatesParts}
 use Rattle.rmt_statement_model.proofs.KnowsLaws.{knows-step}
 use Rattle.rmt_statement_model.proofs.UpLaws.{not-down}
@@ -46,8 +46,8 @@ own-log : (s : Cluster) (k : ℕ) (x : Replica) → IsWhole s → IsUpToDate s k
 own-log s k x w d u = subst (λ (z : Replica). z.log ≡ s.table.log) (one-replica s d.replica x w d.at.is_in u.at.is_in (d.at.number ∙ sym u.at.number)) d.whole
 
 -- a replica that is up to date isn't refused but for a limit
-refused-mutate : (s : Cluster) (k : ℕ) (old : Name) (upto : ℕ) (why : StepRefused) → IsWhole s → AllUp s → IsUpToDate s k → IsMutable s.table.log old upto → NoMutate s k old upto why → IsMutateReply (rp.Refused why)
-refused-mutate s k old upto rf.Down w up d m c = absurd (not-down s k up c)
+refused-mutate : (s : Cluster) (k : ℕ) (old : Name) (upto : ℕ) (why : StepRefused) → IsWhole s → ups s k ≡ true → IsUpToDate s k → IsMutable s.table.log old upto → NoMutate s k old upto why → IsMutateReply (rp.Refused why)
+refused-mutate s k old upto rf.Down w up d m c = absurd (not-down s k w up c)
 refused-mutate s k old upto rf.NotLive w up d m c = absurd (c.2 (subst (λ (l : List Entry). IsMutable l old upto) (sym (own-log s k c.0 w d c.1)) m))
 refused-mutate s k old upto (rf.LogMoved seen found) w up d m c =
     let e = ap (λ (l : List Entry). length l) (own-log s k c.0 w d c.1) in
@@ -59,7 +59,7 @@ refused-mutate s k old upto (rf.LimitReached limit value) w up d m c = tt
 refused-mutate s k old upto why w up d m c = absurd c
 
 -- nothing else is answered
-pub mutate-reply : (s u : Cluster) (k : ℕ) (old : Name) (upto : ℕ) (reply : Reply) → IsWhole s → AllUp s → IsUpToDate s k → IsMutable s.table.log old upto → Step s (ev.Mutate k old upto) reply u → IsMutateReply reply
+pub mutate-reply : (s u : Cluster) (k : ℕ) (old : Name) (upto : ℕ) (reply : Reply) → IsWhole s → ups s k ≡ true → IsUpToDate s k → IsMutable s.table.log old upto → Step s (ev.Mutate k old upto) reply u → IsMutateReply reply
 mutate-reply s u k old upto reply w up d m st = go st.does
   where
     go : Does s (ev.Mutate k old upto) reply st.after → IsMutateReply reply

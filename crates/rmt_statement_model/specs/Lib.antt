@@ -2,6 +2,7 @@ pub use Rattle.rmt_events.specs.Steps
 pub mod TableStates
 pub mod Inserts
 pub mod Reads
+pub mod LostSources
 pub mod Mutations
 pub mod Drops
 pub mod BackgroundWork

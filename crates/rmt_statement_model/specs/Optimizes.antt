@@ -1,7 +1,7 @@
 -- OPTIMIZE .. FINAL: partition by partition, until one can't be merged.
 -- ClickHouse documentation, OPTIMIZE: FINAL merges all parts of a partition into one. That a single part stays as it is, and that
 -- parts of different mutations aren't merged, is this program's own.
-use Rattle.std.specs.Prelude.{◌≡◌, ◌⊎◌, ℕ, ◌≤◌, cond, nat_eq, List, [], ◌∷◌, length, filter}
+use Rattle.std.specs.Prelude.{◌≡◌, ◌⊎◌, ℕ, ◌≤◌, cond, nat_eq, Bool, List, [], ◌∷◌, length, filter}
 use Rattle.std.specs.declared.option.Option.{Option}
 use Rattle.std.specs.declared.option.Option.TheVariants.{Some, None}
 use Rattle.rmt_names.specs.Names.{Name, rank}
@@ -14,6 +14,7 @@ use Rattle.rmt_events.specs.LogEvents.{AreFirstToDiffer, AreAlike}
 use Rattle.rmt_reply.specs.declared.refusal.Refusal.{Refusal}
 use Rattle.rmt_reply.specs.declared.refusal.Refusal.TheVariants.{LimitReached, Unmergeable}
 use Rattle.rmt_statement_model.specs.TableStates.{TableState, synced}
+use Rattle.rmt_statement_model.specs.LostSources.{LacksSource}
 
 -- the live names of a partition, in order
 abbrev pub live_of : List Entry → Option ℕ → List Name
@@ -62,6 +63,13 @@ OptimizesAll t r (p ∷ ps) [] (Some refusal) u = CantOptimize t p refusal × (u
 OptimizesAll t r (p ∷ ps) (name ∷ names) refused u = (mid : TableState) × Optimizes t p name mid × OptimizesAll (synced r mid) r ps names refused u
 OptimizesAll t r ps names refused u = ⊥
 
+-- the replica lacks a part, and nothing is merged
+pub record LacksPart (up : ℕ → Bool) (t : TableState) (r : ℕ) (names : List Name) (refused : Option Refusal) (u : TableState) : Type 0 where
+  pub none : names ≡ []
+  pub refusal : Refusal
+  pub is_refused : refused ≡ Some refusal
+  pub lacks : LacksSource up t r refusal u
+
 -- OPTIMIZE at a replica, which is brought up to date first
-abbrev pub OptimizesTable : TableState → ℕ → Option (Option ℕ) → List Name → Option Refusal → TableState → Type 0
-OptimizesTable t r asked names refused u = OptimizesAll (synced r t) r (partitions_asked asked t.log) names refused u
+abbrev pub OptimizesTable : (ℕ → Bool) → TableState → ℕ → Option (Option ℕ) → List Name → Option Refusal → TableState → Type 0
+OptimizesTable up t r asked names refused u = LacksPart up t r names refused u ⊎ OptimizesAll (synced r t) r (partitions_asked asked t.log) names refused u

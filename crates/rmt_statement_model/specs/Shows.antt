@@ -1,7 +1,7 @@
 -- A cluster shows the state of a table: it has the same log, numbers and blocks, and what is known at a replica holds there.
 -- No public source: this program's own.
-use Rattle.std.specs.Prelude.{◌≡◌, ℕ, ◌≤◌, Bool, true, false, [], length}
-use Rattle.rmt_model.specs.Words.{Has, Each}
+use Rattle.std.specs.Prelude.{◌≡◌, ℕ, ◌≤◌, cond, nat_eq, Bool, true, false, List, [], ◌∷◌, length}
+use Rattle.rmt_model.specs.Words.{Has}
 use Rattle.rmt_model.specs.Fair.{AreFair}
 use Rattle.rmt_model.specs.CopiedParts.{names_of}
 use Rattle.rmt_events.specs.Views.{Replica}
@@ -27,9 +27,14 @@ pub record Shows (s : Cluster) (t : TableState) : Type 0 where
   pub blocks : t.blocks ≡ accepted s
   pub knows : EachKnows s t.known
 
--- every replica is up
-abbrev pub AllUp : Cluster → Type 0
-AllUp s = Each (λ x. x.up ≡ true) s.replicas
+-- whether the replica of a number is up; one that isn't there isn't
+abbrev pub up_at : List Replica → ℕ → Bool
+up_at [] k = false
+up_at (x ∷ others) k = cond (nat_eq x.number k) x.up (up_at others k)
+
+-- which replicas are up
+abbrev pub ups : Cluster → ℕ → Bool
+ups s k = up_at s.replicas k
 
 -- the replica of a number has the whole log, and has done all of it
 pub record IsUpToDate (s : Cluster) (k : ℕ) : Type 0 where
@@ -48,7 +53,7 @@ pub record Leads (s : Cluster) (Holds : TableState → Type 0) : Type 0 where
 abbrev pub HoldsNone : Cluster → Type 0
 HoldsNone s = s.table.locks ≡ []
 
--- every replica is up, and no insert is under way
-pub record IsIdle (s : Cluster) : Type 0 where
-  pub up : AllUp s
+-- the replica of a number is up, and no insert is under way
+pub record IsIdle (s : Cluster) (r : ℕ) : Type 0 where
+  pub up : ups s r ≡ true
   pub free : HoldsNone s

@@ -1,5 +1,5 @@
 use Rattle.rmt_statement_model.specs.Attempts.{IsCommitReply}
-use Rattle.rmt_acts.proofs.AttemptActs.{commit-answers, commits-by, commit-idle}
+use Rattle.rmt_acts.proofs.AttemptActs.{commit-answers, commits-by, commit-free, commit-ups}
 use Rattle.rmt_acts.proofs.attempt.commit.Goals as goal
 
 -- what its Commit is answered
@@ -16,7 +16,10 @@ returns-clause-commits c =
     commits-by c.args.cluster.now c.step.new.self c.step-2.new.self c.args.attempt c.in_ok-_staged._staged c.in_ok-reply.reply c.committed_by.result c.step.ensures.whole c.requires.up
     c.in_ok-_staged.ensures.ok c.in_ok-reply.ensures.ok c.committed_by.ensures
 
-pub returns-clause-idle : goal.returns-clause-idle
-returns-clause-idle c =
-    commit-idle c.args.cluster.now c.step.new.self c.step-2.new.self c.args.attempt c.in_ok-_staged._staged c.in_ok-reply.reply c.step.ensures.whole c.requires.up c.requires.there
+pub returns-clause-ups : goal.returns-clause-ups
+returns-clause-ups c = commit-ups c.args.cluster.now c.step.new.self c.step-2.new.self c.args.attempt c.in_ok-_staged._staged c.in_ok-reply.reply c.step.ensures.whole c.in_ok-_staged.ensures.ok c.in_ok-reply.ensures.ok
+
+pub returns-clause-free : goal.returns-clause-free
+returns-clause-free c =
+    commit-free c.args.cluster.now c.step.new.self c.step-2.new.self c.args.attempt c.in_ok-_staged._staged c.in_ok-reply.reply c.step.ensures.whole c.requires.up c.requires.there
     c.in_ok-_staged.ensures.ok c.in_ok-reply.ensures.ok

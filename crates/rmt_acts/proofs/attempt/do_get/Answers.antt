@@ -1,7 +1,7 @@
 use Rattle.std.proofs.Common.{subst, ◌∙◌}
 use Rattle.rmt_events.specs.declared.reply.Reply.{Reply}
 use Rattle.rmt_statement_model.proofs.AttemptSteps.{IsApplied}
-use Rattle.rmt_acts.proofs.AttemptActs.{gets-by, get-answers, get-idle}
+use Rattle.rmt_acts.proofs.AttemptActs.{gets-by, get-answers, get-idle, get-ups}
 use Rattle.rmt_acts.proofs.attempt.do_get.Goals as goal
 
 pub unreachable-requires : goal.unreachable-requires
@@ -13,7 +13,9 @@ returns-in_ok-reply c = record {
   does = gets-by c.args.cluster.now c.step.new.self c.step-2.new.self c.args.replica c.args.entry c.in_ok-_pulled._pulled c.in_ok-reply.reply (get-answers c.args.cluster.now c.step.new.self c.step-2.new.self c.args.replica c.args.entry c.in_ok-_pulled._pulled c.in_ok-reply.reply c.step.ensures.whole c.requires.idle.up c.requires.there
       c.in_ok-_pulled.ensures.ok c.in_ok-reply.ensures.ok) c.step.ensures.whole
       c.in_ok-_pulled.ensures.ok c.in_ok-reply.ensures.ok;
-  idle = get-idle c.args.cluster.now c.step.new.self c.step-2.new.self c.args.replica c.args.entry c.in_ok-_pulled._pulled c.in_ok-reply.reply c.requires.idle
+  idle = get-idle c.args.cluster.now c.step.new.self c.step-2.new.self c.args.replica c.args.entry c.in_ok-_pulled._pulled c.in_ok-reply.reply c.step.ensures.whole c.requires.idle
+      c.in_ok-_pulled.ensures.ok c.in_ok-reply.ensures.ok;
+  ups = get-ups c.args.cluster.now c.step.new.self c.step-2.new.self c.args.replica c.args.entry c.in_ok-_pulled._pulled c.in_ok-reply.reply c.step.ensures.whole
       c.in_ok-_pulled.ensures.ok c.in_ok-reply.ensures.ok;
   schema = c.step-2.ensures.schema ∙ c.step.ensures.schema;
   replicas = c.step-2.ensures.replicas ∙ c.step.ensures.replicas;
@@ -24,7 +26,9 @@ returns-in_ok-reply-2 c = record {
   does = gets-by c.args.cluster.now c.step.new.self c.step-2.new.self c.args.replica c.args.entry c.in_ok-_pulled._pulled c.in_ok-reply.reply (get-answers c.args.cluster.now c.step.new.self c.step-2.new.self c.args.replica c.args.entry c.in_ok-_pulled._pulled c.in_ok-reply.reply c.step.ensures.whole c.requires.idle.up c.requires.there
       c.in_ok-_pulled.ensures.ok c.in_ok-reply.ensures.ok) c.step.ensures.whole
       c.in_ok-_pulled.ensures.ok c.in_ok-reply.ensures.ok;
-  idle = get-idle c.args.cluster.now c.step.new.self c.step-2.new.self c.args.replica c.args.entry c.in_ok-_pulled._pulled c.in_ok-reply.reply c.requires.idle
+  idle = get-idle c.args.cluster.now c.step.new.self c.step-2.new.self c.args.replica c.args.entry c.in_ok-_pulled._pulled c.in_ok-reply.reply c.step.ensures.whole c.requires.idle
+      c.in_ok-_pulled.ensures.ok c.in_ok-reply.ensures.ok;
+  ups = get-ups c.args.cluster.now c.step.new.self c.step-2.new.self c.args.replica c.args.entry c.in_ok-_pulled._pulled c.in_ok-reply.reply c.step.ensures.whole
       c.in_ok-_pulled.ensures.ok c.in_ok-reply.ensures.ok;
   schema = c.step-2.ensures.schema ∙ c.step.ensures.schema;
   replicas = c.step-2.ensures.replicas ∙ c.step.ensures.replicas;

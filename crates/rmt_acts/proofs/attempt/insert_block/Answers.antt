@@ -1,4 +1,4 @@
-use Rattle.std.proofs.Common.{◌≡◌, subst, sym}
+use Rattle.std.proofs.Common.{◌≡◌, ℕ, Bool, ◌∙◌, ap, subst, sym}
 use Rattle.rmt_names.specs.Names.{Name, block_name}
 use Rattle.rmt_events.specs.Views.{Block}
 use Rattle.rmt_events.specs.Clusters.{without_kinds}
@@ -8,8 +8,17 @@ use Rattle.rmt_acts.specs.Inserting.{Begins, Commits, ComesTo}
 use Rattle.rmt_acts.specs.declared.begun.Begun.{Begun}
 use Rattle.rmt_acts.specs.declared.committed.Committed.{Committed}
 use Rattle.rmt_acts.specs.declared.outcome.Outcome.TheVariants as outcomes
+use Rattle.rmt_acts.proofs.AttemptActs.{idle-as, up-with}
 use Rattle.rmt_acts.proofs.InsertActs.{accepts, repeats, lacks-number, lacks-room}
 use Rattle.rmt_acts.proofs.attempt.insert_block.Goals as goal
+
+pub commit-requires-clause-up : goal.commit-requires-clause-up
+commit-requires-clause-up c =
+    let b = subst (λ (x : Begun). Begins c.args.cluster.now c.args.replica (without_kinds c.args.block) x c.begin.new.cluster) c.in-Attempt.is c.in_ok-begun.ensures.begins in
+    up-with c.begin.new.cluster c.in-Attempt.attempt c.args.replica (without_kinds c.args.block) c.in-Attempt.number c.in_ok-begun.ensures.whole b.0 (ap (λ (f : ℕ → Bool). f c.args.replica) c.in_ok-begun.ensures.ups ∙ c.requires.idle.up)
+
+pub do_get-requires-clause-idle : goal.do_get-requires-clause-idle
+do_get-requires-clause-idle c = idle-as c.args.cluster.now c.commit.new.cluster c.args.replica (c.in_ok-entry.ensures.ups ∙ c.in_ok-begun.ensures.ups) c.requires.idle.up c.in_ok-entry.ensures.free
 
 pub returns-in-Duplicate-clause-inserts : goal.returns-in-Duplicate-clause-inserts
 returns-in-Duplicate-clause-inserts c =
@@ -36,3 +45,14 @@ returns-in-Full-2-clause-inserts c =
     lacks-room c.args.cluster.now c.begin.new.cluster c.commit.new.cluster c.args.replica (without_kinds c.args.block) c.in-Attempt.attempt c.in-Attempt.number c.in-Full-2.limit c.in-Full-2.value
     (subst (λ (x : Begun). Begins c.args.cluster.now c.args.replica (without_kinds c.args.block) x c.begin.new.cluster) c.in-Attempt.is c.in_ok-begun.ensures.begins)
     (subst (λ (x : Committed). Commits c.begin.new.cluster c.in-Attempt.attempt x c.commit.new.cluster) c.in-Full-2.is c.in_ok-entry.ensures.commits)
+
+pub returns-in-Duplicate-clause-idle : goal.returns-in-Duplicate-clause-idle
+returns-in-Duplicate-clause-idle c = idle-as c.args.cluster.now c.begin.new.cluster c.args.replica c.in_ok-begun.ensures.ups c.requires.idle.up
+    (subst (λ (x : Begun). Begins c.args.cluster.now c.args.replica (without_kinds c.args.block) x c.begin.new.cluster) c.in-Duplicate.is c.in_ok-begun.ensures.begins).0
+
+pub returns-in-Full-clause-idle : goal.returns-in-Full-clause-idle
+returns-in-Full-clause-idle c = idle-as c.args.cluster.now c.begin.new.cluster c.args.replica c.in_ok-begun.ensures.ups c.requires.idle.up
+    (subst (λ (x : Begun). Begins c.args.cluster.now c.args.replica (without_kinds c.args.block) x c.begin.new.cluster) c.in-Full.is c.in_ok-begun.ensures.begins).0
+
+pub returns-in-Full-2-clause-idle : goal.returns-in-Full-2-clause-idle
+returns-in-Full-2-clause-idle c = idle-as c.args.cluster.now c.commit.new.cluster c.args.replica (c.in_ok-entry.ensures.ups ∙ c.in_ok-begun.ensures.ups) c.requires.idle.up c.in_ok-entry.ensures.free

@@ -1,10 +1,17 @@
-use Rattle.rmt_statement_model.proofs.RestartRows.{restart-shows, restart-idle}
+use Rattle.rmt_statement_model.proofs.RestartRows.{restart-shows, restart-free, restart-ups}
+use Rattle.rmt_acts.proofs.AttemptActs.{idle-as}
 use Rattle.rmt_acts.proofs.background.restart_replica.Goals as goal
 
 pub returns-clause-restarts : goal.returns-clause-restarts
 returns-clause-restarts c =
     restart-shows c.args.cluster.now c.step.new.self c.step-2.new.self c.args.replica c.in_ok-killed.killed c.in_ok-_restarted._restarted c.step.ensures.whole c.in_ok-killed.ensures.ok c.in_ok-_restarted.ensures.ok
 
+pub returns-clause-ups : goal.returns-clause-ups
+returns-clause-ups c =
+    restart-ups c.args.cluster.now c.step.new.self c.step-2.new.self c.args.replica c.in_ok-killed.killed c.in_ok-_restarted._restarted c.in_ok-killed.ensures.ok c.in_ok-_restarted.ensures.ok c.requires.idle.up
+
 pub returns-clause-idle : goal.returns-clause-idle
 returns-clause-idle c =
-    restart-idle c.args.cluster.now c.step.new.self c.step-2.new.self c.args.replica c.in_ok-killed.killed c.in_ok-_restarted._restarted c.step.ensures.whole c.in_ok-killed.ensures.ok c.in_ok-_restarted.ensures.ok c.requires.idle
+    idle-as c.args.cluster.now c.step-2.new.self c.args.replica
+    (restart-ups c.args.cluster.now c.step.new.self c.step-2.new.self c.args.replica c.in_ok-killed.killed c.in_ok-_restarted._restarted c.in_ok-killed.ensures.ok c.in_ok-_restarted.ensures.ok c.requires.idle.up) c.requires.idle.up
+    (restart-free c.args.cluster.now c.step.new.self c.step-2.new.self c.args.replica c.in_ok-killed.killed c.in_ok-_restarted._restarted c.in_ok-killed.ensures.ok c.in_ok-_restarted.ensures.ok c.requires.idle.free)

@@ -4,7 +4,8 @@ use Rattle.rmt_events.specs.Steps.{Step}
 use Rattle.rmt_events.specs.declared.event.Event.TheVariants as ev
 use Rattle.rmt_events.specs.declared.reply.Reply.{Reply}
 use Rattle.rmt_acts.specs.Changing.{HasDropAt, IsNumberAt}
-use Rattle.rmt_acts.proofs.ChangeActs.{copy-log, unapplied, drop-answers, does-drop, drop-idle}
+use Rattle.rmt_acts.proofs.ChangeActs.{copy-log, unapplied, drop-answers, does-drop}
+use Rattle.rmt_acts.proofs.AttemptActs.{get-idle, get-ups}
 use Rattle.rmt_acts.proofs.drop.do_drop.Goals as goal
 use Rattle.rmt_acts.proofs.drop.do_drop.Goals.{in_default-via-in-Refused+in_default, in_default-via-in_default}
 
@@ -38,4 +39,8 @@ returns-clause-does c =
 
 pub returns-clause-idle : goal.returns-clause-idle
 returns-clause-idle c =
-    drop-idle c.args.cluster.now c.step.new.self c.step-2.new.self c.args.replica c.args.entry c.in_ok-_pulled._pulled c.in_ok-reply.reply c.requires.idle c.in_ok-_pulled.ensures.ok c.in_ok-reply.ensures.ok
+    get-idle c.args.cluster.now c.step.new.self c.step-2.new.self c.args.replica c.args.entry c.in_ok-_pulled._pulled c.in_ok-reply.reply c.step.ensures.whole c.requires.idle c.in_ok-_pulled.ensures.ok c.in_ok-reply.ensures.ok
+
+pub returns-clause-ups : goal.returns-clause-ups
+returns-clause-ups c =
+    get-ups c.args.cluster.now c.step.new.self c.step-2.new.self c.args.replica c.args.entry c.in_ok-_pulled._pulled c.in_ok-reply.reply c.step.ensures.whole c.in_ok-_pulled.ensures.ok c.in_ok-reply.ensures.ok

@@ -5,6 +5,7 @@ use Rattle.rmt_events.specs.declared.reply.Reply.{Reply}
 use Rattle.rmt_events.specs.declared.reply.Reply.TheVariants as rp
 use Rattle.rmt_statement_model.proofs.DropRows.{drop-refused}
 use Rattle.rmt_acts.proofs.ChangeActs.{has-drop, drops, drops-nothing}
+use Rattle.rmt_statement_model.proofs.UpLaws.{ups-step}
 use Rattle.rmt_acts.proofs.drop.drop_partition.Goals as goal
 
 pub do_drop-requires-clause-there : goal.do_drop-requires-clause-there
@@ -35,3 +36,6 @@ returns-in-LimitReached-clause-drops c =
     let r = c.in-LimitReached in
     let k = subst (λ (y : Reply). Step s (ev.DropPartition c.args.partition) y u) (c.in-Refused.is ∙ ap rp.Refused r.is) c.in_ok-reply.ensures.ok in
     drop-refused s u c.args.partition r.limit r.value c.step.ensures.whole k
+
+pub returns-in_ok-below-in-Entry-clause-ups : goal.returns-in_ok-below-in-Entry-clause-ups
+returns-in_ok-below-in-Entry-clause-ups c = c.in_ok-below-in-Entry.ensures.ups ∙ ups-step c.args.cluster.now c.step.new.self (ev.DropPartition c.args.partition) c.in_ok-reply.reply c.step.ensures.whole tt c.in_ok-reply.ensures.ok

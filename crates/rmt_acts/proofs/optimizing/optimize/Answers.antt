@@ -1,22 +1,28 @@
-use Rattle.std.proofs.Common.{◌≡◌, ap, ◌∙◌}
+use Rattle.std.proofs.Common.{◌≡◌, ap, subst, ◌∙◌}
+use Rattle.std.specs.declared.option.Option.{Option}
+use Rattle.rmt_reply.specs.declared.refusal.Refusal.{Refusal}
+use Rattle.rmt_acts.specs.Syncing.{SyncsReplica}
 use Rattle.rmt_events.specs.Views.{Table}
 use Rattle.rmt_statement_model.specs.Optimizes.{partitions_asked}
+use Rattle.rmt_acts.proofs.SyncActs.{synced-told}
 use Rattle.rmt_acts.proofs.OptimizeActs.{whole-log}
-use Rattle.rmt_acts.proofs.OptimizeLoops.{none-yet, next-live, one-more, ends-there, ends-all}
+use Rattle.rmt_acts.proofs.OptimizeLoops.{lacks-part, none-yet, next-live, one-more, ends-there, ends-all}
 use Rattle.rmt_acts.proofs.optimizing.optimize.Goals as goal
 use Rattle.rmt_acts.proofs.optimizing.optimize.Goals.{After-deref-partition-items}
 
 -- the partitions are those that are asked for
 asked : (c : After-deref-partition-items) → c.deref-partition-items.result.now ≡ partitions_asked c.args.asked c.args.cluster.now.table.log
 asked c =
-    let done = c.in_ok-sync_replica.ensures in
-    let log = whole-log c.sync_replica.new.cluster c.args.replica c.copy.result.now.log done.whole c.copy.ensures.log ∙ ap (λ (t : Table). t.log) done.table in
+    let done = c.in_ok-refusal.ensures in
+    let y = synced-told c.args.cluster.now c.sync_replica.new.cluster c.args.replica c.in_ok-refusal.field-0 c.in_default.not-Some done.syncs in
+    let log = whole-log c.sync_replica.new.cluster c.args.replica c.copy.result.now.log y.whole c.copy.ensures.log ∙ ap (λ (t : Table). t.log) done.table in
     c.deref-partition-items.ensures.value ∙ (c.in_ok-all.ensures ∙ ap (partitions_asked c.args.asked) log)
 
 pub partitions-init : goal.partitions-init
 partitions-init c =
-    let done = c.in_ok-sync_replica.ensures in
-    none-yet c.args.cluster.now c.sync_replica.new.cluster c.args.replica c.new-names.result.items c.new-names.ensures.items done.syncs done.whole done.idle done.schema done.replicas
+    let done = c.in_ok-refusal.ensures in
+    let y = synced-told c.args.cluster.now c.sync_replica.new.cluster c.args.replica c.in_ok-refusal.field-0 c.in_default.not-Some done.syncs in
+    none-yet c.args.cluster.now c.sync_replica.new.cluster c.args.replica c.new-names.result.items c.new-names.ensures.items y.shows y.whole done.idle done.ups done.schema done.replicas
 
 pub optimize_partition-requires-clause-some : goal.optimize_partition-requires-clause-some
 optimize_partition-requires-clause-some c =
@@ -28,7 +34,7 @@ pub partitions-preserved : goal.partitions-preserved
 partitions-preserved c =
     let done = c.in_ok-name.ensures in
     one-more c.args.cluster.now c.partitions.cluster c.optimize_partition.new.cluster c.args.replica c.deref-partition-items.result.now c.partitions.partition-index c.partitions.names.items c.push.new.self.items c.in_ok-name.field-0 c.in-Name.name
-    c.partitions-test.true c.partitions.invariant done.optimizes c.in-Name.is c.in_ok-push-in-Name.ensures.items done.whole done.idle done.schema done.replicas
+    c.partitions-test.true c.partitions.invariant done.optimizes c.in-Name.is c.in_ok-push-in-Name.ensures.items done.whole done.idle done.ups done.schema done.replicas
 
 pub returns-in-Refused-clause-optimizes : goal.returns-in-Refused-clause-optimizes
 returns-in-Refused-clause-optimizes c =
@@ -41,3 +47,8 @@ returns-clause-optimizes c =
     let all = asked (goal.at.returns-clause-optimizes c).After-deref-partition-items in
     ends-all c.args.cluster.now c.partitions.cluster c.args.replica c.args.asked c.deref-partition-items.result.now c.partitions.partition-index c.partitions.names.items c.new-names-2.result all c.partitions-test.false
     c.partitions.invariant c.new-names-2.ensures
+
+pub returns-in-Some-clause-optimizes : goal.returns-in-Some-clause-optimizes
+returns-in-Some-clause-optimizes c =
+    lacks-part c.args.cluster.now c.sync_replica.new.cluster c.args.replica c.args.asked c.empty-names.result c.in-Some.refusal c.empty-names.ensures
+    (subst (λ (o : Option Refusal). SyncsReplica c.args.cluster.now c.args.replica o c.sync_replica.new.cluster) c.in-Some.is c.in_ok-refusal.ensures.syncs)

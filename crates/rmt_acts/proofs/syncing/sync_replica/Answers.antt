@@ -1,23 +1,31 @@
-use Rattle.rmt_acts.proofs.SyncActs.{sync-table, sync-idle, sync-shows, only-memory}
+use Rattle.std.proofs.lemmas.Result.{IfOk-weaker}
+use Rattle.rmt_acts.proofs.SyncActs.{sync-table, sync-ups, sync-idle, is-synced, not-refused, early-told}
 use Rattle.rmt_acts.proofs.syncing.sync_replica.Goals as goal
 
-pub unreachable-requires : goal.unreachable-requires
-unreachable-requires c =
-    let e = only-memory c.args.cluster.now c.sync.new.self c.args.replica c.in-Err-ReplicaDown.field-0 c.requires.idle c.in-Err-ReplicaDown.ensures.syncs in
-    absurd (cc (e, c.in-Err-ReplicaDown.field-0-is))
+pub refusal_of-requires : goal.refusal_of-requires
+refusal_of-requires c = not-refused c.args.cluster.now c.sync.new.self c.args.replica c.in-Err.error c.drained_replicas_agree.ensures.whole c.requires.idle.up c.in-Err.ensures.syncs
 
-pub unreachable-requires-in-Err-NoSource : goal.unreachable-requires-in-Err-NoSource
-unreachable-requires-in-Err-NoSource c =
-    let e = only-memory c.args.cluster.now c.sync.new.self c.args.replica c.in-Err-NoSource.field-0 c.requires.idle c.in-Err-NoSource.ensures.syncs in
-    absurd (cc (e, c.in-Err-NoSource.field-0-is))
-
-pub returns-in-Ok-clause-syncs : goal.returns-in-Ok-clause-syncs
-returns-in-Ok-clause-syncs c =
+pub returns-in-Ok : goal.returns-in-Ok
+returns-in-Ok c =
+    let w = c.drained_replicas_agree.ensures.whole in
     let y = c.in-Ok.ensures.syncs in
-    sync-shows c.args.cluster.now c.sync.new.self c.args.replica c.drained_replicas_agree.ensures.whole y.0 y.1
+    record {
+      syncs = is-synced c.args.cluster.now c.sync.new.self c.args.replica w y.0 y.1;
+      table = sync-table c.args.cluster.now c.sync.new.self c.args.replica w y.0;
+      idle = sync-idle c.args.cluster.now c.sync.new.self c.args.replica w y.0 c.requires.idle;
+      ups = sync-ups c.args.cluster.now c.sync.new.self c.args.replica w y.0;
+      schema = c.sync.ensures.schema;
+      replicas = c.sync.ensures.replicas;
+    }
 
-pub returns-in-Ok-clause-table : goal.returns-in-Ok-clause-table
-returns-in-Ok-clause-table c = sync-table c.args.cluster.now c.sync.new.self c.args.replica c.in-Ok.ensures.syncs.0
+pub returns-in-Err-clause-syncs : goal.returns-in-Err-clause-syncs
+returns-in-Err-clause-syncs c = IfOk-weaker c.refusal_of.result _ _ (λ o e. e.syncs) (early-told c.args.cluster.now c.sync.new.self c.args.replica c.in-Err.error c.refusal_of.result c.drained_replicas_agree.ensures.whole c.requires.idle c.in-Err.ensures.syncs c.refusal_of.ensures)
 
-pub returns-in-Ok-clause-idle : goal.returns-in-Ok-clause-idle
-returns-in-Ok-clause-idle c = sync-idle c.args.cluster.now c.sync.new.self c.args.replica c.in-Ok.ensures.syncs.0 c.requires.idle
+pub returns-in-Err-clause-table : goal.returns-in-Err-clause-table
+returns-in-Err-clause-table c = IfOk-weaker c.refusal_of.result _ _ (λ o e. e.table) (early-told c.args.cluster.now c.sync.new.self c.args.replica c.in-Err.error c.refusal_of.result c.drained_replicas_agree.ensures.whole c.requires.idle c.in-Err.ensures.syncs c.refusal_of.ensures)
+
+pub returns-in-Err-clause-idle : goal.returns-in-Err-clause-idle
+returns-in-Err-clause-idle c = IfOk-weaker c.refusal_of.result _ _ (λ o e. e.idle) (early-told c.args.cluster.now c.sync.new.self c.args.replica c.in-Err.error c.refusal_of.result c.drained_replicas_agree.ensures.whole c.requires.idle c.in-Err.ensures.syncs c.refusal_of.ensures)
+
+pub returns-in-Err-clause-ups : goal.returns-in-Err-clause-ups
+returns-in-Err-clause-ups c = IfOk-weaker c.refusal_of.result _ _ (λ o e. e.ups_are) (early-told c.args.cluster.now c.sync.new.self c.args.replica c.in-Err.error c.refusal_of.result c.drained_replicas_agree.ensures.whole c.requires.idle c.in-Err.ensures.syncs c.refusal_of.ensures)

@@ -4,7 +4,10 @@ use Rattle.rmt_events.specs.declared.event.Event.TheVariants as ev
 use Rattle.rmt_events.specs.declared.reply.Reply.{Reply}
 use Rattle.rmt_events.specs.declared.reply.Reply.TheVariants as rp
 use Rattle.rmt_statement_model.proofs.WaitRows.{IsMutateReply, mutate-reply}
-use Rattle.rmt_acts.proofs.WaitActs.{becomes-mutated, mutates-none-more, only-limit}
+use Rattle.rmt_statement_model.proofs.LockSteps.{none-held}
+use Rattle.rmt_statement_model.proofs.UpLaws.{ups-step}
+use Rattle.rmt_acts.proofs.AttemptActs.{idle-as}
+use Rattle.rmt_acts.proofs.WaitActs.{becomes-mutated, mutates-none-more, mutate-gets, only-limit}
 use Rattle.rmt_acts.proofs.waiting.mutate_part.Goals as goal
 
 pub unreachable-requires : goal.unreachable-requires
@@ -12,13 +15,33 @@ unreachable-requires c =
     let a = mutate-reply c.args.cluster.now c.step.new.self c.args.replica c.args.old c.args.upto c.in_ok-reply.reply c.step.ensures.whole c.requires.idle.up c.requires.whole c.requires.mutable c.in_ok-reply.ensures.ok in
     only-limit c.in-Refused.why (subst IsMutateReply c.in-Refused.is a) c.in_default-why.not-LimitReached
 
-pub returns-in_ok-sync_replica-in-Entry-clause-mutates : goal.returns-in_ok-sync_replica-in-Entry-clause-mutates
-returns-in_ok-sync_replica-in-Entry-clause-mutates c =
+pub returns-in_ok-catch_up-in-Entry-clause-mutates : goal.returns-in_ok-catch_up-in-Entry-clause-mutates
+returns-in_ok-catch_up-in-Entry-clause-mutates c =
     let k = subst (λ (y : Reply). Step c.args.cluster.now (ev.Mutate c.args.replica c.args.old c.args.upto) y c.step.new.self) c.in-Entry.is c.in_ok-reply.ensures.ok in
-    let done = c.in_ok-sync_replica-in-Entry.ensures in
-    becomes-mutated c.args.cluster.now c.step.new.self c.sync_replica.new.cluster c.args.replica c.args.old c.args.upto c.in-Entry.field-0 c.step.ensures.whole k done.table done.whole done.syncs
+    let done = c.in_ok-catch_up-in-Entry.ensures in
+    becomes-mutated c.args.cluster.now c.step.new.self c.catch_up.new.cluster c.args.replica c.args.old c.args.upto c.in-Entry.field-0 c.step.ensures.whole k done.table done.syncs.whole done.syncs.shows
 
 pub returns-in-LimitReached-clause-mutates : goal.returns-in-LimitReached-clause-mutates
 returns-in-LimitReached-clause-mutates c =
     let k = subst (λ (y : Reply). Step c.args.cluster.now (ev.Mutate c.args.replica c.args.old c.args.upto) y c.step.new.self) (c.in-Refused.is ∙ ap rp.Refused c.in-LimitReached.is) c.in_ok-reply.ensures.ok in
     mutates-none-more c.args.cluster.now c.step.new.self c.args.replica c.args.old c.args.upto c.in-LimitReached.limit c.in-LimitReached.value c.step.ensures.whole k
+
+pub catch_up-requires-clause-gets : goal.catch_up-requires-clause-gets
+catch_up-requires-clause-gets c = mutate-gets c.args.cluster.now c.step.new.self c.args.replica c.args.old c.args.upto c.in-Entry.field-0 c.step.ensures.whole c.requires.whole
+    (subst (λ (y : Reply). Step c.args.cluster.now (ev.Mutate c.args.replica c.args.old c.args.upto) y c.step.new.self) c.in-Entry.is c.in_ok-reply.ensures.ok)
+
+pub catch_up-requires-clause-idle : goal.catch_up-requires-clause-idle
+catch_up-requires-clause-idle c =
+    idle-as c.args.cluster.now c.step.new.self c.args.replica (ups-step c.args.cluster.now c.step.new.self (ev.Mutate c.args.replica c.args.old c.args.upto) c.in_ok-reply.reply c.step.ensures.whole tt c.in_ok-reply.ensures.ok) c.requires.idle.up
+    (none-held c.args.cluster.now c.step.new.self (ev.Mutate c.args.replica c.args.old c.args.upto) c.in_ok-reply.reply tt c.in_ok-reply.ensures.ok c.requires.idle.free)
+
+pub returns-in_ok-catch_up-in-Entry-clause-ups : goal.returns-in_ok-catch_up-in-Entry-clause-ups
+returns-in_ok-catch_up-in-Entry-clause-ups c = c.in_ok-catch_up-in-Entry.ensures.ups ∙ ups-step c.args.cluster.now c.step.new.self (ev.Mutate c.args.replica c.args.old c.args.upto) c.in_ok-reply.reply c.step.ensures.whole tt c.in_ok-reply.ensures.ok
+
+pub returns-in-LimitReached-clause-ups : goal.returns-in-LimitReached-clause-ups
+returns-in-LimitReached-clause-ups c = ups-step c.args.cluster.now c.step.new.self (ev.Mutate c.args.replica c.args.old c.args.upto) c.in_ok-reply.reply c.step.ensures.whole tt c.in_ok-reply.ensures.ok
+
+pub returns-in-LimitReached-clause-idle : goal.returns-in-LimitReached-clause-idle
+returns-in-LimitReached-clause-idle c =
+    idle-as c.args.cluster.now c.step.new.self c.args.replica (ups-step c.args.cluster.now c.step.new.self (ev.Mutate c.args.replica c.args.old c.args.upto) c.in_ok-reply.reply c.step.ensures.whole tt c.in_ok-reply.ensures.ok) c.requires.idle.up
+    (none-held c.args.cluster.now c.step.new.self (ev.Mutate c.args.replica c.args.old c.args.upto) c.in_ok-reply.reply tt c.in_ok-reply.ensures.ok c.requires.idle.free)

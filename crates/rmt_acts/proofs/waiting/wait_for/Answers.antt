@@ -5,21 +5,24 @@ use Rattle.rmt_names.specs.Names.{Name}
 use Rattle.rmt_entries.specs.declared.entry.Entry.{Entry}
 use Rattle.rmt_model.specs.Live.{live}
 use Rattle.rmt_reply.specs.declared.refusal.Refusal.{Refusal}
+use Rattle.rmt_acts.specs.Syncing.{SyncsReplica}
 use Rattle.rmt_acts.specs.Waiting.{IsPlaceOf, Settles}
+use Rattle.rmt_acts.proofs.SyncActs.{synced-told}
 use Rattle.rmt_acts.proofs.OptimizeActs.{whole-log}
-use Rattle.rmt_acts.proofs.WaitActs.{IsWaiting, waiting-begins, waiting-goes-on, waiting-ends, waiting-stops, next-part, place-below}
+use Rattle.rmt_acts.proofs.WaitActs.{IsWaiting, wait-lacks, waiting-begins, waiting-goes-on, waiting-ends, waiting-stops, next-part, place-below}
 use Rattle.rmt_acts.proofs.waiting.wait_for.Goals as goal
 use Rattle.rmt_acts.proofs.waiting.wait_for.Goals.{In_ok-refusal}
 
 pub parts-init : goal.parts-init
 parts-init c =
     let u = c.sync_replica.new.cluster in
-    let done = c.in_ok-sync_replica.ensures in
+    let done = c.in_ok-lacking.ensures in
+    let y = synced-told c.args.cluster.now u c.args.replica c.in_ok-lacking.field-0 c.in_default.not-Some done.syncs in
     let parts : c.deref-part-items.result.now ≡ live u.table.log =
-    c.deref-part-items.ensures.value ∙ (c.in_ok-parts.ensures.items ∙ (c.live.ensures ∙ ap live (whole-log u c.args.replica c.copy-2.result.now.log done.whole c.copy-2.ensures.log))) in
-    let place = subst (λ (l : List Entry). IsPlaceOf l c.args.id c.place_of-place.result) (whole-log u c.args.replica c.copy.result.now.log done.whole c.copy.ensures.log) c.place_of-place.ensures in
+    c.deref-part-items.ensures.value ∙ (c.in_ok-parts.ensures.items ∙ (c.live.ensures ∙ ap live (whole-log u c.args.replica c.copy-2.result.now.log y.whole c.copy-2.ensures.log))) in
+    let place = subst (λ (l : List Entry). IsPlaceOf l c.args.id c.place_of-place.result) (whole-log u c.args.replica c.copy.result.now.log y.whole c.copy.ensures.log) c.place_of-place.ensures in
     subst (λ (ps : List Name). IsWaiting c.args.cluster.now c.args.replica c.args.id c.place_of-place.result ps u) (sym parts)
-    (waiting-begins c.args.cluster.now u c.args.replica c.args.id c.place_of-place.result c.drained_replicas_agree.ensures.whole place done.idle done.whole done.schema done.replicas done.syncs)
+    (waiting-begins c.args.cluster.now u c.args.replica c.args.id c.place_of-place.result c.drained_replicas_agree.ensures.whole place done.idle done.ups y.whole done.schema done.replicas y.shows)
 
 pub settle_part-requires-clause-below : goal.settle_part-requires-clause-below
 settle_part-requires-clause-below c = place-below c.parts.cluster.table.log c.args.id c.place_of-place.result c.parts.invariant.placed
@@ -32,16 +35,21 @@ to-come c =
 
 pub returns-in-Some-clause-waits : goal.returns-in-Some-clause-waits
 returns-in-Some-clause-waits c =
-    waiting-stops c.args.cluster.now c.parts.cluster c.settle_part.new.cluster c.args.replica c.args.id c.place_of-place.result c.part-item.result (drop (c.parts.part-index + 1) c.deref-part-items.result.now) c.in-Some.refusal
-    c.drained_replicas_agree-in-parts.ensures.whole (subst (λ (o : Option Refusal). Settles c.parts.cluster c.args.replica c.part-item.result c.place_of-place.result o c.settle_part.new.cluster) c.in-Some.is c.in_ok-refusal.ensures.settles)
-    (to-come (goal.at.returns-in-Some-clause-waits c).In_ok-refusal)
+    wait-lacks c.args.cluster.now c.sync_replica.new.cluster c.args.replica c.args.id c.in-Some.lacking
+    (subst (λ (o : Option Refusal). SyncsReplica c.args.cluster.now c.args.replica o c.sync_replica.new.cluster) c.in-Some.is c.in_ok-lacking.ensures.syncs)
+
+pub returns-in-Some-2-clause-waits : goal.returns-in-Some-2-clause-waits
+returns-in-Some-2-clause-waits c =
+    waiting-stops c.args.cluster.now c.parts.cluster c.settle_part.new.cluster c.args.replica c.args.id c.place_of-place.result c.part-item.result (drop (c.parts.part-index + 1) c.deref-part-items.result.now) c.in-Some-2.refusal
+    c.drained_replicas_agree-in-parts.ensures.whole (subst (λ (o : Option Refusal). Settles c.parts.cluster c.args.replica c.part-item.result c.place_of-place.result o c.settle_part.new.cluster) c.in-Some-2.is c.in_ok-refusal.ensures.settles)
+    (to-come (goal.at.returns-in-Some-2-clause-waits c).In_ok-refusal)
 
 pub parts-preserved : goal.parts-preserved
 parts-preserved c =
     let done = c.in_ok-refusal.ensures in
     waiting-goes-on c.args.cluster.now c.parts.cluster c.settle_part.new.cluster c.args.replica c.args.id c.place_of-place.result c.part-item.result (drop (c.parts.part-index + 1) c.deref-part-items.result.now)
-    c.drained_replicas_agree-in-parts.ensures.whole (subst (λ (o : Option Refusal). Settles c.parts.cluster c.args.replica c.part-item.result c.place_of-place.result o c.settle_part.new.cluster) c.in_default.is done.settles)
-    done.idle done.schema done.replicas (to-come (goal.at.parts-preserved c).In_ok-refusal)
+    c.drained_replicas_agree-in-parts.ensures.whole (subst (λ (o : Option Refusal). Settles c.parts.cluster c.args.replica c.part-item.result c.place_of-place.result o c.settle_part.new.cluster) c.in_default-2.is done.settles)
+    done.idle done.ups done.schema done.replicas (to-come (goal.at.parts-preserved c).In_ok-refusal)
 
 pub returns-clause-waits : goal.returns-clause-waits
 returns-clause-waits c =
