@@ -25,8 +25,9 @@ use Rattle.rmt_events.specs.Clusters.{Cluster, without_kinds}
 use Rattle.rmt_statement_model.specs.TableStates.{TableState, data_at, plain_rows, synced}
 use Rattle.rmt_statement_model.specs.Inserts.{InsertsAll}
 use Rattle.rmt_statement_model.specs.Reads.{KnowsAll}
-use Rattle.rmt_statement_model.specs.Shows.{Shows, Leads}
+use Rattle.rmt_statement_model.specs.Shows.{Shows, Leads, ups}
 use Rattle.rmt_statement_model.proofs.ReadLaws.{synced-knows}
+use Rattle.rmt_acts.specs.Syncing.{SyncsReplica}
 use Rattle.rmt_statements.specs.declared.act.Act.TheVariants as acts
 use Rattle.rmt_statements.specs.declared.insert.Insert.{Insert}
 use Rattle.rmt_sql_rows.specs.InsertedRows.{names_refusal}
@@ -74,18 +75,29 @@ pub found-rows : {A E : Type 0} (found : Result A E) (items : A → List Row) (r
 found-rows {A} {E} found items rows c schema insert e f k =
     subst (λ (x : Shape). HasRows x insert (items rows)) e (subst (λ (r : Result A E). IfOk r (λ a. HasRows c insert (items a))) f k)
 
+-- nothing was told
+pub none-of : (o : Option Refusal) → ((x : Refusal) → o ≡ Some x → ⊥) → o ≡ None
+none-of None f = refl
+none-of (Some x) f = absurd (f x refl)
+
 -- SELECT .. SYNC
 pub syncs-in : (s u : Cluster) (r : ℕ) (query : Query) (checked : CheckedQuery) (cells : List (List Cell)) → query_refusal s.table.schema query ≡ None → IsCheckedQuery s.table.schema query checked
-    → ((t : TableState) → Shows s t → Shows u (synced r t))
+    → SyncsReplica s r None u
     → ((t : TableState) → Shows u t → KnowsAll t r → cells ≡ answer_of t.schema checked (plain_rows t))
-    → ExecutesQuery s query (λ t. Syncs t r query) (lines.Rows cells) u
+    → ExecutesQuery s query (λ t. Syncs (ups s) t r query) (lines.Rows cells) u
 syncs-in s u r query checked cells q is f a = λ t h.
-    answered s u t (synced r t) query (λ t. Syncs t r query) (lines.Rows cells) q h (f t h) (record {
+    answered s u t (synced r t) query (λ t. Syncs (ups s) t r query) (lines.Rows cells) q h (f.shows t h) (inl (record {
       checked = checked;
       is = checked-in s t query checked h is;
-      reply = ap (λ (x : List (List Cell)). lines.Rows x) (a (synced r t) (f t h) (synced-knows t r));
+      reply = ap (λ (x : List (List Cell)). lines.Rows x) (a (synced r t) (f.shows t h) (synced-knows t r));
       change = refl;
-    })
+    }))
+
+-- the replica lacks a part
+pub sync-lacks : (s u : Cluster) (r : ℕ) (query : Query) (why : Refusal) → query_refusal s.table.schema query ≡ None → SyncsReplica s r (Some why) u → ExecutesQuery s query (λ t. Syncs (ups s) t r query) (lines.Refused why) u
+sync-lacks s u r query why q f = λ t h.
+    let l = f t h in
+    answered s u t l.state query (λ t. Syncs (ups s) t r query) (lines.Refused why) q h l.shows (inr (record { refusal = why; lacks = l.holds; reply = refl }))
 
 -- a plain SELECT
 pub reads-in : (s : Cluster) (r : ℕ) (query : Query) (checked : CheckedQuery) (names : List Name) (cells : List (List Cell)) → query_refusal s.table.schema query ≡ None → IsCheckedQuery s.table.schema query checked
@@ -132,23 +144,23 @@ query-refused s query Answers line why q e = λ t h. record {
 -- ---- INSERT
 
 -- rows that are inserted
-pub inserts-in : (s u : Cluster) (r : ℕ) (insert : Insert) (rows : List Row) (line : Line) → HasRows s.table.schema insert rows → ((t : TableState) → Shows s t → Leads u (InsertsRows t r rows line))
+pub inserts-in : (s u : Cluster) (r : ℕ) (insert : Insert) (rows : List Row) (line : Line) → ups s r ≡ true → HasRows s.table.schema insert rows → ((t : TableState) → Shows s t → Leads u (InsertsRows t r rows line))
     → ExecutesIn s r (acts.Insert insert) line u
-inserts-in s u r insert rows line k f = λ t h.
+inserts-in s u r insert rows line up k f = λ t h.
     let led = f t h in
     let here = subst (λ (c : Shape). HasRows c insert rows) (sym h.schema) k in
     record {
       state = led.state;
-      holds = subst (λ (o : Option Refusal). MatchOption o (Acts t r (acts.Insert insert) line led.state) (Declines t line led.state))
-          (sym (ap refused_names here.known)) (inl (record { rows = rows; read = here.read; inserts = led.holds }));
+      holds = subst (λ (o : Option Refusal). MatchOption o (Acts (ups s) t r (acts.Insert insert) line led.state) (Declines t line led.state))
+          (sym (ap refused_names here.known)) (inl (up, record { rows = rows; read = here.read; inserts = led.holds }));
       shows = led.shows;
     }
 
 -- the same of a call
-pub inserts-all-in : {E : Type 0} (result : Result Line E) (s u : Cluster) (r : ℕ) (insert : Insert) (rows : List Row) → HasRows s.table.schema insert rows
+pub inserts-all-in : {E : Type 0} (result : Result Line E) (s u : Cluster) (r : ℕ) (insert : Insert) (rows : List Row) → ups s r ≡ true → HasRows s.table.schema insert rows
     → IfOk result (λ line. (t : TableState) → Shows s t → Leads u (InsertsRows t r rows line)) → IfOk result (λ line. ExecutesIn s r (acts.Insert insert) line u)
-inserts-all-in (Ok line) s u r insert rows k f = inserts-in s u r insert rows line k f
-inserts-all-in (Err e) s u r insert rows k f = tt
+inserts-all-in (Ok line) s u r insert rows up k f = inserts-in s u r insert rows line up k f
+inserts-all-in (Err e) s u r insert rows up k f = tt
 
 -- the rows of each block fit
 pub split-fits : (shape : Shape) (rows : List Row) (blocks : List BlockView) → IsSplit shape rows blocks → All (λ row. fits shape.columns row ≡ true) rows → All (λ b. All (λ row. fits shape.columns row ≡ true) b.rows) blocks
@@ -172,8 +184,8 @@ inserts-split s u r rows blocks all refused p f t h =
 pub rows-refused : (s : Cluster) (r : ℕ) (insert : Insert) (line : Line) (why : Refusal) → RefusesRows s.table.schema insert why → line ≡ lines.Refused why → ExecutesIn s r (acts.Insert insert) line s
 rows-refused s r insert line why k e = λ t h. record { state = t; holds = go t (subst (λ (c : Shape). RefusesRows c insert why) (sym h.schema) k); shows = h }
   where
-    go : (t : TableState) → RefusesRows t.schema insert why → MatchOption (refused_names (names_refusal t.schema.columns insert.columns)) (Acts t r (acts.Insert insert) line t) (Declines t line t)
-    go t (inl q) = subst (λ (o : Option Refusal). MatchOption o (Acts t r (acts.Insert insert) line t) (Declines t line t)) (sym q) (e, refl)
+    go : (t : TableState) → RefusesRows t.schema insert why → MatchOption (refused_names (names_refusal t.schema.columns insert.columns)) (Acts (ups s) t r (acts.Insert insert) line t) (Declines t line t)
+    go t (inl q) = subst (λ (o : Option Refusal). MatchOption o (Acts (ups s) t r (acts.Insert insert) line t) (Declines t line t)) (sym q) (e, refl)
     go t (inr b) =
-        subst (λ (o : Option Refusal). MatchOption o (Acts t r (acts.Insert insert) line t) (Declines t line t)) (sym (ap refused_names b.known))
-        (inr (record { row = b.row; refused = b.refused; reply = e ∙ ap (λ (w : Refusal). lines.Refused w) b.is; unchanged = refl }))
+        subst (λ (o : Option Refusal). MatchOption o (Acts (ups s) t r (acts.Insert insert) line t) (Declines t line t)) (sym (ap refused_names b.known))
+        (inr (inl (record { row = b.row; refused = b.refused; reply = e ∙ ap (λ (w : Refusal). lines.Refused w) b.is; unchanged = refl })))

@@ -1,5 +1,5 @@
 -- What commands do, by what their cluster says.
-use Rattle.std.proofs.Common.{◌≡◌, ◌∙◌, ℕ, ◌<◌, ◌≤◌, List, cond, refl, ap, sym, subst, Bool, true, false, nat_lt, arith}
+use Rattle.std.proofs.Common.{◌≡◌, ◌∙◌, ℕ, ◌<◌, ◌≤◌, List, cond, refl, ap, sym, subst, Bool, true, false, nat_lt, arith, inl, inr}
 use Rattle.std.proofs.lemmas.Bool.Decides.{nat_tests}
 use Rattle.std.specs.Prelude.{IfOk, MatchOption}
 use Rattle.std.specs.declared.result.Result.{Result}
@@ -24,31 +24,33 @@ use Rattle.rmt_partition_words.specs.Words.{partition_named}
 use Rattle.rmt_statement_model.specs.TableStates.{TableState, synced}
 use Rattle.rmt_statement_model.specs.BackgroundWork.{Works}
 use Rattle.rmt_statement_model.specs.Optimizes.{OptimizesTable}
-use Rattle.rmt_statement_model.specs.Shows.{Shows, Leads}
+use Rattle.rmt_statement_model.specs.Shows.{Shows, Leads, ups}
 use Rattle.rmt_acts.specs.Changing.{DropsSome}
 use Rattle.rmt_acts.specs.Waiting.{WaitsTo}
 use Rattle.rmt_reply.specs.declared.line.Line.{Line}
 use Rattle.rmt_reply.specs.declared.line.Line.TheVariants as lines
 use Rattle.rmt_reply.specs.declared.refusal.Refusal.{Refusal}
 use Rattle.rmt_reply.specs.declared.refusal.Refusal.TheVariants.{UnknownMutation}
-use Rattle.rmt_play.specs.ActRefusals.{refused_command, refused_partition, refused_asked, refused_id, act_refusal}
+use Rattle.rmt_play.specs.ActRefusals.{refused_command, refused_partition, refused_asked, refused_id}
 use Rattle.rmt_play.specs.MutationStatement.{Alters}
 use Rattle.rmt_play.specs.DropStatement.{DropsPartition}
 use Rattle.rmt_play.specs.OptimizeStatement.{IsAsked}
 use Rattle.rmt_play.specs.Acts.{Acts}
 use Rattle.rmt_play.specs.QueryAnswers.{IsReadingOf}
-use Rattle.rmt_play.specs.PlayerSteps.{Declines, ExecutesAct, ExecutesIn, RunsCluster}
+use Rattle.rmt_play.specs.PlayerSteps.{Declines, refusal_there, ExecutesAct, ExecutesIn, RunsCluster}
+use Rattle.rmt_acts.specs.Checking.{AreDigests}
+use Rattle.rmt_acts.specs.Syncing.{SyncsReplica}
 
 -- an act that isn't refused
-acts-in : (u : Cluster) (r : ℕ) (act : Act) (t v : TableState) (line : Line) → act_refusal t act ≡ None → Shows u v → Acts t r act line v → Leads u (ExecutesAct t r act line)
-acts-in u r act t v line q k a =
-    record { state = v; holds = subst (λ (o : Option Refusal). MatchOption o (Acts t r act line v) (Declines t line v)) (sym q) a; shows = k }
+acts-in : (u : Cluster) (up : ℕ → Bool) (r : ℕ) (act : Act) (t v : TableState) (line : Line) → refusal_there t act ≡ None → Shows u v → Acts up t r act line v → Leads u (ExecutesAct up t r act line)
+acts-in u up r act t v line q k a =
+    record { state = v; holds = subst (λ (o : Option Refusal). MatchOption o (Acts up t r act line v) (Declines t line v)) (sym q) a; shows = k }
 
 -- an act that is refused
-pub act-refused : (s : Cluster) (r : ℕ) (act : Act) (why : Refusal) → ((t : TableState) → Shows s t → act_refusal t act ≡ Some why) → ExecutesIn s r act (lines.Refused why) s
+pub act-refused : (s : Cluster) (r : ℕ) (act : Act) (why : Refusal) → ((t : TableState) → Shows s t → refusal_there t act ≡ Some why) → ExecutesIn s r act (lines.Refused why) s
 act-refused s r act why f = λ t h. record {
   state = t;
-  holds = subst (λ (o : Option Refusal). MatchOption o (Acts t r act (lines.Refused why) t) (Declines t (lines.Refused why) t)) (sym (f t h)) (refl, refl);
+  holds = subst (λ (o : Option Refusal). MatchOption o (Acts (ups s) t r act (lines.Refused why) t) (Declines t (lines.Refused why) t)) (sym (f t h)) (refl, refl);
   shows = h;
 }
 
@@ -70,7 +72,7 @@ pub alters-in : (s u : Cluster) (r : ℕ) (table : List ℕ) (written : Mutation
     → ((t : TableState) → Shows s t → Leads u (λ v. Alters t command line v)) → ExecutesIn s r (acts.Mutate table written) line u
 alters-in s u r table written command line q is f = λ t h.
     let l = f t h in
-    acts-in u r (acts.Mutate table written) t l.state line (ap (λ (c : Shape). refused_command (mutation_refusal c written)) h.schema ∙ ap refused_command q) l.shows
+    acts-in u (ups s) r (acts.Mutate table written) t l.state line (ap (λ (c : Shape). refused_command (mutation_refusal c written)) h.schema ∙ ap refused_command q) l.shows
     (record { command = command; is = subst (λ (c : Shape). IsCheckedMutation c written command) (sym h.schema) is; alters = l.holds })
 
 -- one that is
@@ -89,7 +91,7 @@ pub drops-in : (s u : Cluster) (r : ℕ) (table : List ℕ) (word : PartitionWor
 drops-in s u r table word p line q f = λ t h.
     let l = f t h in
     let n : partition_named t.schema.partition word ≡ Some p = ap (λ (c : Shape). partition_named c.partition word) h.schema ∙ q in
-    acts-in u r (acts.DropPartition table word) t l.state line (ap refused_partition n) l.shows (record { partition = p; named = n; drops = l.holds })
+    acts-in u (ups s) r (acts.DropPartition table word) t l.state line (ap refused_partition n) l.shows (record { partition = p; named = n; drops = l.holds })
 
 -- one that names none is refused
 pub drop-refused : (s : Cluster) (r : ℕ) (table : List ℕ) (word : PartitionWord) (why : Refusal) → refused_partition (partition_named s.table.schema.partition word) ≡ Some why → ExecutesIn s r (acts.DropPartition table word) (lines.Refused why) s
@@ -106,11 +108,11 @@ asked-known rule (Some word) (Some p) q = ap refused_partition q
 
 -- the partitions that are asked for are optimized
 pub optimizes-in : (s u : Cluster) (r : ℕ) (table : List ℕ) (word : Option PartitionWord) (asked : Option (Option ℕ)) (names : List Name) (refused : Option Refusal) → IsAsked s.table.schema.partition word asked
-    → ((t : TableState) → Shows s t → Leads u (λ v. OptimizesTable t r asked names refused v)) → ExecutesIn s r (acts.Optimize table word) (lines.Optimized names refused) u
+    → ((t : TableState) → Shows s t → Leads u (λ v. OptimizesTable (ups s) t r asked names refused v)) → ExecutesIn s r (acts.Optimize table word) (lines.Optimized names refused) u
 optimizes-in s u r table word asked names refused q f = λ t h.
     let l = f t h in
     let n : IsAsked t.schema.partition word asked = subst (λ (c : Shape). IsAsked c.partition word asked) (sym h.schema) q in
-    acts-in u r (acts.Optimize table word) t l.state (lines.Optimized names refused) (asked-known t.schema.partition word asked n) l.shows
+    acts-in u (ups s) r (acts.Optimize table word) t l.state (lines.Optimized names refused) (asked-known t.schema.partition word asked n) l.shows
     (record { asked = asked; named = n; names = names; refused = refused; optimizes = l.holds; reply = refl })
 
 -- a word that names no partition is refused
@@ -123,7 +125,15 @@ optimize-refused s r table word why q = act-refused s r (acts.Optimize table wor
 pub shows-in : (s : Cluster) (r : ℕ) (table : List ℕ) (parts : List NamedData) (names : List Name) → IsReadingOf s r parts → names ≡ names_in parts → ExecutesIn s r (acts.ShowParts table) (lines.Parts names) s
 shows-in s r table parts names f e = λ t h.
     let reading = f t h in
-    acts-in s r (acts.ShowParts table) t t (lines.Parts names) refl h (record { names = names; fair = subst (AreFair t.log (t.known r)) (sym e) reading.fair; reply = refl; unchanged = refl })
+    acts-in s (ups s) r (acts.ShowParts table) t t (lines.Parts names) refl h (record { names = names; fair = subst (AreFair t.log (t.known r)) (sym e) reading.fair; reply = refl; unchanged = refl })
+
+-- ---- CHECK TABLE
+
+-- the digests of parts that are read
+pub checks-in : (s : Cluster) (r : ℕ) (table : List ℕ) (all : List (Name × List ℕ)) → ((t : TableState) → Shows s t → AreDigests t r all) → ExecutesIn s r (acts.CheckTable table) (lines.Digests all) s
+checks-in s r table all f = λ t h.
+    let d = f t h in
+    acts-in s (ups s) r (acts.CheckTable table) t t (lines.Digests all) refl h (record { names = d.names; fair = d.fair; reply = ap (λ (l : List (Name × List ℕ)). lines.Digests l) d.are; unchanged = refl })
 
 -- ---- WAIT MUTATION
 
@@ -135,11 +145,11 @@ id-known s t id h l =
 
 -- no part waits for it any more
 pub waits-in : (s u : Cluster) (r id : ℕ) (table : List ℕ) → id < mutation_count s.table.log → WaitsTo s r id None u → ExecutesIn s r (acts.WaitMutation table id) (lines.Done id) u
-waits-in s u r id table n f = λ t h. let l = f t h in acts-in u r (acts.WaitMutation table id) t l.state (lines.Done id) (id-known s t id h n) l.shows (refl, l.holds)
+waits-in s u r id table n f = λ t h. let l = f t h in acts-in u (ups s) r (acts.WaitMutation table id) t l.state (lines.Done id) (id-known s t id h n) l.shows (refl, l.holds)
 
 -- one more entry would pass a limit
 pub wait-full : (s u : Cluster) (r id : ℕ) (table : List ℕ) (why : Refusal) → id < mutation_count s.table.log → WaitsTo s r id (Some why) u → ExecutesIn s r (acts.WaitMutation table id) (lines.Refused why) u
-wait-full s u r id table why n f = λ t h. let l = f t h in acts-in u r (acts.WaitMutation table id) t l.state (lines.Refused why) (id-known s t id h n) l.shows l.holds
+wait-full s u r id table why n f = λ t h. let l = f t h in acts-in u (ups s) r (acts.WaitMutation table id) t l.state (lines.Refused why) (id-known s t id h n) l.shows l.holds
 
 -- one that wasn't made is refused
 pub wait-refused : (s : Cluster) (r id : ℕ) (table : List ℕ) → mutation_count s.table.log ≤ id → ExecutesIn s r (acts.WaitMutation table id) (lines.Refused (UnknownMutation id)) s
@@ -149,11 +159,15 @@ wait-refused s r id table l = act-refused s r (acts.WaitMutation table id) (Unkn
 
 -- ---- SYSTEM
 
-pub drains-in : (s u : Cluster) (r : ℕ) (table : List ℕ) → ((t : TableState) → Shows s t → Shows u (synced r t)) → ExecutesIn s r (acts.SyncReplica table) lines.Okay u
-drains-in s u r table f = λ t h. acts-in u r (acts.SyncReplica table) t (synced r t) lines.Okay refl (f t h) (record { reply = refl; change = refl })
+pub drains-in : (s u : Cluster) (r : ℕ) (table : List ℕ) → SyncsReplica s r None u → ExecutesIn s r (acts.SyncReplica table) lines.Okay u
+drains-in s u r table f = λ t h. acts-in u (ups s) r (acts.SyncReplica table) t (synced r t) lines.Okay refl (f.shows t h) (inl (record { reply = refl; change = refl }))
+
+-- the replica lacks a part
+pub drain-lacks : (s u : Cluster) (r : ℕ) (table : List ℕ) (why : Refusal) → SyncsReplica s r (Some why) u → ExecutesIn s r (acts.SyncReplica table) (lines.Refused why) u
+drain-lacks s u r table why f = λ t h. let l = f t h in acts-in u (ups s) r (acts.SyncReplica table) t l.state (lines.Refused why) refl l.shows (inr (record { refusal = why; lacks = l.holds; reply = refl }))
 
 pub restarts-in : (s u : Cluster) (r : ℕ) (table : List ℕ) → ((t : TableState) → Shows s t → Shows u t) → ExecutesIn s r (acts.RestartReplica table) lines.Okay u
-restarts-in s u r table f = λ t h. acts-in u r (acts.RestartReplica table) t t lines.Okay refl (f t h) (record { reply = refl; unchanged = refl })
+restarts-in s u r table f = λ t h. acts-in u (ups s) r (acts.RestartReplica table) t t lines.Okay refl (f t h) (record { reply = refl; unchanged = refl })
 
 -- ---- RUN
 

@@ -1,6 +1,8 @@
 -- What becomes of a world as a table is made, or isn't.
-use Rattle.std.proofs.Common.{◌≡◌, ◌∙◌, ℕ, zero, suc, Bool, true, false, List, [], ◌∷◌, ◌++◌, length, map, refl, ap, sym, subst}
-use Rattle.std.specs.Prelude.{MatchOption, MatchResult, IfOk, cond, is_some, take}
+use Rattle.std.proofs.Common.{◌≡◌, ◌∙◌, ℕ, zero, suc, ◌+◌, ◌<◌, ◌&&◌, nat_eq, nat_lt, Bool, true, false, List, [], ◌∷◌, ◌++◌, length, map, refl, ap, sym, subst, arith}
+use Rattle.std.proofs.Math.Path.{fun_ext}
+use Rattle.std.proofs.lemmas.Bool.Decides.{nat_tests}
+use Rattle.std.specs.Prelude.{MatchOption, MatchResult, IfOk, IfErr, cond, is_some, slice_index_or, take}
 use Rattle.std.specs.declared.result.Result.{Result}
 use Rattle.std.specs.declared.result.Result.TheVariants.{Ok, Err}
 use Rattle.std.specs.declared.option.Option.{Option}
@@ -11,18 +13,17 @@ use Rattle.rmt_reply.specs.declared.line.Line.{Line}
 use Rattle.rmt_reply.specs.declared.line.Line.TheVariants as lines
 use Rattle.rmt_reply.specs.declared.refusal.Refusal.{Refusal}
 use Rattle.rmt_reply.specs.declared.refusal.Refusal.TheVariants.{TableExists, Syntax}
-use Rattle.rmt_model.specs.Words.{Each}
 use Rattle.rmt_events.specs.Views.{Replica}
 use Rattle.rmt_events.specs.Clusters.{Cluster, accepted}
 use Rattle.rmt_events.specs.Starts.{new_replica}
-use Rattle.rmt_cluster.specs.NewClusters.{IsNewCluster}
+use Rattle.rmt_cluster.specs.NewClusters.{AreCounted, IsNewCluster}
 use Rattle.rmt_statement_model.specs.TableStates.{empty_table}
-use Rattle.rmt_statement_model.specs.Shows.{Shows, Knows}
+use Rattle.rmt_statement_model.specs.Shows.{Shows, Knows, up_at}
 use Rattle.rmt_play.specs.World.{Table, World, new_table}
 use Rattle.rmt_play.specs.Checks.{first_of, refused_with, refused_schema, refused_columns, too_many_tables, create_refusals, is_played, refusals, refusal_of}
 use Rattle.rmt_statements.specs.declared.statement.Statement.{Statement}
 use Rattle.rmt_play.specs.Plays.{Creates, Performs, Refuses}
-use Rattle.rmt_play.specs.PlayerSteps.{NamedCluster, PlayerView, IsIn, ComesTo, Moves, IsPlaceOf, HasNone, IsFound, IsNewTable, Executes, ExecutesCreate, ExecutesPlayed}
+use Rattle.rmt_play.specs.PlayerSteps.{NamedCluster, PlayerView, IsIn, ComesTo, Moves, IsPlaceOf, HasNone, IsFound, IsNewTable, is_up, Executes, ExecutesCreate, ExecutesPlayed}
 use Rattle.rmt_play.proofs.TableLemmas.{length-shown, append-shown, none-in}
 use Rattle.rmt_play.proofs.SendLemmas.{found-at}
 
@@ -31,7 +32,7 @@ pub adds : (p : PlayerView) (name : List ℕ) (schema : Shape) (c : Cluster) →
 adds p name schema c h w i = record {
   world = record w { tables = w.tables ++ new_table name schema ∷ [] };
   holds = record { reply = refl; change = refl };
-  is_in = record { replicas = i.replicas; tables = append-shown p.tables w.tables (record { name = name; cluster = c }) (new_table name schema) i.tables refl h };
+  is_in = record { replicas = i.replicas; up = i.up; tables = append-shown p.tables w.tables (record { name = name; cluster = c }) (new_table name schema) i.tables refl h };
 }
 
 -- the name is taken
@@ -103,6 +104,16 @@ pub made-created : (p q : PlayerView) (name : List ℕ) (made : Result Shape Sch
 made-created p q name made schema line m none room c =
     subst (λ (r : Result Shape SchemaError). CreatesMade p name r line q) (sym m) (created p q name schema line none room c)
 
+-- a CREATE of which this schema or this refusal is known
+pub create-played : {E : Type 0} (p q : PlayerView) (name : List ℕ) (refusal : Option SchemaError) (schema : Shape) (made : Result Shape SchemaError) (r : Result Line E) → IfOk made (λ s. s ≡ schema) → IfOk made (λ s. refusal ≡ None)
+    → IfErr made (λ e. refusal ≡ Some e) → IfOk r (λ line. CreatesMade p name made line q) → IfOk r (λ line. Moves p (ExecutesCreate name refusal schema line) q)
+create-played p q name refusal schema made (Err e) o k f m = tt
+create-played p q name refusal schema (Ok s) (Ok line) o k f m =
+    subst (λ (x : Option SchemaError). Moves p (ExecutesCreate name x schema line) q) (sym k) (subst (λ (x : Shape). Moves p (ExecutesCreate name None x line) q) o m)
+create-played p q name refusal schema (Err e) (Ok line) o k f m = λ w i.
+    let x = m w i in
+    record { world = x.world; holds = subst (λ (y : Option SchemaError). ExecutesCreate name y schema line w x.world) (sym f) (x.holds schema); is_in = x.is_in }
+
 -- ---- a form that isn't played
 
 pub unplayed-refused : (p : PlayerView) (statement : Statement) (first : ℕ) → is_played (length p.tables) statement ≡ false → Moves p (Executes statement first (lines.Refused (Syntax first))) p
@@ -141,16 +152,45 @@ nothing-known number up = record {
   fair = record { apart = tt; made_here = tt; kept = tt; answered = λ a m. absurd m };
 }
 
-all-up : (rs : List Replica) (up : List Bool) → map (λ r. r.up) rs ≡ up → Each (λ b. b ≡ true) up → Each (λ x. x.up ≡ true) rs
-all-up [] up e all = tt
-all-up (r ∷ rs) [] e all = absurd (cc)
-all-up (r ∷ rs) (b ∷ up) e all =
-    let first : r.up ≡ b = cc in
-    let rest : map (λ x. x.up) rs ≡ up = cc in
-    (first ∙ all.0, all-up rs up rest all.1)
+-- ---- which replicas of a new cluster are up
 
-pub new-table : (schema : Shape) (count : ℕ) (up : List Bool) (c : Cluster) → IsNewCluster schema up c → length c.replicas ≡ count → Each (λ b. b ≡ true) up → IsNewTable schema count c
-new-table schema count up c k n all = record {
+-- one below all
+none-below : (xs : List Replica) (k j : ℕ) → AreCounted k xs → j < k → up_at xs j ≡ false
+none-below [] k j n l = refl
+none-below (x ∷ xs) k j n l =
+    let e = n.0 in
+    let q : nat_eq x.number j ≡ false = grind (arith, nat_tests) in
+    rw q (none-below xs (k + 1) j n.1 (omega (arith, l)))
+
+counted-up : (xs : List Replica) (k i : ℕ) → AreCounted k xs → up_at xs (k + i) ≡ slice_index_or (map (λ r. r.up) xs) i false
+counted-up [] k i n = refl
+counted-up (x ∷ xs) k zero n = let e = n.0 in let q : nat_eq x.number (k + 0) ≡ true = grind (arith, nat_tests) in rw q refl
+counted-up (x ∷ xs) k (suc i) n =
+    let e = n.0 in
+    let q : nat_eq x.number (k + suc i) ≡ false = grind (arith, nat_tests) in
+    let m : k + suc i ≡ k + 1 + i = omega arith in
+    rw q (ap (λ j. up_at xs j) m ∙ counted-up xs (k + 1) i n.1)
+
+index-take : (n : ℕ) (bs : List Bool) (i : ℕ) → slice_index_or (take n bs) i false ≡ (nat_lt i n && slice_index_or bs i false)
+index-take zero bs i = let q : nat_lt i 0 ≡ false = grind (arith, nat_tests) in rw q refl
+index-take (suc n) [] i = none (nat_lt i (suc n))
+  where
+    none : (b : Bool) → false ≡ (b && false)
+    none true = refl
+    none false = refl
+index-take (suc n) (b ∷ bs) zero = let q : nat_lt 0 (suc n) ≡ true = grind (arith, nat_tests) in rw q refl
+index-take (suc n) (b ∷ bs) (suc i) = index-take n bs i ∙ ap (λ (c : Bool). c && slice_index_or bs i false) (below (nat_lt i n) refl)
+  where
+    below : (c : Bool) → nat_lt i n ≡ c → nat_lt i n ≡ nat_lt (suc i) (suc n)
+    below true e = let q : nat_lt (suc i) (suc n) ≡ true = grind (arith, nat_tests) in e ∙ sym q
+    below false e = let q : nat_lt (suc i) (suc n) ≡ false = grind (arith, nat_tests) in e ∙ sym q
+
+ups-new : (xs : List Replica) (count : ℕ) (up : List Bool) → AreCounted 1 xs → map (λ r. r.up) xs ≡ take count up → (j : ℕ) → up_at xs j ≡ is_up count up j
+ups-new xs count up n e zero = none-below xs 1 0 n (omega arith)
+ups-new xs count up n e (suc i) = ap (λ j. up_at xs j) (let m : suc i ≡ 1 + i = omega arith in m) ∙ (counted-up xs 1 i n ∙ (ap (λ (bs : List Bool). slice_index_or bs i false) e ∙ index-take count up i))
+
+new-table : (schema : Shape) (count : ℕ) (up : List Bool) (c : Cluster) → IsNewCluster schema (take count up) c → length c.replicas ≡ count → IsNewTable schema count up c
+new-table schema count up c k n = record {
   shows = record {
     schema = sym (ap (λ (d : Cluster). d.table.schema) k.is_new);
     log = sym (ap (λ (d : Cluster). d.table.log) k.is_new);
@@ -159,15 +199,11 @@ new-table schema count up c k n all = record {
     knows = λ x h. subst (λ (y : Replica). Knows y (λ i. false)) (sym (k.replicas.each x h).0) (nothing-known x.number x.up);
   };
   all = n;
-  idle = record { up = all-up c.replicas up k.up_ones all; free = ap (λ (d : Cluster). d.table.locks) k.is_new };
+  ups_are = fun_ext (ups-new c.replicas count up k.numbered k.up_ones);
+  free = ap (λ (d : Cluster). d.table.locks) k.is_new;
 }
 
-pub Each-take : {A : Type 0} (P : A → Type 0) (n : ℕ) (xs : List A) → Each P xs → Each P (take n xs)
-Each-take P zero xs e = tt
-Each-take P (suc n) [] e = tt
-Each-take P (suc n) (x ∷ xs) e = (e.0, Each-take P n xs e.1)
-
-pub new-tables : {E : Type 0} (r : Result Cluster E) (made schema : Shape) (count : ℕ) (up : List Bool) → made ≡ schema → length up ≡ count → Each (λ b. b ≡ true) up
-    → IfOk r (IsNewCluster made up) → IfOk r (λ c. length c.replicas ≡ length up) → IfOk r (IsNewTable schema count)
-new-tables (Ok c) made schema count up m n all k l = subst (λ (s : Shape). IsNewTable s count c) m (new-table made count up c k (l ∙ n) all)
-new-tables (Err e) made schema count up m n all k l = tt
+pub new-tables : {E : Type 0} (r : Result Cluster E) (made schema : Shape) (count : ℕ) (up front : List Bool) → made ≡ schema → front ≡ take count up → length front ≡ count
+    → IfOk r (IsNewCluster made front) → IfOk r (λ c. length c.replicas ≡ length front) → IfOk r (IsNewTable schema count up)
+new-tables (Ok c) made schema count up front m f n k l = subst (λ (s : Shape). IsNewTable s count up c) m (new-table made count up c (subst (λ (bs : List Bool). IsNewCluster made bs c) f k) (l ∙ n))
+new-tables (Err e) made schema count up front m f n k l = tt

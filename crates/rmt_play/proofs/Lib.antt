@@ -2,7 +2,9 @@ pub mod TableLemmas
 pub mod WordLemmas
 pub mod SchemaLemmas
 pub mod SendLemmas
+pub mod TurnLemmas
 pub mod CreateLemmas
 pub mod ActLemmas
 pub mod CommandLemmas
+pub mod RefusedActs
 pub mod ScriptLemmas

@@ -1,6 +1,8 @@
 -- What the playing of a script keeps from statement to statement.
-use Rattle.std.proofs.Common.{◌≡◌, ◌∙◌, ℕ, ◌+◌, List, [], ◌∷◌, ◌++◌, map, refl, ap, sym, subst, Bool, cond, Option, Some, None, arith, append_assoc}
-use Rattle.std.specs.Prelude.{count_by, if◌then◌else◌}
+use Rattle.std.proofs.Common.{◌≡◌, ◌∙◌, ℕ, ◌+◌, List, [], ◌∷◌, ◌++◌, map, refl, ap, sym, subst, Bool, cond, Option, Some, None, arith, append_assoc, zero, suc, ◌&&◌, true, false, nat_lt}
+use Rattle.std.proofs.Math.Path.{fun_ext}
+use Rattle.std.proofs.lemmas.Bool.Decides.{nat_tests}
+use Rattle.std.specs.Prelude.{count_by, if◌then◌else◌, nat_le, replicate, slice_index_or}
 use Rattle.std.specs.Io.KnownBytes.{Appends, Keeps}
 use Rattle.std.proofs.KnownBytes.{Appends-nil, Appends-trans, Appends-kept}
 use Rattle.std.proofs.lemmas.List.Sums.{sum_by-append}
@@ -8,7 +10,7 @@ use Rattle.rmt_sql.specs.declared.parsed.Parsed.TheVariants as parsed
 use Rattle.rmt_sql.specs.Script.{ReadsAt}
 use Rattle.rmt_reply.specs.declared.line.Line.{Line}
 use Rattle.rmt_reply.specs.Printed.{printed}
-use Rattle.rmt_play.specs.World.{World, start}
+use Rattle.rmt_play.specs.World.{World, all_up, start}
 use Rattle.rmt_play.specs.Plays.{Played, is_refused}
 use Rattle.rmt_play.specs.Runs.{output, GivesScript, PlayedWhole, PlayedInPart, CutShort}
 use Rattle.rmt_play.specs.declared.outcome.Outcome.{Outcome}
@@ -17,7 +19,7 @@ use Rattle.rmt_play.specs.declared.script_end.ScriptEnd.TheVariants as ends
 use Rattle.rmt_model.specs.Words.{Each}
 use Rattle.rmt_events.specs.Clusters.{Cluster}
 use Rattle.rmt_play.specs.Shown.{AreShown, Agrees}
-use Rattle.rmt_play.specs.PlayerSteps.{PlayerView, IsIn, IsEmptyPlayer}
+use Rattle.rmt_play.specs.PlayerSteps.{PlayerView, is_up, IsIn, IsEmptyPlayer}
 use Rattle.rmt_play.specs.ScriptEnds.{is_refusal, AdvancesScript, CutsReply, IsScriptEnd, IsEndOf}
 use Rattle.rmt_play.proofs.TableLemmas.{shown-clusters}
 
@@ -30,12 +32,29 @@ pub record SoFar (script : List ℕ) (at : ℕ) (player : PlayerView) (before no
   pub written : Appends before now (output lines)
   pub counted : refused ≡ count_by is_refused lines
 
+no-both : (x : Bool) → (x && false) ≡ false
+no-both true = refl
+no-both false = refl
+
+-- the first two replicas are up
+both-up : all_up 2 ≡ is_up 2 (replicate 8 true)
+both-up = fun_ext up
+  where
+    up : (k : ℕ) → all_up 2 k ≡ is_up 2 (replicate 8 true) k
+    up zero = refl
+    up (suc zero) = refl
+    up (suc (suc zero)) = refl
+    up (suc (suc (suc k))) =
+        let a : nat_le (suc (suc (suc k))) 2 ≡ false = grind (arith, nat_tests) in
+        let b : nat_lt (suc (suc k)) 2 ≡ false = grind (arith, nat_tests) in
+        ap (λ (x : Bool). nat_le 1 (suc (suc (suc k))) && x) a ∙ (no-both (nat_le 1 (suc (suc (suc k)))) ∙ sym (ap (λ (x : Bool). x && slice_index_or (replicate 8 true) (suc (suc k)) false) b))
+
 pub so_far_start : (script : List ℕ) (player : PlayerView) (before : Option (List ℕ)) → IsEmptyPlayer player → SoFar script 0 player before before 0
 so_far_start script player before e = record {
   lines = [];
   world = start;
   played = (refl, refl);
-  is_in = subst (λ (p : PlayerView). IsIn p start) (sym e) (record { replicas = refl; tables = tt });
+  is_in = subst (λ (p : PlayerView). IsIn p start) (sym e) (record { replicas = refl; up = both-up; tables = tt });
   written = Appends-nil before;
   counted = refl;
 }

@@ -3,45 +3,102 @@ use Rattle.std.proofs.Common.{◌≡◌, ◌∙◌, ℕ, List, [], ◌∷◌, re
 use Rattle.std.specs.Prelude.{◌≢◌, ◌^◌, ◌&&◌, nat_le, nat_lt, Bool, true, false, cond, codes, MatchOption}
 use Rattle.std.specs.declared.option.Option.{Option}
 use Rattle.std.specs.declared.option.Option.TheVariants.{Some, None}
+use Rattle.rmt_model.specs.Words.{Each}
+use Rattle.rmt_events.specs.Clusters.{Cluster}
+use Rattle.rmt_statements.specs.declared.act.Act.{Act}
+use Rattle.rmt_statements.specs.declared.act.Act.TheVariants as acts
 use Rattle.rmt_statements.specs.declared.sent.Sent.{Sent}
 use Rattle.rmt_statement_model.specs.TableStates.{TableState}
-use Rattle.rmt_statement_model.specs.Shows.{Shows, Leads}
+use Rattle.rmt_statement_model.specs.Shows.{Shows, Leads, ups}
 use Rattle.rmt_reply.specs.declared.line.Line.{Line}
 use Rattle.rmt_reply.specs.declared.line.Line.TheVariants as lines
 use Rattle.rmt_reply.specs.declared.refusal.Refusal.{Refusal}
 use Rattle.rmt_reply.specs.declared.refusal.Refusal.TheVariants.{UnknownTable, WrongType}
 use Rattle.rmt_play.specs.World.{Table, World}
-use Rattle.rmt_play.specs.ActRefusals.{act_refusal}
+use Rattle.rmt_play.specs.ActRefusals.{act_refusal, act_refusals, down_refusal, id_refusal}
 use Rattle.rmt_play.specs.Checks.{first_of, table_of, table_named, replica_at, unknown_replica, refused_without, refused_name, refused_act, sent_refusals, refused_turns, run_refusals}
 use Rattle.rmt_play.specs.Acts.{Acts}
 use Rattle.rmt_play.specs.RunStatement.{RunsTurns}
 use Rattle.rmt_play.specs.Plays.{PerformsSent, RunsIn, Refuses, with_table}
-use Rattle.rmt_play.specs.PlayerSteps.{PlayerView, IsIn, ComesTo, Moves, IsPlaceOf, HasNone, ChangesAt, ActsAt, Declines, ExecutesAct, ExecutesSent, RunsCluster, ExecutesRun}
-use Rattle.rmt_play.proofs.TableLemmas.{FoundIn, found-in, none-in, with-same}
+use Rattle.rmt_play.specs.PlayerSteps.{PlayerView, IsAtAll, IsIn, ComesTo, Moves, IsPlaceOf, HasNone, ChangesAt, ActsAt, Declines, refusal_there, ExecutesIn, ExecutesAt, ExecutesThere, ExecutesSent, RunsCluster, ExecutesRun}
+use Rattle.rmt_play.proofs.TableLemmas.{FoundIn, each-get, found-in, none-in, with-same}
+
+-- ---- acts at a replica
+
+-- an act at a replica that is up is refused for its own cause
+up-refusals : (up : ℕ → Bool) (t : TableState) (r : ℕ) (act : Act) → up r ≡ true → first_of (act_refusals up t r act) ≡ refusal_there t act
+up-refusals up t r act h = own act (down act)
+  where
+    -- it isn't refused for the replica
+    down : (act : Act) → down_refusal up r act ≡ None
+    down (acts.Insert insert) = refl
+    down (acts.Select table query mode) = rw h refl
+    down (acts.Explain table query) = rw h refl
+    down (acts.Mutate table command) = rw h refl
+    down (acts.DropPartition table word) = rw h refl
+    down (acts.Optimize table word) = rw h refl
+    down (acts.ShowParts table) = rw h refl
+    down (acts.CheckTable table) = rw h refl
+    down (acts.WaitMutation table id) = rw h refl
+    down (acts.SyncReplica table) = rw h refl
+    down (acts.RestartReplica table) = rw h refl
+    down (acts.StopFetches table) = rw h refl
+    down (acts.StartFetches table) = rw h refl
+
+    two : (o : Option Refusal) → first_of (o ∷ None ∷ None ∷ []) ≡ o
+    two None = refl
+    two (Some why) = refl
+
+    last : (o : Option Refusal) → first_of (None ∷ None ∷ o ∷ []) ≡ o
+    last None = refl
+    last (Some why) = refl
+
+    own : (act : Act) → down_refusal up r act ≡ None → first_of (act_refusals up t r act) ≡ refusal_there t act
+    own (acts.Insert insert) d = two (act_refusal t (acts.Insert insert))
+    own (acts.Select table query mode) d = rw d (two (act_refusal t (acts.Select table query mode)))
+    own (acts.Explain table query) d = rw d (two (act_refusal t (acts.Explain table query)))
+    own (acts.Mutate table command) d = rw d (two (act_refusal t (acts.Mutate table command)))
+    own (acts.DropPartition table word) d = rw d (two (act_refusal t (acts.DropPartition table word)))
+    own (acts.Optimize table word) d = rw d (two (act_refusal t (acts.Optimize table word)))
+    own (acts.ShowParts table) d = rw d refl
+    own (acts.CheckTable table) d = rw d refl
+    own (acts.WaitMutation table id) d = rw d (last (id_refusal t (acts.WaitMutation table id)))
+    own (acts.SyncReplica table) d = rw d refl
+    own (acts.RestartReplica table) d = rw d refl
+    own (acts.StopFetches table) d = rw d refl
+    own (acts.StartFetches table) d = rw d refl
+
+-- so it does there what it does where the replica is up
+pub there-up : (s u : Cluster) (r : ℕ) (act : Act) (line : Line) → ups s r ≡ true → ExecutesIn s r act line u → ExecutesThere s r act line u
+there-up s u r act line h f t k =
+    let l = f t k in
+    record { state = l.state; holds = subst (λ (o : Option Refusal). MatchOption o (Acts (ups s) t r act line l.state) (Declines t line l.state)) (sym (up-refusals (ups s) t r act h)) l.holds; shows = l.shows }
+
+-- ---- in the world
 
 alone : (o : Option Refusal) → first_of (o ∷ []) ≡ o
 alone None = refl
 alone (Some refusal) = refl
 
 -- the refusals of what is sent to a table that is there
-refusals-found : (w : World) (sent : Sent) (t : Table) → table_of w.tables (table_named sent.act) ≡ Some t → first_of (sent_refusals w sent) ≡ first_of (unknown_replica w.replicas sent.replica ∷ act_refusal t.state sent.act ∷ [])
-refusals-found w sent t e = ap (λ (o : Option Table). first_of (refused_without o (table_named sent.act) ∷ unknown_replica w.replicas sent.replica ∷ refused_act o sent.act ∷ [])) e
+refusals-found : (w : World) (sent : Sent) (t : Table) → table_of w.tables (table_named sent.act) ≡ Some t → first_of (sent_refusals w sent) ≡ first_of (unknown_replica w.replicas sent.replica ∷ refused_act w.up (Some t) (replica_at w.replicas sent.replica) sent.act ∷ [])
+refusals-found w sent t e = ap (λ (o : Option Table). first_of (refused_without o (table_named sent.act) ∷ unknown_replica w.replicas sent.replica ∷ refused_act w.up o (replica_at w.replicas sent.replica) sent.act ∷ [])) e
 
-refusals-there : (w : World) (sent : Sent) (t : Table) (r : ℕ) → table_of w.tables (table_named sent.act) ≡ Some t → replica_at w.replicas sent.replica ≡ Some r → first_of (sent_refusals w sent) ≡ act_refusal t.state sent.act
+refusals-there : (w : World) (sent : Sent) (t : Table) (r : ℕ) → table_of w.tables (table_named sent.act) ≡ Some t → replica_at w.replicas sent.replica ≡ Some r → first_of (sent_refusals w sent) ≡ first_of (act_refusals w.up t.state r sent.act)
 refusals-there w sent t r e at =
     refusals-found w sent t e
-    ∙ (ap (λ (o : Option ℕ). first_of (refused_name o sent.replica ∷ act_refusal t.state sent.act ∷ [])) at ∙ alone (act_refusal t.state sent.act))
+    ∙ (ap (λ (o : Option ℕ). first_of (refused_name o sent.replica ∷ refused_act w.up (Some t) o sent.act ∷ [])) at ∙ alone (first_of (act_refusals w.up t.state r sent.act)))
 
 -- the table at the place of a name
 pub found-at : (p : PlayerView) (w : World) (name : List ℕ) (place : ℕ) → IsIn p w → (f : IsPlaceOf p.tables name place) → FoundIn p.tables w.tables name place f.table
 found-at p w name place i f = found-in p.tables w.tables name place f.table f.there f.named f.first i.tables
 
 -- an act that is done in its table
-pub sends : (old new : PlayerView) (sent : Sent) (place replica : ℕ) (line : Line) → IsPlaceOf old.tables (table_named sent.act) place → replica_at old.replicas sent.replica ≡ Some replica
+pub sends : (old new : PlayerView) (sent : Sent) (place replica : ℕ) (line : Line) → Each (IsAtAll old.replicas old.up) old.tables → IsPlaceOf old.tables (table_named sent.act) place → replica_at old.replicas sent.replica ≡ Some replica
     → ActsAt old place replica sent.act line new → Moves old (ExecutesSent sent line) new
-sends old new sent place replica line p at a w i =
+sends old new sent place replica line all p at a w i =
     subst (λ (o : Option Refusal). ComesTo new (λ v. MatchOption o (PerformsSent w sent line v) (λ refusal. Refuses w refusal line v))) (sym refused)
-    (go (act_refusal f.table.state sent.act) led.state led.shows led.holds)
+    (go (first_of (act_refusals w.up f.table.state replica sent.act)) led.state led.shows led.holds)
   where
     same : p.table ≡ a.table
     same = let e = sym p.there ∙ a.there in cc
@@ -52,17 +109,20 @@ sends old new sent place replica line p at a w i =
     here : replica_at w.replicas sent.replica ≡ Some replica
     here = ap (λ n. replica_at n sent.replica) i.replicas ∙ at
 
-    refused : first_of (sent_refusals w sent) ≡ act_refusal f.table.state sent.act
+    ups-are : ups a.table.cluster ≡ w.up
+    ups-are = (each-get (IsAtAll old.replicas old.up) old.tables place a.table a.there all).1 ∙ sym i.up
+
+    refused : first_of (sent_refusals w sent) ≡ first_of (act_refusals w.up f.table.state replica sent.act)
     refused = refusals-there w sent f.table replica f.found here
 
-    led : Leads a.after (ExecutesAct f.table.state replica sent.act line)
-    led = a.changes f.table.state f.shows
+    led : Leads a.after (ExecutesAt w.up f.table.state replica sent.act line)
+    led = subst (λ (up : ℕ → Bool). Leads a.after (ExecutesAt up f.table.state replica sent.act line)) ups-are (a.changes f.table.state f.shows)
 
     is_in : (v : TableState) → Shows a.after v → IsIn new (record w { tables = with_table w.tables (table_named sent.act) (record f.table { state = v }) })
     is_in v h = subst (λ (q : PlayerView). IsIn q (record w { tables = with_table w.tables (table_named sent.act) (record f.table { state = v }) })) (sym a.rest)
-        (record { replicas = i.replicas; tables = f.set a.after v h })
+        (record { replicas = i.replicas; up = i.up; tables = f.set a.after v h })
 
-    go : (o : Option Refusal) (v : TableState) → Shows a.after v → MatchOption o (Acts f.table.state replica sent.act line v) (Declines f.table.state line v) → ComesTo new (λ u. MatchOption o (PerformsSent w sent line u) (λ refusal. Refuses w refusal line u))
+    go : (o : Option Refusal) (v : TableState) → Shows a.after v → MatchOption o (Acts w.up f.table.state replica sent.act line v) (Declines f.table.state line v) → ComesTo new (λ u. MatchOption o (PerformsSent w sent line u) (λ refusal. Refuses w refusal line u))
     go None v h k = record {
       world = record w { tables = with_table w.tables (table_named sent.act) (record f.table { state = v }) };
       holds = record { replica = replica; at = here; acts = record { table = f.table; found = f.found; after = v; changes = k; rest = refl } };
@@ -80,7 +140,7 @@ sends old new sent place replica line p at a w i =
 pub no-table : (p : PlayerView) (sent : Sent) (line : Line) → HasNone p.tables (table_named sent.act) → line ≡ lines.Refused (UnknownTable (table_named sent.act)) → Moves p (ExecutesSent sent line) p
 no-table p sent line none e w i =
     subst (λ (o : Option Refusal). ComesTo p (λ v. MatchOption o (PerformsSent w sent line v) (λ refusal. Refuses w refusal line v)))
-    (sym (ap (λ (o : Option Table). first_of (refused_without o (table_named sent.act) ∷ unknown_replica w.replicas sent.replica ∷ refused_act o sent.act ∷ [])) (none-in p.tables w.tables (table_named sent.act) none i.tables)))
+    (sym (ap (λ (o : Option Table). first_of (refused_without o (table_named sent.act) ∷ unknown_replica w.replicas sent.replica ∷ refused_act w.up o (replica_at w.replicas sent.replica) sent.act ∷ [])) (none-in p.tables w.tables (table_named sent.act) none i.tables)))
     (record { world = w; holds = record { reply = e; unchanged = refl }; is_in = i })
 
 -- a replica that isn't there
@@ -89,7 +149,7 @@ no-replica p sent place refusal line f unknown e w i =
     let t = found-at p w (table_named sent.act) place i f in
     subst (λ (o : Option Refusal). ComesTo p (λ v. MatchOption o (PerformsSent w sent line v) (λ refusal. Refuses w refusal line v)))
     (sym (refusals-found w sent t.table t.found
-    ∙ ap (λ (o : Option Refusal). first_of (o ∷ act_refusal t.table.state sent.act ∷ [])) (ap (λ n. unknown_replica n sent.replica) i.replicas ∙ unknown)))
+    ∙ ap (λ (o : Option Refusal). first_of (o ∷ refused_act w.up (Some t.table) (replica_at w.replicas sent.replica) sent.act ∷ [])) (ap (λ n. unknown_replica n sent.replica) i.replicas ∙ unknown)))
     (record { world = w; holds = record { reply = e; unchanged = refl }; is_in = i })
 
 -- ---- RUN
@@ -107,7 +167,7 @@ runs old new name turns seed place line p q a w i =
       world = record w { tables = with_table w.tables name (record f.table { state = led.state }) };
       holds = record { table = f.table; found = f.found; after = led.state; changes = led.holds; rest = refl };
       is_in = subst (λ (x : PlayerView). IsIn x (record w { tables = with_table w.tables name (record f.table { state = led.state }) })) (sym a.rest)
-          (record { replicas = i.replicas; tables = f.set a.after led.state led.shows });
+          (record { replicas = i.replicas; up = i.up; tables = f.set a.after led.state led.shows });
     })
   where
     f : FoundIn old.tables w.tables name place a.table

@@ -3,6 +3,8 @@ use Rattle.std.proofs.Common.{◌≡◌, ◌∙◌, ℕ, zero, suc, ◌<◌, Boo
 use Rattle.std.specs.Prelude.{slice_get, slice_set}
 use Rattle.std.specs.Str.{bytes_eq}
 use Rattle.std.specs.declared.option.Option.TheVariants.{Some, None}
+use Rattle.rmt_model.specs.Words.{Each}
+use Rattle.rmt_model.proofs.Drops.{some-same}
 use Rattle.rmt_events.specs.Clusters.{Cluster}
 use Rattle.rmt_statement_model.specs.TableStates.{TableState}
 use Rattle.rmt_statement_model.specs.Shows.{Shows}
@@ -18,6 +20,16 @@ pub get-below : {A : Type 0} (xs : List A) (i : ℕ) (x : A) → slice_get xs i 
 get-below [] i x e = absurd (cc)
 get-below (y ∷ xs) zero x e = omega arith
 get-below (y ∷ xs) (suc i) x e = let l = get-below xs i x e in omega (arith, l)
+
+-- what holds of each holds of the one at a place
+pub each-get : {A : Type 0} (P : A → Type 0) (xs : List A) (i : ℕ) (x : A) → slice_get xs i ≡ Some x → Each P xs → P x
+each-get P [] i x e f = absurd (cc)
+each-get P (y ∷ xs) zero x e f = subst P (some-same y x e) f.0
+each-get P (y ∷ xs) (suc i) x e f = each-get P xs i x e f.1
+
+pub each-more : {A : Type 0} (P : A → Type 0) (xs : List A) (x : A) → Each P xs → P x → Each P (xs ++ x ∷ [])
+each-more P [] x f h = (h, tt)
+each-more P (y ∷ xs) x f h = (f.0, each-more P xs x f.1 h)
 
 -- ---- tables of a world and their clusters
 

@@ -1,6 +1,6 @@
 -- Why an act is refused in its table.
 -- ClickHouse documentation: INSERT INTO, SELECT, ALTER, OPTIMIZE. The refusals are this program's own.
-use Rattle.std.specs.Prelude.{ℕ, cond, nat_lt, codes}
+use Rattle.std.specs.Prelude.{ℕ, Bool, cond, nat_lt, List, [], ◌∷◌, codes}
 use Rattle.std.specs.declared.option.Option.{Option}
 use Rattle.std.specs.declared.option.Option.TheVariants.{Some, None}
 use Rattle.rmt_values.specs.declared.partition_rule.PartitionRule.{PartitionRule}
@@ -20,7 +20,7 @@ use Rattle.rmt_sql_rows.specs.declared.rows_error.RowsError.{RowsError}
 use Rattle.rmt_sql_rows.specs.declared.rows_error.RowsError.TheVariants as errors
 use Rattle.rmt_sql_rows.specs.InsertedRows.{names_refusal}
 use Rattle.rmt_reply.specs.declared.refusal.Refusal.{Refusal}
-use Rattle.rmt_reply.specs.declared.refusal.Refusal.TheVariants.{UnknownColumn, WrongType, KeyColumn, UnknownMutation, DoubleColumn}
+use Rattle.rmt_reply.specs.declared.refusal.Refusal.TheVariants.{UnknownColumn, WrongType, KeyColumn, ReplicaDown, ReplicaUp, UnknownMutation, DoubleColumn}
 
 -- the refusal of the columns that an INSERT names
 abbrev pub refused_names : Option RowsError → Option Refusal
@@ -56,7 +56,21 @@ refused_asked rule (Some word) = refused_partition (partition_named rule word)
 abbrev pub refused_id : ℕ → ℕ → Option Refusal
 refused_id made id = cond (nat_lt id made) None (Some (UnknownMutation id))
 
--- why an act is refused in a table
+-- ---- replicas
+
+-- the refusal of a replica that is down, where there is one
+abbrev pub refused_down : (ℕ → Bool) → Option ℕ → Option Refusal
+refused_down up None = None
+refused_down up (Some r) = cond (up r) None (Some (ReplicaDown r))
+
+-- the refusal of a replica that is up
+abbrev pub refused_up : (ℕ → Bool) → Option ℕ → Option Refusal
+refused_up up None = None
+refused_up up (Some r) = cond (up r) (Some (ReplicaUp r)) None
+
+-- ---- acts
+
+-- why an act is refused in a table, whatever replica it is sent to
 abbrev pub act_refusal : TableState → Act → Option Refusal
 act_refusal t (acts.Insert insert) = refused_names (names_refusal t.schema.columns insert.columns)
 act_refusal t (acts.Select table query mode) = refused_query (query_refusal t.schema query)
@@ -64,5 +78,18 @@ act_refusal t (acts.Explain table query) = refused_query (query_refusal t.schema
 act_refusal t (acts.Mutate table command) = refused_command (mutation_refusal t.schema command)
 act_refusal t (acts.DropPartition table word) = refused_partition (partition_named t.schema.partition word)
 act_refusal t (acts.Optimize table word) = refused_asked t.schema.partition word
-act_refusal t (acts.WaitMutation table id) = refused_id (mutation_count t.log) id
 act_refusal t act = None
+
+-- the refusal of what is sent to a replica that is down; the rows of an INSERT are read before
+abbrev pub down_refusal : (ℕ → Bool) → ℕ → Act → Option Refusal
+down_refusal up r (acts.Insert insert) = None
+down_refusal up r act = refused_down up (Some r)
+
+-- the refusal of a mutation that is waited for and wasn't made
+abbrev pub id_refusal : TableState → Act → Option Refusal
+id_refusal t (acts.WaitMutation table id) = refused_id (mutation_count t.log) id
+id_refusal t act = None
+
+-- why an act is refused at a replica, in order
+abbrev pub act_refusals : (ℕ → Bool) → TableState → ℕ → Act → List (Option Refusal)
+act_refusals up t r act = act_refusal t act ∷ down_refusal up r act ∷ id_refusal t act ∷ []

@@ -1,6 +1,6 @@
 -- What acts do to their table at the replica of a number, and what they reply.
 -- No public source: which acts are played is this program's own.
-use Rattle.std.specs.Prelude.{ℕ}
+use Rattle.std.specs.Prelude.{ℕ, Bool}
 use Rattle.rmt_statement_model.specs.TableStates.{TableState}
 use Rattle.rmt_statements.specs.declared.act.Act.{Act}
 use Rattle.rmt_statements.specs.declared.act.Act.TheVariants as acts
@@ -13,20 +13,22 @@ use Rattle.rmt_play.specs.MutationStatement.{AltersBy}
 use Rattle.rmt_play.specs.DropStatement.{DropsNamed}
 use Rattle.rmt_play.specs.OptimizeStatement.{OptimizesNamed}
 use Rattle.rmt_play.specs.ShowParts.{ShowsParts}
+use Rattle.rmt_play.specs.CheckTable.{ChecksTable}
 use Rattle.rmt_play.specs.WaitStatement.{Waits}
 use Rattle.rmt_play.specs.SystemStatements.{SyncsReplica, RestartsReplica}
 
--- an act gives this reply and this table; the other acts aren't played
-abbrev pub Acts : TableState → ℕ → Act → Line → TableState → Type 0
-Acts t r (acts.Insert insert) line u = InsertsInto t r insert line u
-Acts t r (acts.Select table query modes.Sync) line u = Syncs t r query line u
-Acts t r (acts.Select table query modes.Plain) line u = Reads t r query line u
-Acts t r (acts.Explain table query) line u = Explains t r query line u
-Acts t r (acts.Mutate table command) line u = AltersBy t command line u
-Acts t r (acts.DropPartition table word) line u = DropsNamed t r word line u
-Acts t r (acts.Optimize table word) line u = OptimizesNamed t r word line u
-Acts t r (acts.ShowParts table) line u = ShowsParts t r line u
-Acts t r (acts.WaitMutation table id) line u = Waits t r id line u
-Acts t r (acts.SyncReplica table) line u = SyncsReplica t r line u
-Acts t r (acts.RestartReplica table) line u = RestartsReplica t line u
-Acts t r act line u = ⊥
+-- an act gives this reply and this table, where these replicas are up; the other acts aren't played
+abbrev pub Acts : (ℕ → Bool) → TableState → ℕ → Act → Line → TableState → Type 0
+Acts up t r (acts.Insert insert) line u = InsertsInto up t r insert line u
+Acts up t r (acts.Select table query modes.Sync) line u = Syncs up t r query line u
+Acts up t r (acts.Select table query modes.Plain) line u = Reads t r query line u
+Acts up t r (acts.Explain table query) line u = Explains t r query line u
+Acts up t r (acts.Mutate table command) line u = AltersBy t command line u
+Acts up t r (acts.DropPartition table word) line u = DropsNamed t r word line u
+Acts up t r (acts.Optimize table word) line u = OptimizesNamed up t r word line u
+Acts up t r (acts.ShowParts table) line u = ShowsParts t r line u
+Acts up t r (acts.CheckTable table) line u = ChecksTable t r line u
+Acts up t r (acts.WaitMutation table id) line u = Waits up t r id line u
+Acts up t r (acts.SyncReplica table) line u = SyncsReplica up t r line u
+Acts up t r (acts.RestartReplica table) line u = RestartsReplica t line u
+Acts up t r act line u = ⊥

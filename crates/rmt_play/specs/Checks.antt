@@ -23,7 +23,7 @@ use Rattle.rmt_reply.specs.declared.refusal.Refusal.{Refusal}
 use Rattle.rmt_reply.specs.declared.refusal.Refusal.TheVariants.{Syntax, UnknownTable, TableExists, UnknownReplica, UnknownColumn, WrongType, LimitReached, DoubleColumn}
 use Rattle.rmt_reply.specs.Printed.{replica_text}
 use Rattle.rmt_play.specs.World.{Table, World}
-use Rattle.rmt_play.specs.ActRefusals.{act_refusal}
+use Rattle.rmt_play.specs.ActRefusals.{act_refusals, refused_down, refused_up}
 
 -- the first of the refusals that are met
 abbrev pub first_of : List (Option Refusal) → Option Refusal
@@ -44,8 +44,7 @@ is_played_mode modes.Plain = true
 is_played_mode modes.Sync = true
 is_played_mode (modes.Sequential n) = false
 
--- an INSERT or a SELECT without settings, and an ALTER whose filter a log entry can hold; CHECK TABLE and the switch of fetches
--- aren't played
+-- an INSERT or a SELECT without settings, and an ALTER whose filter a log entry can hold; the switch of fetches isn't played
 abbrev pub is_played_act : Act → Bool
 is_played_act (acts.Insert insert) = is_absent insert.quorum
 is_played_act (acts.Select table query mode) = is_played_mode mode
@@ -54,15 +53,19 @@ is_played_act (acts.Mutate table command) = is_small_command command
 is_played_act (acts.DropPartition table partition) = true
 is_played_act (acts.Optimize table partition) = true
 is_played_act (acts.ShowParts table) = true
+is_played_act (acts.CheckTable table) = true
 is_played_act (acts.WaitMutation table id) = true
 is_played_act (acts.SyncReplica table) = true
 is_played_act (acts.RestartReplica table) = true
 is_played_act act = false
 
--- REPLICAS with 1 to 8 replicas and before all tables, CREATE, RUN, and what is sent to a replica; so many tables there are
+-- REPLICAS with 1 to 8 replicas and before all tables, CREATE, KILL, RESTART, RUN, and what is sent to a replica; so many tables
+-- there are
 abbrev pub is_played : ℕ → Statement → Bool
 is_played tables (statements.Replicas count) = (nat_le 1 count && nat_le count 8) && nat_eq tables 0
 is_played tables (statements.Create table columns partition key granularity window) = not (is_empty columns)
+is_played tables (statements.Kill replica) = true
+is_played tables (statements.Restart replica) = true
 is_played tables (statements.Run table turns seed) = true
 is_played tables (statements.At sent) = is_played_act sent.act
 is_played tables statement = false
@@ -175,16 +178,27 @@ table_named (acts.RestartReplica table) = table
 table_named (acts.StopFetches table) = table
 table_named (acts.StartFetches table) = table
 
--- why an act is refused over the table that it names, where there is one
-abbrev pub refused_act : Option Table → Act → Option Refusal
-refused_act None act = None
-refused_act (Some t) act = act_refusal t.state act
+-- why an act is refused over the table that it names, at the replica that it is sent to, where there are both
+abbrev pub refused_act : (ℕ → Bool) → Option Table → Option ℕ → Act → Option Refusal
+refused_act up (Some t) (Some r) act = first_of (act_refusals up t.state r act)
+refused_act up t r act = None
 
 -- the refusals of what is sent to a replica, in their order
 abbrev pub sent_refusals : World → Sent → List (Option Refusal)
 sent_refusals world sent =
     unknown_table world (table_named sent.act)
-    ∷ unknown_replica world.replicas sent.replica ∷ refused_act (table_of world.tables (table_named sent.act)) sent.act ∷ []
+    ∷ unknown_replica world.replicas sent.replica
+    ∷ refused_act world.up (table_of world.tables (table_named sent.act)) (replica_at world.replicas sent.replica) sent.act ∷ []
+
+-- ---- KILL and RESTART
+
+-- the refusals of a KILL, in their order
+abbrev pub kill_refusals : World → List ℕ → List (Option Refusal)
+kill_refusals world name = unknown_replica world.replicas (Some name) ∷ refused_down world.up (replica_of world.replicas name) ∷ []
+
+-- the refusals of a RESTART, in their order
+abbrev pub restart_refusals : World → List ℕ → List (Option Refusal)
+restart_refusals world name = unknown_replica world.replicas (Some name) ∷ refused_up world.up (replica_of world.replicas name) ∷ []
 
 -- ---- RUN
 
@@ -212,6 +226,8 @@ schema_made columns partition key granularity window =
 abbrev pub refusals : World → Statement → List (Option Refusal)
 refusals world (statements.Create table columns partition key granularity window) =
     create_refusals world table (schema_refused columns partition key granularity window)
+refusals world (statements.Kill name) = kill_refusals world name
+refusals world (statements.Restart name) = restart_refusals world name
 refusals world (statements.Run table turns seed) = run_refusals world table turns seed
 refusals world (statements.At sent) = sent_refusals world sent
 refusals world statement = []

@@ -1,7 +1,7 @@
 -- INSERT INTO.
 -- ClickHouse documentation: INSERT INTO; MergeTree, custom partitioning key: rows of different partitions go into different
 -- blocks.
-use Rattle.std.specs.Prelude.{◌≡◌, ◌⊎◌, ℕ, List, map}
+use Rattle.std.specs.Prelude.{◌≡◌, ◌⊎◌, ℕ, Bool, true, false, List, map}
 use Rattle.std.specs.declared.option.Option.{Option}
 use Rattle.rmt_block.specs.Blocks.{BlockView}
 use Rattle.rmt_block.specs.Splits.{IsSplit}
@@ -17,7 +17,7 @@ use Rattle.rmt_reply.specs.declared.line.Line.{Line}
 use Rattle.rmt_reply.specs.declared.line.Line.TheVariants as lines
 use Rattle.rmt_reply.specs.declared.piece.Piece.{Piece}
 use Rattle.rmt_reply.specs.declared.refusal.Refusal.{Refusal}
-use Rattle.rmt_reply.specs.declared.refusal.Refusal.TheVariants.{BadRow}
+use Rattle.rmt_reply.specs.declared.refusal.Refusal.TheVariants.{BadRow, ReplicaDown}
 
 -- the rows are split into a block for each partition, and the blocks go in one after the other, until one is refused
 pub record InsertsRows (t : TableState) (r : ℕ) (rows : List Row) (line : Line) (u : TableState) : Type 0 where
@@ -41,6 +41,14 @@ pub record MeetsBadRow (t : TableState) (insert : Insert) (line : Line) (u : Tab
   pub reply : line ≡ lines.Refused (BadRow row)
   pub unchanged : u ≡ t
 
--- INSERT at the replica of a number
-abbrev pub InsertsInto : TableState → ℕ → Insert → Line → TableState → Type 0
-InsertsInto t r insert line u = Takes t r insert line u ⊎ MeetsBadRow t insert line u
+-- no row of the INSERT is bad, but the replica is down; nothing changes
+pub record MeetsDown (up : ℕ → Bool) (t : TableState) (r : ℕ) (insert : Insert) (line : Line) (u : TableState) : Type 0 where
+  pub down : up r ≡ false
+  pub rows : List Row
+  pub read : AreInsertedRows t.schema.columns (all_names t.schema.columns insert.columns) insert.rows rows
+  pub reply : line ≡ lines.Refused (ReplicaDown r)
+  pub unchanged : u ≡ t
+
+-- INSERT at the replica of a number, where these replicas are up
+abbrev pub InsertsInto : (ℕ → Bool) → TableState → ℕ → Insert → Line → TableState → Type 0
+InsertsInto up t r insert line u = ((up r ≡ true) × Takes t r insert line u) ⊎ (MeetsBadRow t insert line u ⊎ MeetsDown up t r insert line u)

@@ -17,6 +17,8 @@ pub mod MutationStatement
 pub mod DropStatement
 pub mod OptimizeStatement
 pub mod ShowParts
+pub mod CheckTable
+pub mod LostParts
 pub mod WaitStatement
 pub mod SystemStatements
 pub mod RunStatement

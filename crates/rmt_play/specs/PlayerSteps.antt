@@ -1,5 +1,5 @@
 -- What a player has, and what the steps of a statement do. No public clause cites this module.
-use Rattle.std.specs.Prelude.{◌≡◌, ◌⊎◌, ℕ, ◌<◌, ◌≤◌, true, List, [], ◌∷◌, length, slice_get, slice_set, MatchOption}
+use Rattle.std.specs.Prelude.{◌≡◌, ◌⊎◌, ℕ, zero, suc, ◌<◌, ◌≤◌, ◌-◌, ◌&&◌, cond, nat_eq, nat_lt, Bool, true, false, List, [], ◌∷◌, length, replicate, slice_get, slice_index_or, slice_set, MatchOption}
 use Rattle.std.specs.List.{All}
 use Rattle.std.specs.Str.{bytes_eq}
 use Rattle.std.specs.declared.option.Option.{Option}
@@ -13,8 +13,9 @@ use Rattle.rmt_model.specs.Words.{Each}
 use Rattle.rmt_model.specs.Content.{Row}
 use Rattle.rmt_events.specs.Clusters.{Cluster}
 use Rattle.rmt_statement_model.specs.TableStates.{TableState, empty_table}
-use Rattle.rmt_statement_model.specs.Shows.{Shows, IsIdle, Leads}
+use Rattle.rmt_statement_model.specs.Shows.{Shows, HoldsNone, Leads, ups}
 use Rattle.rmt_statements.specs.declared.act.Act.{Act}
+use Rattle.rmt_statements.specs.declared.act.Act.TheVariants as acts
 use Rattle.rmt_statements.specs.declared.insert.Insert.{Insert}
 use Rattle.rmt_statements.specs.declared.sent.Sent.{Sent}
 use Rattle.rmt_statements.specs.declared.statement.Statement.{Statement}
@@ -26,11 +27,11 @@ use Rattle.rmt_reply.specs.declared.line.Line.TheVariants as lines
 use Rattle.rmt_reply.specs.declared.refusal.Refusal.{Refusal}
 use Rattle.rmt_reply.specs.declared.refusal.Refusal.TheVariants.{BadRow}
 use Rattle.rmt_play.specs.World.{Table, World}
-use Rattle.rmt_play.specs.Checks.{first_of, create_refusals, sent_refusals, run_refusals, refusals}
-use Rattle.rmt_play.specs.ActRefusals.{refused_names, refused_query, act_refusal}
+use Rattle.rmt_play.specs.Checks.{first_of, create_refusals, sent_refusals, kill_refusals, restart_refusals, run_refusals, refusals}
+use Rattle.rmt_play.specs.ActRefusals.{refused_names, refused_query, act_refusal, act_refusals, id_refusal}
 use Rattle.rmt_play.specs.Acts.{Acts}
 use Rattle.rmt_play.specs.RunStatement.{RunsTurns}
-use Rattle.rmt_play.specs.Plays.{Creates, PerformsSent, RunsIn, Performs, Refuses, ExecutesStatement, Step}
+use Rattle.rmt_play.specs.Plays.{Creates, PerformsSent, Turns, RunsIn, Performs, Refuses, ExecutesStatement, Step}
 
 -- ---- what a player has
 
@@ -39,30 +40,39 @@ pub record NamedCluster : Type 0 where
   pub name : List ℕ
   pub cluster : Cluster
 
--- how many replicas there are, and the tables in the order in which they were created
+-- how many replicas there are, which of the eight that there may be are up, and the tables in the order in which they were
+-- created
 pub record PlayerView : Type 0 where
   pub replicas : ℕ
+  pub up : List Bool
   pub tables : List NamedCluster
 
--- a cluster that has so many replicas, and is idle
-abbrev pub IsAtAll : ℕ → NamedCluster → Type 0
-IsAtAll count t = (length t.cluster.replicas ≡ count) × IsIdle t.cluster
+-- the replica of a number is among the first so many, and up
+abbrev pub is_up : ℕ → List Bool → ℕ → Bool
+is_up count up zero = false
+is_up count up (suc i) = nat_lt i count && slice_index_or up i false
+
+-- a cluster that has so many replicas, of which these are up, and no insert is under way
+abbrev pub IsAtAll : ℕ → List Bool → NamedCluster → Type 0
+IsAtAll count up t = (length t.cluster.replicas ≡ count) × (ups t.cluster ≡ is_up count up) × HoldsNone t.cluster
 
 -- there are 1 to 8 replicas, and each table is at all of them
 pub record IsSoundPlayer (p : PlayerView) : Type 0 where
   pub some : 0 < p.replicas
   pub few : p.replicas ≤ 8
-  pub all : Each (IsAtAll p.replicas) p.tables
+  pub eight : length p.up ≡ 8
+  pub all : Each (IsAtAll p.replicas p.up) p.tables
 
 -- there are two replicas, and no table
 abbrev pub IsEmptyPlayer : PlayerView → Type 0
-IsEmptyPlayer p = p ≡ record { replicas = 2; tables = [] }
+IsEmptyPlayer p = p ≡ record { replicas = 2; up = replicate 8 true; tables = [] }
 
--- an idle cluster without rows, at so many replicas
-pub record IsNewTable (schema : Shape) (count : ℕ) (c : Cluster) : Type 0 where
+-- a cluster without rows, at so many replicas, of which these are up
+pub record IsNewTable (schema : Shape) (count : ℕ) (up : List Bool) (c : Cluster) : Type 0 where
   pub shows : Shows c (empty_table schema)
   pub all : length c.replicas ≡ count
-  pub idle : IsIdle c
+  pub ups_are : ups c ≡ is_up count up
+  pub free : HoldsNone c
 
 -- each table has its name, and its cluster shows it
 abbrev pub ShowTables : List NamedCluster → List Table → Type 0
@@ -73,6 +83,7 @@ ShowTables clusters tables = ⊥
 -- the player is in this world
 pub record IsIn (p : PlayerView) (w : World) : Type 0 where
   pub replicas : w.replicas ≡ p.replicas
+  pub up : w.up ≡ is_up p.replicas p.up
   pub tables : ShowTables p.tables w.tables
 
 -- the player is in a world of which this holds
@@ -146,13 +157,31 @@ RefusesRows schema insert refusal =
 abbrev pub Declines : TableState → Line → TableState → Refusal → Type 0
 Declines t line u refusal = (line ≡ lines.Refused refusal) × (u ≡ t)
 
--- an act does what it says in its table at a replica, or is refused
-abbrev pub ExecutesAct : TableState → ℕ → Act → Line → TableState → Type 0
-ExecutesAct t r act line u = MatchOption (act_refusal t act) (Acts t r act line u) (Declines t line u)
+-- why an act is refused at a replica that is up
+abbrev pub refusal_there : TableState → Act → Option Refusal
+refusal_there t (acts.WaitMutation table id) = id_refusal t (acts.WaitMutation table id)
+refusal_there t act = act_refusal t act
+
+-- an act does what it says in its table at a replica that is up, or is refused
+abbrev pub ExecutesAct : (ℕ → Bool) → TableState → ℕ → Act → Line → TableState → Type 0
+ExecutesAct up t r act line u = MatchOption (refusal_there t act) (Acts up t r act line u) (Declines t line u)
 
 -- the same in a cluster, whatever state it shows
 abbrev pub ExecutesIn : Cluster → ℕ → Act → Line → Cluster → Type 0
-ExecutesIn s r act line u = (t : TableState) → Shows s t → Leads u (ExecutesAct t r act line)
+ExecutesIn s r act line u = (t : TableState) → Shows s t → Leads u (ExecutesAct (ups s) t r act line)
+
+-- an act does what it says in its table at a replica, up or down, or is refused
+abbrev pub ExecutesAt : (ℕ → Bool) → TableState → ℕ → Act → Line → TableState → Type 0
+ExecutesAt up t r act line u = MatchOption (first_of (act_refusals up t r act)) (Acts up t r act line u) (Declines t line u)
+
+-- the same in a cluster, whatever state it shows
+abbrev pub ExecutesThere : Cluster → ℕ → Act → Line → Cluster → Type 0
+ExecutesThere s r act line u = (t : TableState) → Shows s t → Leads u (ExecutesAt (ups s) t r act line)
+
+-- the cause for which an act is refused in a table of this schema, if it is sent to a replica that is down
+abbrev pub IsOwnRefusal : Shape → Act → Option Refusal → Type 0
+IsOwnRefusal schema (acts.Insert insert) why = MatchOption why ((rows : List Row) × HasRows schema insert rows) (RefusesRows schema insert)
+IsOwnRefusal schema act why = (t : TableState) → t.schema ≡ schema → act_refusal t act ≡ why
 
 -- a query is answered in a cluster, or refused
 abbrev pub ExecutesQuery : Cluster → Query → (TableState → Line → TableState → Type 0) → Line → Cluster → Type 0
@@ -174,7 +203,39 @@ pub record ChangesAt (old : PlayerView) (place : ℕ) (Change : Cluster → Clus
 
 -- the act is done in the table at a place, or refused
 abbrev pub ActsAt : PlayerView → ℕ → ℕ → Act → Line → PlayerView → Type 0
-ActsAt old place replica act line new = ChangesAt old place (λ s u. ExecutesIn s replica act line u) new
+ActsAt old place replica act line new = ChangesAt old place (λ s u. ExecutesThere s replica act line u) new
+
+-- ---- KILL and RESTART
+
+-- the session of the replica ends in a cluster, or another one begins; what is shown stays
+pub record TurnsCluster (replica : ℕ) (is_up : Bool) (s u : Cluster) : Type 0 where
+  pub shows : (t : TableState) → Shows s t → Shows u t
+  pub ups_are : (k : ℕ) → ups u k ≡ cond (nat_eq replica k) is_up (ups s k)
+  pub free : HoldsNone s → HoldsNone u
+  pub all : length u.replicas ≡ length s.replicas
+
+-- the same of a table
+pub record TurnsTable (replica : ℕ) (is_up : Bool) (s u : NamedCluster) : Type 0 where
+  pub name : u.name ≡ s.name
+  pub turns : TurnsCluster replica is_up s.cluster u.cluster
+
+-- the same of each of the tables
+pub record TurnsEach (replica : ℕ) (is_up : Bool) (olds news : List NamedCluster) : Type 0 where
+  pub all : length news ≡ length olds
+  pub each : (j : ℕ) (s u : NamedCluster) → slice_get olds j ≡ Some s → slice_get news j ≡ Some u → TurnsTable replica is_up s u
+
+-- the replica is so in each table, and nothing else changes
+pub record TurnsAll (old : PlayerView) (replica : ℕ) (is_up : Bool) (new : PlayerView) : Type 0 where
+  pub each : TurnsEach replica is_up old.tables new.tables
+  pub rest : new ≡ record old { up = slice_set old.up (replica - 1) is_up; tables = new.tables }
+
+-- a KILL is done, or refused
+abbrev pub ExecutesKill : List ℕ → Line → World → World → Type 0
+ExecutesKill name line old new = MatchOption (first_of (kill_refusals old name)) (Turns old name false line new) (λ refusal. Refuses old refusal line new)
+
+-- a RESTART is done, or refused
+abbrev pub ExecutesRestart : List ℕ → Line → World → World → Type 0
+ExecutesRestart name line old new = MatchOption (first_of (restart_refusals old name)) (Turns old name true line new) (λ refusal. Refuses old refusal line new)
 
 -- ---- RUN
 

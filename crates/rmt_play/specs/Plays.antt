@@ -14,8 +14,8 @@ use Rattle.rmt_reply.specs.declared.line.Line.{Line}
 use Rattle.rmt_reply.specs.declared.line.Line.TheVariants as lines
 use Rattle.rmt_reply.specs.declared.refusal.Refusal.{Refusal}
 use Rattle.rmt_reply.specs.declared.refusal.Refusal.TheVariants.{Syntax}
-use Rattle.rmt_play.specs.World.{Table, World, start, new_table}
-use Rattle.rmt_play.specs.Checks.{schema_made, table_of, replica_at, table_named, refusal_of}
+use Rattle.rmt_play.specs.World.{Table, World, all_up, with_up, start, new_table}
+use Rattle.rmt_play.specs.Checks.{schema_made, table_of, replica_of, replica_at, table_named, refusal_of}
 use Rattle.rmt_play.specs.Acts.{Acts}
 use Rattle.rmt_play.specs.RunStatement.{RunsTurns}
 
@@ -26,10 +26,10 @@ pub record Refuses (old : World) (refusal : Refusal) (line : Line) (new : World)
 
 -- ---- what a statement does that meets no refusal
 
--- REPLICAS: there are so many
+-- REPLICAS: there are so many, all of them up
 pub record Counts (old : World) (count : ℕ) (line : Line) (new : World) : Type 0 where
   pub reply : line ≡ lines.Okay
-  pub change : new ≡ record old { replicas = count }
+  pub change : new ≡ record old { replicas = count; up = all_up count }
 
 -- CREATE makes an empty table
 pub record Creates (old : World) (name : List ℕ) (schema : Shape) (line : Line) (new : World) : Type 0 where
@@ -53,7 +53,14 @@ pub record InTable (old : World) (name : List ℕ) (Change : TableState → Tabl
 pub record PerformsSent (old : World) (sent : Sent) (line : Line) (new : World) : Type 0 where
   pub replica : ℕ
   pub at : replica_at old.replicas sent.replica ≡ Some replica
-  pub acts : InTable old (table_named sent.act) (λ t u. Acts t replica sent.act line u) new
+  pub acts : InTable old (table_named sent.act) (λ t u. Acts old.up t replica sent.act line u) new
+
+-- KILL and RESTART: the replica of this name is down, or up, then. What it has of each table stays
+pub record Turns (old : World) (name : List ℕ) (is_up : Bool) (line : Line) (new : World) : Type 0 where
+  pub replica : ℕ
+  pub at : replica_of old.replicas name ≡ Some replica
+  pub reply : line ≡ lines.Okay
+  pub change : new ≡ record old { up = with_up old.up replica is_up }
 
 -- RUN: background work is done in its table
 abbrev pub RunsIn : World → List ℕ → ℕ → Line → World → Type 0
@@ -64,6 +71,8 @@ abbrev pub Performs : World → Statement → Line → World → Type 0
 Performs old (statements.Replicas count) line new = Counts old count line new
 Performs old (statements.Create table columns partition key granularity window) line new =
     Creates old table (schema_made columns partition key granularity window) line new
+Performs old (statements.Kill name) line new = Turns old name false line new
+Performs old (statements.Restart name) line new = Turns old name true line new
 Performs old (statements.Run table turns seed) line new = RunsIn old table turns line new
 Performs old (statements.At sent) line new = PerformsSent old sent line new
 Performs old statement line new = ⊥

@@ -1,6 +1,6 @@
 -- SELECT, with and without SYNC.
 -- ClickHouse documentation: SELECT; Data Replication, on what a replica has.
-use Rattle.std.specs.Prelude.{◌≡◌, ℕ, List, map}
+use Rattle.std.specs.Prelude.{◌≡◌, ◌⊎◌, ℕ, Bool, List, map}
 use Rattle.rmt_values.specs.declared.query.Query.{Query}
 use Rattle.rmt_values.specs.declared.checked_query.CheckedQuery.{CheckedQuery}
 use Rattle.rmt_expr.specs.Queries.{IsCheckedQuery}
@@ -9,16 +9,21 @@ use Rattle.rmt_model.specs.Fair.{AreFair}
 use Rattle.rmt_partset.specs.Snapshots.{all_rows}
 use Rattle.rmt_query.specs.Answers.{answer_of}
 use Rattle.rmt_statement_model.specs.TableStates.{TableState, data_at, plain_rows, synced}
+use Rattle.rmt_play.specs.LostParts.{LacksSome}
 use Rattle.rmt_reply.specs.declared.line.Line.{Line}
 use Rattle.rmt_reply.specs.declared.line.Line.TheVariants as lines
 
 -- SELECT .. SYNC: every place of the log is known at the replica then; the answer is the plain query over the rows of
 -- the accepted blocks, each once
-pub record Syncs (t : TableState) (r : ℕ) (query : Query) (line : Line) (u : TableState) : Type 0 where
+pub record ReadsAll (t : TableState) (r : ℕ) (query : Query) (line : Line) (u : TableState) : Type 0 where
   pub checked : CheckedQuery
   pub is : IsCheckedQuery t.schema query checked
   pub reply : line ≡ lines.Rows (answer_of t.schema checked (plain_rows t))
   pub change : u ≡ synced r t
+
+-- SELECT .. SYNC: all is read, or the replica lacks a part
+abbrev pub Syncs : (ℕ → Bool) → TableState → ℕ → Query → Line → TableState → Type 0
+Syncs up t r query line u = ReadsAll t r query line u ⊎ LacksSome up t r line u
 
 -- SELECT: the answer is the query over what parts hold whose names are fair for the places known at the replica
 pub record Reads (t : TableState) (r : ℕ) (query : Query) (line : Line) (u : TableState) : Type 0 where

@@ -1,15 +1,20 @@
 -- SYSTEM SYNC REPLICA and SYSTEM RESTART REPLICA.
 -- ClickHouse documentation, SYSTEM: "SYNC REPLICA" waits until a replica has done the log; "RESTART REPLICA" begins its session
 -- anew.
-use Rattle.std.specs.Prelude.{◌≡◌, ℕ}
+use Rattle.std.specs.Prelude.{◌≡◌, ◌⊎◌, ℕ, Bool}
 use Rattle.rmt_statement_model.specs.TableStates.{TableState, synced}
+use Rattle.rmt_play.specs.LostParts.{LacksSome}
 use Rattle.rmt_reply.specs.declared.line.Line.{Line}
 use Rattle.rmt_reply.specs.declared.line.Line.TheVariants as lines
 
 -- every place of the log is known at the replica then
-pub record SyncsReplica (t : TableState) (r : ℕ) (line : Line) (u : TableState) : Type 0 where
+pub record Drains (t : TableState) (r : ℕ) (line : Line) (u : TableState) : Type 0 where
   pub reply : line ≡ lines.Okay
   pub change : u ≡ synced r t
+
+-- the replica is brought up to date, or lacks a part
+abbrev pub SyncsReplica : (ℕ → Bool) → TableState → ℕ → Line → TableState → Type 0
+SyncsReplica up t r line u = Drains t r line u ⊎ LacksSome up t r line u
 
 -- what is known at the replica is known still, and nothing changes
 pub record RestartsReplica (t : TableState) (line : Line) (u : TableState) : Type 0 where

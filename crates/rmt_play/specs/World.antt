@@ -1,5 +1,5 @@
 -- The world that a script's statements change: its replicas and tables.
-use Rattle.std.specs.Prelude.{ℕ, List, []}
+use Rattle.std.specs.Prelude.{ℕ, ◌&&◌, cond, nat_eq, nat_le, Bool, List, []}
 use Rattle.rmt_values.specs.Rows.{Shape}
 use Rattle.rmt_statement_model.specs.TableStates.{TableState, empty_table}
 
@@ -8,14 +8,23 @@ pub record Table : Type 0 where
   pub name : List ℕ
   pub state : TableState
 
--- how many replicas there are, all of them up, and the tables in the order in which they were created
+-- how many replicas there are, which of them are up, and the tables in the order in which they were created
 pub record World : Type 0 where
   pub replicas : ℕ
+  pub up : ℕ → Bool
   pub tables : List Table
+
+-- so many replicas are up, numbered from 1
+abbrev pub all_up : ℕ → ℕ → Bool
+all_up count k = nat_le 1 k && nat_le k count
+
+-- the replica of a number is up, or down, and the others are as they were
+abbrev pub with_up : (ℕ → Bool) → ℕ → Bool → ℕ → Bool
+with_up up r is_up k = cond (nat_eq r k) is_up (up k)
 
 -- two replicas, and no table
 abbrev pub start : World
-start = record { replicas = 2; tables = [] }
+start = record { replicas = 2; up = all_up 2; tables = [] }
 
 -- a table without rows
 abbrev pub new_table : List ℕ → Shape → Table

@@ -1,10 +1,11 @@
 //! Acts in their table at a replica.
 ghost use Rattle.std.specs.Prelude.{◌≡◌, true, length, IfOk};
 ghost use Rattle.rmt_cluster.specs.Clusters.{IsNumber};
-ghost use Rattle.rmt_statement_model.specs.Shows.{IsIdle};
+ghost use Rattle.rmt_statement_model.specs.Shows.{HoldsNone, IsIdle, ups};
 ghost use Rattle.rmt_play.specs.Checks.{is_played_act};
 ghost use Rattle.rmt_play.specs.PlayerSteps.{ExecutesIn};
 
+use crate::check::check_in;
 use crate::drop::drop_in;
 use crate::explain::explain_in;
 use crate::insert::insert_in;
@@ -20,7 +21,7 @@ use rmt_statements::{Act, Mode};
 use rmt_values::ReplicaId;
 use std::alloc::{AllocError, Global};
 
-/// Does an act in its table at a replica, or refuses it.
+/// Does an act in its table at a replica that is up, or refuses it.
 pub(crate) fn act_in(
     alloc: Global,
     cluster: &mut Cluster,
@@ -28,11 +29,12 @@ pub(crate) fn act_in(
     act: &Act,
 ) -> Result<Line, AllocError>
     requires here { IsNumber replica (length cluster.old.replicas) }
-    requires idle { IsIdle cluster.old }
+    requires idle { IsIdle cluster.old replica }
     requires played { is_played_act act.now ≡ true }
     ensures executes { IfOk result (λ line.
         ExecutesIn cluster.old replica act.now line cluster.new) }
-    ensures idle { IfOk result (λ _. IsIdle cluster.new) }
+    ensures free { IfOk result (λ _. HoldsNone cluster.new) }
+    ensures ups { IfOk result (λ _. ups cluster.new ≡ ups cluster.old) }
     ensures replicas { length cluster.new.replicas ≡ length cluster.old.replicas }
 {
     match act {
@@ -47,6 +49,7 @@ pub(crate) fn act_in(
         Act::DropPartition { partition, .. } => drop_in(alloc, cluster, replica, partition),
         Act::Optimize { partition, .. } => optimize_in(alloc, cluster, replica, partition),
         Act::ShowParts { .. } => show_in(alloc, cluster, replica),
+        Act::CheckTable { .. } => check_in(alloc, cluster, replica),
         Act::WaitMutation { id, .. } => wait_in(alloc, cluster, replica, *id),
         Act::SyncReplica { .. } => drain_in(alloc, cluster, replica),
         Act::RestartReplica { .. } => restart_in(alloc, cluster, replica),

@@ -1,7 +1,7 @@
 //! ALTER .. DROP PARTITION in its table.
 ghost use Rattle.std.specs.Prelude.{◌≡◌, ℕ, List as Bytes, length, IfOk};
 ghost use Rattle.rmt_cluster.specs.Clusters.{IsNumber};
-ghost use Rattle.rmt_statement_model.specs.Shows.{IsIdle};
+ghost use Rattle.rmt_statement_model.specs.Shows.{HoldsNone, IsIdle, ups};
 ghost use Rattle.rmt_statements.specs.declared.act.Act.TheVariants as acts;
 ghost use Rattle.rmt_play.specs.PlayerSteps.{ExecutesIn};
 
@@ -21,10 +21,11 @@ pub(crate) fn drop_in(
     word: &PartitionWord,
 ) -> Result<Line, AllocError>
     requires here { IsNumber replica (length cluster.old.replicas) }
-    requires idle { IsIdle cluster.old }
+    requires idle { IsIdle cluster.old replica }
     ensures executes { IfOk result (λ line. (table : Bytes ℕ)
         → ExecutesIn cluster.old replica (acts.DropPartition table word.now) line cluster.new) }
-    ensures idle { IfOk result (λ _. IsIdle cluster.new) }
+    ensures free { IfOk result (λ _. HoldsNone cluster.new) }
+    ensures ups { IfOk result (λ _. ups cluster.new ≡ ups cluster.old) }
     ensures replicas { length cluster.new.replicas ≡ length cluster.old.replicas }
 {
     match partition_in(alloc, word, schema_of(cluster))? {

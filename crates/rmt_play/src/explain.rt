@@ -1,7 +1,7 @@
 //! EXPLAIN in its table.
-ghost use Rattle.std.specs.Prelude.{length, IfOk};
+ghost use Rattle.std.specs.Prelude.{◌≡◌, true, length, IfOk};
 ghost use Rattle.rmt_cluster.specs.Clusters.{IsNumber};
-ghost use Rattle.rmt_statement_model.specs.Shows.{IsIdle};
+ghost use Rattle.rmt_statement_model.specs.Shows.{ups};
 ghost use Rattle.rmt_play.specs.ExplainStatement.{Explains};
 ghost use Rattle.rmt_play.specs.QueryAnswers.{IsExplained};
 ghost use Rattle.rmt_play.specs.PlayerSteps.{ExecutesQuery};
@@ -22,7 +22,7 @@ fn count_granules(
     query: &CheckedQuery,
 ) -> Result<Granules, AllocError>
     requires here { IsNumber replica (length cluster.now.replicas) }
-    requires idle { IsIdle cluster.now }
+    requires up { ups cluster.now replica ≡ true }
     ensures { IfOk result (IsExplained cluster.now replica query.now) }
 {
     let snapshot = read_parts(alloc, cluster, replica)?;
@@ -38,7 +38,7 @@ pub(crate) fn explain_in(
     query: &Query,
 ) -> Result<Line, AllocError>
     requires here { IsNumber replica (length cluster.now.replicas) }
-    requires idle { IsIdle cluster.now }
+    requires up { ups cluster.now replica ≡ true }
     ensures { IfOk result (λ line. ExecutesQuery cluster.now query.now
         (λ t. Explains t replica query.now) line cluster.now) }
 {

@@ -6,8 +6,8 @@ use rmt_command_sizes::is_small;
 use rmt_statements::{Act, Mode};
 use rmt_values::Name;
 
-/// Whether an act is played: not an INSERT or a SELECT with a setting, an ALTER whose filter no log entry can hold, CHECK TABLE,
-/// or the switch of fetches.
+/// Whether an act is played: not an INSERT or a SELECT with a setting, an ALTER whose filter no log entry can hold, or the
+/// switch of fetches.
 pub(crate) fn is_played_act(act: &Act) -> bool
     ensures { result ≡ act_test act.now }
 {
@@ -22,10 +22,11 @@ pub(crate) fn is_played_act(act: &Act) -> bool
         | Act::DropPartition { .. }
         | Act::Optimize { .. }
         | Act::ShowParts { .. }
+        | Act::CheckTable { .. }
         | Act::WaitMutation { .. }
         | Act::SyncReplica { .. }
         | Act::RestartReplica { .. } => true,
-        Act::CheckTable { .. } | Act::StopFetches { .. } | Act::StartFetches { .. } => false,
+        Act::StopFetches { .. } | Act::StartFetches { .. } => false,
     }
 }
 

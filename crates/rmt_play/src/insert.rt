@@ -5,7 +5,7 @@ ghost use Rattle.rmt_values.specs.Rows.{fits};
 ghost use Rattle.rmt_block.specs.Splits.{IsSplit};
 ghost use Rattle.rmt_cluster.specs.Clusters.{IsNumber};
 ghost use Rattle.rmt_statement_model.specs.TableStates.{TableState};
-ghost use Rattle.rmt_statement_model.specs.Shows.{IsIdle, Shows, Leads};
+ghost use Rattle.rmt_statement_model.specs.Shows.{HoldsNone, IsIdle, Leads, Shows, ups};
 ghost use Rattle.rmt_statements.specs.declared.act.Act.TheVariants as acts;
 ghost use Rattle.rmt_play.specs.InsertStatement.{InsertsRows};
 ghost use Rattle.rmt_play.specs.PlayerSteps.{HasRows, RefusesRows, ExecutesIn};
@@ -20,7 +20,7 @@ use rmt_values::{ReplicaId, Row, Schema};
 use std::alloc::{AllocError, Global};
 
 /// The rows of an INSERT, or why they are refused.
-fn rows_to_insert(
+pub(crate) fn rows_to_insert(
     alloc: Global,
     insert: &Insert,
     schema: &Schema,
@@ -57,11 +57,12 @@ fn insert_rows(
     rows: Vec<Row>,
 ) -> Result<Line, AllocError>
     requires here { IsNumber replica (length cluster.old.replicas) }
-    requires idle { IsIdle cluster.old }
+    requires idle { IsIdle cluster.old replica }
     requires fit { All (λ row. fits cluster.old.table.schema.columns row ≡ true) rows.items }
     ensures inserts { IfOk result (λ line. (t : TableState) → Shows cluster.old t
         → Leads cluster.new (InsertsRows t replica rows.items line)) }
-    ensures idle { IfOk result (λ _. IsIdle cluster.new) }
+    ensures free { IfOk result (λ _. HoldsNone cluster.new) }
+    ensures ups { IfOk result (λ _. ups cluster.new ≡ ups cluster.old) }
     ensures replicas { length cluster.new.replicas ≡ length cluster.old.replicas }
 {
     let blocks = blocks_of(alloc, rows, schema_of(cluster))?;
@@ -78,10 +79,11 @@ pub(crate) fn insert_in(
     insert: &Insert,
 ) -> Result<Line, AllocError>
     requires here { IsNumber replica (length cluster.old.replicas) }
-    requires idle { IsIdle cluster.old }
+    requires idle { IsIdle cluster.old replica }
     ensures executes { IfOk result (λ line.
         ExecutesIn cluster.old replica (acts.Insert insert.now) line cluster.new) }
-    ensures idle { IfOk result (λ _. IsIdle cluster.new) }
+    ensures free { IfOk result (λ _. HoldsNone cluster.new) }
+    ensures ups { IfOk result (λ _. ups cluster.new ≡ ups cluster.old) }
     ensures replicas { length cluster.new.replicas ≡ length cluster.old.replicas }
 {
     match rows_to_insert(alloc, insert, schema_of(cluster))? {

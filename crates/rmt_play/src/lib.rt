@@ -2,6 +2,7 @@
 #![tactic(auto)]
 
 mod act;
+mod check;
 mod drop;
 mod end;
 mod explain;
@@ -18,6 +19,7 @@ mod player;
 mod printing;
 mod progress;
 mod query;
+mod refusing;
 mod replicas;
 mod schema;
 mod script;

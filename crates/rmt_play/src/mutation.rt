@@ -5,7 +5,7 @@ ghost use Rattle.rmt_values.specs.Schemas.{IsSchema};
 ghost use Rattle.rmt_values.specs.Commands.{CommandFits};
 ghost use Rattle.rmt_expr.specs.Mutations.{IsCheckedMutation, mutation_refusal};
 ghost use Rattle.rmt_command_sizes.specs.Sizes.{is_small_command};
-ghost use Rattle.rmt_statement_model.specs.Shows.{IsIdle};
+ghost use Rattle.rmt_statement_model.specs.Shows.{HoldsNone, ups};
 ghost use Rattle.rmt_statements.specs.declared.act.Act.TheVariants as acts;
 ghost use Rattle.rmt_play.specs.ActRefusals.{refused_command};
 ghost use Rattle.rmt_play.specs.PlayerSteps.{ExecutesIn};
@@ -19,7 +19,7 @@ use rmt_values::{CheckedMutation, Mutation, Schema};
 use std::alloc::{AllocError, Global};
 
 /// The command with columns by their places, or why it is refused.
-fn check(
+pub(crate) fn check(
     alloc: Global,
     command: &Mutation,
     schema: &Schema,
@@ -50,11 +50,12 @@ pub(crate) fn alter_in(
     cluster: &mut Cluster,
     command: &Mutation,
 ) -> Result<Line, AllocError>
-    requires idle { IsIdle cluster.old }
+    requires free { HoldsNone cluster.old }
     requires small { is_small_command command.now ≡ true }
     ensures executes { IfOk result (λ line. (table : Bytes ℕ) (r : ℕ)
         → ExecutesIn cluster.old r (acts.Mutate table command.now) line cluster.new) }
-    ensures idle { IfOk result (λ _. IsIdle cluster.new) }
+    ensures free { IfOk result (λ _. HoldsNone cluster.new) }
+    ensures ups { IfOk result (λ _. ups cluster.new ≡ ups cluster.old) }
     ensures replicas { length cluster.new.replicas ≡ length cluster.old.replicas }
 {
     match check(alloc, command, schema_of(cluster))? {

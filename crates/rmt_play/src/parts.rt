@@ -1,7 +1,7 @@
 //! SHOW PARTS in its table.
-ghost use Rattle.std.specs.Prelude.{◌≡◌, ℕ, List as Bytes, length, IfOk};
+ghost use Rattle.std.specs.Prelude.{◌≡◌, ℕ, List as Bytes, true, length, IfOk};
 ghost use Rattle.rmt_cluster.specs.Clusters.{IsNumber};
-ghost use Rattle.rmt_statement_model.specs.Shows.{IsIdle};
+ghost use Rattle.rmt_statement_model.specs.Shows.{ups};
 ghost use Rattle.rmt_statements.specs.declared.act.Act.TheVariants as acts;
 ghost use Rattle.rmt_play.specs.PlayerSteps.{ExecutesIn};
 
@@ -19,7 +19,7 @@ pub(crate) fn show_in(
     replica: ReplicaId,
 ) -> Result<Line, AllocError>
     requires here { IsNumber replica (length cluster.now.replicas) }
-    requires idle { IsIdle cluster.now }
+    requires up { ups cluster.now replica ≡ true }
     ensures { IfOk result (λ line. (table : Bytes ℕ)
         → ExecutesIn cluster.now replica (acts.ShowParts table) line cluster.now) }
 {

@@ -1,4 +1,4 @@
-ghost use Rattle.std.specs.Prelude.{◌≡◌, ◌≤◌, ◌<◌, ◌^◌, ◌∷◌, [], true, length, map, IfOk, IfErr, MatchResult};
+ghost use Rattle.std.specs.Prelude.{◌≡◌, ◌≤◌, ◌<◌, ◌^◌, ◌∷◌, [], true, length, map, IfOk, IfErr, OnOk, MatchResult};
 ghost use Rattle.std.specs.declared.option.Option.TheVariants.{Some, None};
 ghost use Rattle.rmt_values.specs.Rows.{Shape, is_empty};
 ghost use Rattle.rmt_model.specs.Words.{Each};
@@ -25,9 +25,14 @@ ghost use Rattle.rmt_play.specs.PlayerSteps.{
   IsEmptyPlayer,
   IsNewTable,
   Moves,
+  TurnsAll,
+  TurnsEach,
+  is_up as up_test,
   Executes,
   ExecutesCreate,
+  ExecutesKill,
   ExecutesPlayed,
+  ExecutesRestart,
   ExecutesRun,
   ExecutesSent,
 };
@@ -35,6 +40,7 @@ ghost use Rattle.rmt_play.specs.PlayerSteps.{
 use crate::act::act_in;
 use crate::forms::{is_played_act, table_of};
 use crate::named_table::NamedTable;
+use crate::refusing::refuse_in;
 use crate::replicas::replica_named;
 use crate::schema::new_schema;
 use crate::turns::{in_range, run_in};
@@ -53,10 +59,11 @@ const MOST_TABLES: usize = 4;
 /// The most replicas.
 const MOST_REPLICAS: u8 = 8;
 
-/// The replicas, and the clusters of the tables. Every replica is up.
+/// The replicas, which of them are up, and the clusters of the tables.
 #[derive(Drop)]
 pub(crate) struct Player {
     replicas: u8,
+    up: [bool; 8],
     tables: Vec<NamedTable>,
 }
 
@@ -70,9 +77,9 @@ impl Model for Player {
 
     ghost coded = { Prim.hlevel (codes, filter.the_row.coded, tree_code) };
 
-    ghost view = { λ p. record { replicas = p.replicas; tables = p.tables.items } };
+    ghost view = { λ p. record { replicas = p.replicas; up = p.up; tables = p.tables.items } };
 
-    ghost invariant = { λ p. IsSoundPlayer (record { replicas = p.replicas; tables = p.tables.items }) };
+    ghost invariant = { λ p. IsSoundPlayer (record { replicas = p.replicas; up = p.up; tables = p.tables.items }) };
 }
 
 /// The place of the table of this name.
@@ -88,15 +95,36 @@ fn place_of(tables: &[NamedTable], name: &Name) -> Option<usize>
     None
 }
 
-/// The cluster of a new table at so many replicas, all of them up.
-fn new_cluster(alloc: Global, schema: Schema, replicas: u8) -> Result<Cluster, AllocError>
+/// The cluster of a new table at so many replicas, of which these are up.
+fn new_cluster(
+    alloc: Global,
+    schema: Schema,
+    replicas: u8,
+    up: &[bool],
+) -> Result<Cluster, AllocError>
     requires some { 0 < replicas }
     requires few { replicas ≤ 8 }
-    ensures { IfOk result (IsNewTable schema replicas) }
+    requires eight { length up.now ≡ 8 }
+    ensures { IfOk result (IsNewTable schema replicas up.now) }
 {
     let schema = Arc::new(alloc, schema)?;
-    let up = [true; 8];
     Cluster::new(alloc, schema, up.split_at(usize::from(replicas)).0)
+}
+
+/// Ends a replica's session in each table, or begins another one. At an error no memory was left, and some tables are done.
+fn turn_each(
+    alloc: Global,
+    tables: &mut [NamedTable],
+    replica: ReplicaId,
+    is_up: bool,
+) -> Result<(), AllocError>
+    requires { Each (λ t. IsNumber replica (length t.cluster.replicas)) tables.old }
+    ensures { OnOk result (TurnsEach replica is_up tables.old tables.new) }
+{
+    'tables: for i in 0..tables.len() {
+        tables[i].turn(alloc, replica, is_up)?;
+    }
+    Ok(())
 }
 
 impl Player {
@@ -106,17 +134,19 @@ impl Player {
     {
         Player {
             replicas: 2,
+            up: [true; 8],
             tables: Vec::new(alloc),
         }
     }
 
-    /// Sets how many replicas there are. There is no table yet.
+    /// Sets how many replicas there are, all of them up. There is no table yet.
     fn count(&mut self, count: u8) -> Line
         requires empty { is_empty self.old.tables ≡ true }
         requires range { IsCount count }
         ensures { Moves self.old (λ w v. Counts w count result v) self.new }
     {
         self.replicas = count;
+        self.up = [true; 8];
         Line::Okay
     }
 
@@ -156,7 +186,7 @@ impl Player {
     fn add(&mut self, alloc: Global, name: Name, schema: Schema) -> Result<Line, AllocError>
         ensures { IfOk result (λ line. Moves self.old (λ w v. Creates w name schema line v) self.new) }
     {
-        let cluster = new_cluster(alloc, schema, self.replicas)?;
+        let cluster = new_cluster(alloc, schema, self.replicas, &self.up)?;
         self.tables.push(NamedTable { name, cluster })?;
         Ok(Line::Okay)
     }
@@ -203,6 +233,60 @@ impl Player {
         }
     }
 
+    /// Whether a replica is up.
+    fn is_up(&self, replica: ReplicaId) -> bool
+        requires { IsNumber replica self.now.replicas }
+        ensures { result ≡ up_test self.now.replicas self.now.up replica }
+    {
+        self.up[usize::from(replica) - 1]
+    }
+
+    /// Ends a replica's session in each table, or begins another one. At an error no memory was left, and the tables are gone.
+    fn turn(&mut self, alloc: Global, replica: ReplicaId, is_up: bool) -> Result<(), AllocError>
+        requires replica { IsNumber replica self.old.replicas }
+        ensures { OnOk result (TurnsAll self.old replica is_up self.new) }
+    {
+        match turn_each(alloc, &mut self.tables, replica, is_up) {
+            Ok(()) => {
+                self.up[usize::from(replica) - 1] = is_up;
+                Ok(())
+            }
+            Err(error) => {
+                // The replica may be up in some tables and down in others.
+                self.tables.clear();
+                Err(error)
+            }
+        }
+    }
+
+    /// Plays a KILL.
+    fn kill(&mut self, alloc: Global, name: Name) -> Result<Line, AllocError>
+        ensures { IfOk result (λ line. Moves self.old (ExecutesKill name line) self.new) }
+    {
+        let Some(replica) = replica_named(&name, self.replicas) else {
+            return Ok(Line::Refused(Refusal::UnknownReplica(name)));
+        };
+        if !self.is_up(replica) {
+            return Ok(Line::Refused(Refusal::ReplicaDown(replica)));
+        }
+        self.turn(alloc, replica, false)?;
+        Ok(Line::Okay)
+    }
+
+    /// Plays a RESTART.
+    fn restart(&mut self, alloc: Global, name: Name) -> Result<Line, AllocError>
+        ensures { IfOk result (λ line. Moves self.old (ExecutesRestart name line) self.new) }
+    {
+        let Some(replica) = replica_named(&name, self.replicas) else {
+            return Ok(Line::Refused(Refusal::UnknownReplica(name)));
+        };
+        if self.is_up(replica) {
+            return Ok(Line::Refused(Refusal::ReplicaUp(replica)));
+        }
+        self.turn(alloc, replica, true)?;
+        Ok(Line::Okay)
+    }
+
     /// Does an act in the table at a place, or refuses it. At an error no memory was left, and the tables are gone.
     fn act(
         &mut self,
@@ -216,6 +300,9 @@ impl Player {
         requires played { act_test act.now ≡ true }
         ensures { IfOk result (λ line. ActsAt self.old place replica act.now line self.new) }
     {
+        if !self.is_up(replica) {
+            return refuse_in(alloc, &self.tables[place].cluster, replica, act);
+        }
         match act_in(alloc, &mut self.tables[place].cluster, replica, act) {
             Ok(line) => Ok(line),
             Err(error) => {
@@ -300,7 +387,7 @@ impl Player {
                 1 <= *count && *count <= MOST_REPLICAS && self.tables.is_empty()
             }
             Statement::Create { columns, .. } => !columns.as_slice().is_empty(),
-            Statement::Run { .. } => true,
+            Statement::Kill { .. } | Statement::Restart { .. } | Statement::Run { .. } => true,
             Statement::At(sent) => is_played_act(&sent.act),
             _ => false,
         }
@@ -324,6 +411,8 @@ impl Player {
                 let made = new_schema(alloc, columns, partition, key, granularity, window)?;
                 self.create(alloc, table, made)
             }
+            Statement::Kill { replica } => self.kill(alloc, replica),
+            Statement::Restart { replica } => self.restart(alloc, replica),
             Statement::Run { table, turns, seed } => self.run(alloc, table, turns, seed),
             Statement::At(sent) => self.send(alloc, &sent),
             _other => unreachable!(),

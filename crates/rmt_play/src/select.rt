@@ -1,7 +1,7 @@
 //! SELECT in its table.
-ghost use Rattle.std.specs.Prelude.{◌≡◌, length, IfOk};
+ghost use Rattle.std.specs.Prelude.{◌≡◌, true, length, IfOk};
 ghost use Rattle.rmt_cluster.specs.Clusters.{IsNumber};
-ghost use Rattle.rmt_statement_model.specs.Shows.{IsIdle};
+ghost use Rattle.rmt_statement_model.specs.Shows.{HoldsNone, IsIdle, ups};
 ghost use Rattle.rmt_play.specs.SelectStatement.{Syncs, Reads};
 ghost use Rattle.rmt_play.specs.QueryAnswers.{IsSelection};
 ghost use Rattle.rmt_play.specs.PlayerSteps.{ExecutesQuery};
@@ -32,7 +32,7 @@ fn select(
     query: &CheckedQuery,
 ) -> Result<Selection, AllocError>
     requires here { IsNumber replica (length cluster.now.replicas) }
-    requires idle { IsIdle cluster.now }
+    requires up { ups cluster.now replica ≡ true }
     ensures { IfOk result (λ s. IsSelection cluster.now replica query.now s.parts s.rows) }
 {
     let snapshot = read_parts(alloc, cluster, replica)?;
@@ -52,15 +52,18 @@ pub(crate) fn sync_in(
     query: &Query,
 ) -> Result<Line, AllocError>
     requires here { IsNumber replica (length cluster.old.replicas) }
-    requires idle { IsIdle cluster.old }
+    requires idle { IsIdle cluster.old replica }
     ensures executes { IfOk result (λ line. ExecutesQuery cluster.old query.now
-        (λ t. Syncs t replica query.now) line cluster.new) }
-    ensures idle { IfOk result (λ _. IsIdle cluster.new) }
+        (λ t. Syncs (ups cluster.old) t replica query.now) line cluster.new) }
+    ensures free { IfOk result (λ _. HoldsNone cluster.new) }
+    ensures ups { IfOk result (λ _. ups cluster.new ≡ ups cluster.old) }
     ensures replicas { length cluster.new.replicas ≡ length cluster.old.replicas }
 {
     match check(alloc, query, schema_of(cluster))? {
         Ok(query) => {
-            sync_replica(alloc, cluster, replica)?;
+            if let Some(refusal) = sync_replica(alloc, cluster, replica)? {
+                return Ok(Line::Refused(refusal));
+            }
             let tuples = answer_up_to_date(alloc, cluster, replica, &query)?;
             Ok(Line::Rows(List::new(tuples)))
         }
@@ -76,7 +79,7 @@ pub(crate) fn read_in(
     query: &Query,
 ) -> Result<Line, AllocError>
     requires here { IsNumber replica (length cluster.now.replicas) }
-    requires idle { IsIdle cluster.now }
+    requires up { ups cluster.now replica ≡ true }
     ensures { IfOk result (λ line. ExecutesQuery cluster.now query.now
         (λ t. Reads t replica query.now) line cluster.now) }
 {

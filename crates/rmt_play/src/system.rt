@@ -1,7 +1,7 @@
 //! SYSTEM SYNC REPLICA and SYSTEM RESTART REPLICA in their table.
 ghost use Rattle.std.specs.Prelude.{◌≡◌, ℕ, List as Bytes, length, IfOk};
 ghost use Rattle.rmt_cluster.specs.Clusters.{IsNumber};
-ghost use Rattle.rmt_statement_model.specs.Shows.{IsIdle};
+ghost use Rattle.rmt_statement_model.specs.Shows.{HoldsNone, IsIdle, ups};
 ghost use Rattle.rmt_statements.specs.declared.act.Act.TheVariants as acts;
 ghost use Rattle.rmt_play.specs.PlayerSteps.{ExecutesIn};
 
@@ -11,21 +11,24 @@ use rmt_reply::Line;
 use rmt_values::ReplicaId;
 use std::alloc::{AllocError, Global};
 
-/// Brings a replica up to date.
+/// Brings a replica up to date, or refuses to.
 pub(crate) fn drain_in(
     alloc: Global,
     cluster: &mut Cluster,
     replica: ReplicaId,
 ) -> Result<Line, AllocError>
     requires here { IsNumber replica (length cluster.old.replicas) }
-    requires idle { IsIdle cluster.old }
+    requires idle { IsIdle cluster.old replica }
     ensures executes { IfOk result (λ line. (table : Bytes ℕ)
         → ExecutesIn cluster.old replica (acts.SyncReplica table) line cluster.new) }
-    ensures idle { IfOk result (λ _. IsIdle cluster.new) }
+    ensures free { IfOk result (λ _. HoldsNone cluster.new) }
+    ensures ups { IfOk result (λ _. ups cluster.new ≡ ups cluster.old) }
     ensures replicas { length cluster.new.replicas ≡ length cluster.old.replicas }
 {
-    sync_replica(alloc, cluster, replica)?;
-    Ok(Line::Okay)
+    match sync_replica(alloc, cluster, replica)? {
+        None => Ok(Line::Okay),
+        Some(refusal) => Ok(Line::Refused(refusal)),
+    }
 }
 
 /// Begins a replica's session anew.
@@ -35,10 +38,11 @@ pub(crate) fn restart_in(
     replica: ReplicaId,
 ) -> Result<Line, AllocError>
     requires here { IsNumber replica (length cluster.old.replicas) }
-    requires idle { IsIdle cluster.old }
+    requires idle { IsIdle cluster.old replica }
     ensures executes { IfOk result (λ line. (table : Bytes ℕ)
         → ExecutesIn cluster.old replica (acts.RestartReplica table) line cluster.new) }
-    ensures idle { IfOk result (λ _. IsIdle cluster.new) }
+    ensures free { IfOk result (λ _. HoldsNone cluster.new) }
+    ensures ups { IfOk result (λ _. ups cluster.new ≡ ups cluster.old) }
     ensures replicas { length cluster.new.replicas ≡ length cluster.old.replicas }
 {
     restart_replica(alloc, cluster, replica)?;

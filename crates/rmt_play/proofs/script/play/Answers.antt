@@ -1,8 +1,16 @@
-use Rattle.std.proofs.Common.{◌∙◌, arith, subst}
-use Rattle.rmt_play.proofs.ScriptLemmas.{so_far_on, so_far_short, ends-whole}
+use Rattle.std.proofs.Common.{◌∙◌, arith, refl, subst}
+use Rattle.rmt_play.proofs.ScriptLemmas.{so_far_start, so_far_on, so_far_short, ends-whole}
 use Rattle.rmt_play.specs.PlayerSteps.{PlayerView}
 use Rattle.rmt_play.specs.ScriptEnds.{IsEndOf}
 use Rattle.rmt_play.proofs.script.play.Goals as goal
+
+pub statements-init : goal.statements-init
+statements-init g c = record {
+  within = omega arith;
+  few = omega arith;
+  quiet = refl;
+  so_far = so_far_start c.args.script.now c.new-player.result (g.K.Sink.written c.args.sink.now) c.new-player.ensures;
+}
 
 pub statements-preserved : goal.statements-preserved
 statements-preserved g c =

@@ -1,7 +1,10 @@
-use Rattle.std.proofs.Common.{◌≡◌, true, not, length, subst}
+use Rattle.std.proofs.Common.{◌≡◌, true, not, length, sym, subst}
+use Rattle.std.specs.Prelude.{IfOk}
+use Rattle.rmt_play.specs.PlayerSteps.{Moves, ExecutesPlayed}
 use Rattle.rmt_values.specs.Rows.{is_empty}
 use Rattle.rmt_statements.specs.declared.statement.Statement.{Statement}
-use Rattle.rmt_play.specs.Checks.{is_played as statement_test, rule_given, granularity_of, window_of}
+use Rattle.rmt_play.specs.Checks.{is_played as statement_test, rule_given, granularity_of, window_of, schema_refused, schema_made}
+use Rattle.rmt_play.proofs.CreateLemmas.{create-played}
 use Rattle.rmt_play.proofs.SchemaLemmas.{create-refusable}
 use Rattle.rmt_play.proofs.player.Player.perform.Goals as goal
 
@@ -10,3 +13,25 @@ create-requires c =
     let played : not (is_empty c.in-Create.columns) ≡ true = subst (λ (s : Statement). statement_test (length c.args.self.now.tables) s ≡ true) c.in-Create.is c.requires in
     create-refusable c.in_ok-made-in-Create.made c.in-Create.columns c.in-Create.key (rule_given c.in-Create.partition) (granularity_of c.in-Create.granularity) (window_of c.in-Create.window) played
     c.in_ok-made-in-Create.ensures.refused
+
+pub returns-in-Kill : goal.returns-in-Kill
+returns-in-Kill c = subst (λ (s : Statement). IfOk c.kill.result (λ line. Moves c.args.self.now (ExecutesPlayed s line) c.kill.new.self)) (sym c.in-Kill.is) c.kill.ensures
+
+pub returns-in-Restart : goal.returns-in-Restart
+returns-in-Restart c = subst (λ (s : Statement). IfOk c.restart.result (λ line. Moves c.args.self.now (ExecutesPlayed s line) c.restart.new.self)) (sym c.in-Restart.is) c.restart.ensures
+
+pub returns-in-Run : goal.returns-in-Run
+returns-in-Run c = subst (λ (s : Statement). IfOk c.run.result (λ line. Moves c.args.self.now (ExecutesPlayed s line) c.run.new.self)) (sym c.in-Run.is) c.run.ensures
+
+pub returns-in-Replicas : goal.returns-in-Replicas
+returns-in-Replicas c = subst (λ (s : Statement). Moves c.args.self.now (ExecutesPlayed s c.count.result) c.count.new.self) (sym c.in-Replicas.is) c.count.ensures
+
+pub returns-in-At : goal.returns-in-At
+returns-in-At c = subst (λ (s : Statement). IfOk c.send.result (λ line. Moves c.args.self.now (ExecutesPlayed s line) c.send.new.self)) (sym c.in-At.is) c.send.ensures
+
+pub returns-in_ok-made-in-Create : goal.returns-in_ok-made-in-Create
+returns-in_ok-made-in-Create c =
+    subst (λ (s : Statement). IfOk c.create.result (λ line. Moves c.args.self.now (ExecutesPlayed s line) c.create.new.self)) (sym c.in-Create.is)
+    (create-played c.args.self.now c.create.new.self c.in-Create.table (schema_refused c.in-Create.columns c.in-Create.partition c.in-Create.key c.in-Create.granularity c.in-Create.window)
+    (schema_made c.in-Create.columns c.in-Create.partition c.in-Create.key c.in-Create.granularity c.in-Create.window) c.in_ok-made-in-Create.made c.create.result
+    c.in_ok-made-in-Create.ensures.ok c.in_ok-made-in-Create.ensures.known c.in_ok-made-in-Create.ensures.refused c.create.ensures)

@@ -6,7 +6,8 @@ use Rattle.rmt_reply.specs.declared.line.Line.TheVariants as lines
 use Rattle.rmt_reply.specs.declared.refusal.Refusal.{Refusal}
 use Rattle.rmt_reply.specs.declared.refusal.Refusal.TheVariants.{UnknownTable}
 use Rattle.rmt_play.specs.Checks.{replica_at, unknown_replica}
-use Rattle.rmt_play.specs.PlayerSteps.{NamedCluster, PlayerView, IsPlaceOf, IsFound, HasNone}
+use Rattle.rmt_play.specs.PlayerSteps.{NamedCluster, PlayerView, IsAtAll, IsPlaceOf, IsFound, HasNone}
+use Rattle.rmt_model.specs.Words.{Each}
 use Rattle.rmt_play.proofs.TableLemmas.{get-below}
 use Rattle.rmt_play.proofs.SendLemmas.{sends, no-table, no-replica}
 use Rattle.rmt_play.proofs.player.Player.send.Goals as goal
@@ -32,7 +33,7 @@ returns-in_ok-line-in-Ok c =
     let there = subst (λ (ts : List NamedCluster). IsPlaceOf ts c.table_of-table.result.now c.in-Some.place) tables c.in-Some.ensures in
     let place = subst (λ (n : List ℕ). IsPlaceOf c.args.self.now.tables n c.in-Some.place) c.table_of-table.ensures there in
     let at = subst (λ (f : Result ℕ Refusal). IfOk f (λ r. replica_at c.args.self.now.replicas c.args.sent.now.replica ≡ Some r)) c.in-Ok.is c.in_ok-replica.ensures.at in
-    sends c.args.self.now c.act.new.self c.args.sent.now c.in-Some.place c.in-Ok.replica c.in_ok-line-in-Ok.line place at c.in_ok-line-in-Ok.ensures
+    sends c.args.self.now c.act.new.self c.args.sent.now c.in-Some.place c.in-Ok.replica c.in_ok-line-in-Ok.line (subst (λ (p : PlayerView). Each (IsAtAll p.replicas p.up) p.tables) c.self.view_is c.self.invariant.all) place at c.in_ok-line-in-Ok.ensures
 
 pub returns-in-Err : goal.returns-in-Err
 returns-in-Err c =

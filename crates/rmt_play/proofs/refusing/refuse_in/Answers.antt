@@ -1,0 +1,15 @@
+use Rattle.std.proofs.Common.{subst}
+use Rattle.std.specs.declared.option.Option.{Option}
+use Rattle.rmt_values.specs.Rows.{Shape}
+use Rattle.rmt_reply.specs.declared.refusal.Refusal.{Refusal}
+use Rattle.rmt_play.specs.PlayerSteps.{IsOwnRefusal}
+use Rattle.rmt_play.proofs.RefusedActs.{own-refused, replica-refused}
+use Rattle.rmt_play.proofs.refusing.refuse_in.Goals as goal
+
+pub returns-in-Some : goal.returns-in-Some
+returns-in-Some c = own-refused c.args.cluster.now c.args.replica c.args.act.now c.in-Some.refusal c.requires.down
+    (subst (λ (o : Option Refusal). IsOwnRefusal c.args.cluster.now.table.schema c.args.act.now o) c.in-Some.is (subst (λ (s : Shape). IsOwnRefusal s c.args.act.now c.in_ok-refusal.field-0) c.schema_of.ensures c.in_ok-refusal.ensures))
+
+pub returns-in-None : goal.returns-in-None
+returns-in-None c = replica-refused c.args.cluster.now c.args.replica c.args.act.now c.requires.down
+    (subst (λ (o : Option Refusal). IsOwnRefusal c.args.cluster.now.table.schema c.args.act.now o) c.in-None.is (subst (λ (s : Shape). IsOwnRefusal s c.args.act.now c.in_ok-refusal.field-0) c.schema_of.ensures c.in_ok-refusal.ensures))
