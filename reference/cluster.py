@@ -1,7 +1,8 @@
 """A table at its replicas, written from its description and not from the program: the log of what was done to the
 table, and of each replica how much of the log it has copied, which of these entries it has done, and its active parts.
-What a log says is read off it from its start each time, so this is slow. All replicas are up, and statements come one
-after the other, so that no INSERT is half done when another statement begins."""
+What a log says is read off it from its start each time, so this is slow. Statements come one after the other, so that
+no INSERT is half done when another statement begins, or when a replica goes down."""
+import hashlib
 from collections import namedtuple
 
 # the limits: partitions of a table, numbers of a partition; of a table its mutations, entries of clients and entries of
@@ -25,13 +26,18 @@ class Refusal(Exception):
 # the name of a part; its partition is a number, or None where the table has no rule; a mutation of 0 is none
 Name = namedtuple("Name", "partition min max level mutation")
 
-# what a log has: a block and its number; a merge of parts; a part put through the mutations up to a place; a command,
-# with the number that it took in each partition there was; and a drop of a partition's blocks below a number
-Get = namedtuple("Get", "partition number rows")
+# what a log has: a block, its number and the replica that took it; a merge of parts; a part put through the mutations
+# up to a place; a command, with the number that it took in each partition there was; and a drop of a partition's blocks
+# below a number
+Get = namedtuple("Get", "partition number source rows")
 Merge = namedtuple("Merge", "sources name")
 Mutate = namedtuple("Mutate", "old name upto")
 Mutation = namedtuple("Mutation", "numbers command")
 Drop = namedtuple("Drop", "partition number")
+
+
+def replica_text(at):
+    return b"r%d" % (at + 1)
 
 
 def partition_text(partition):
@@ -130,6 +136,22 @@ def next_to_mutate(log, below):
     return None
 
 
+# ---- bytes
+
+
+TYPES = {"UInt64": b"\1", "Int64": b"\2", "String": b"\3"}
+
+
+def number_bytes(length, *numbers):
+    return b"".join(number.to_bytes(length, "big") for number in numbers)
+
+
+def value_bytes(kind, value):
+    if kind == "String":
+        return number_bytes(2, len(value)) + value
+    return number_bytes(8, value % 2**64)
+
+
 # ---- replicas
 
 
@@ -157,14 +179,15 @@ class Draws:
 
 
 class Table:
-    """The log; the next number of each partition that there is; and how many values are held."""
+    """The log; the next number of each partition that there is; how many values are held; the replicas, and the places
+    of those that are down, which all tables share."""
 
-    def __init__(self, columns, rule, key, granularity, window, replicas):
+    def __init__(self, columns, rule, key, granularity, window, replicas, down):
         self.columns, self.rule, self.key, self.granularity, self.window = columns, rule, key, granularity, window
         self.kinds = dict(columns)
         self.places = {name: place for place, (name, _) in enumerate(columns)}
         self.log, self.next, self.values = [], {}, 0
-        self.replicas = [Replica() for _ in range(replicas)]
+        self.replicas, self.down = [Replica() for _ in range(replicas)], down
 
     # ---- rows
 
@@ -195,6 +218,21 @@ class Table:
             if isinstance(entry, Get) and not is_dropped(self.log, place, result(entry)):
                 rows += self.changed(entry.rows, pending(self.log, result(entry), len(self.log)))
         return rows
+
+    def part_bytes(self, rows):
+        """A part in bytes: its columns, key and lengths; its values, granule by granule and in each column by column;
+        the key of each granule's first row; and the digest of all this."""
+        granules = [rows[first : first + self.granularity] for first in range(0, len(rows), self.granularity)]
+        lists = [b"RMTPART1" + number_bytes(2, len(self.columns))]
+        lists += [TYPES[kind] + number_bytes(2, len(name)) + name for name, kind in self.columns]
+        lists += [number_bytes(2, len(self.key), *(self.places[name] for name in self.key))]
+        lists += [number_bytes(4, self.granularity, len(rows), len(granules))]
+        for granule in granules:
+            lists += [value_bytes(kind, self.value(row, name)) for name, kind in self.columns for row in granule]
+        for granule in granules:
+            lists += [value_bytes(self.kinds[name], self.value(granule[0], name)) for name in self.key]
+        bytes_ = b"".join(lists)
+        return bytes_ + hashlib.sha256(bytes_).digest()
 
     # ---- what clients do
 
@@ -239,7 +277,7 @@ class Table:
             raise Refusal(18, "LimitReached", "values", self.values)
         self.values += values
         self.replicas[at].staged[partition, number] = rows
-        self.log.append(Get(partition, number, rows))
+        self.log.append(Get(partition, number, at, rows))
         self.pull(at)
         self.apply(at, len(self.log) - 1)
         return b"part " + text(result(self.log[-1]))
@@ -311,22 +349,23 @@ class Table:
         return entry.name, Part(place, self.in_key_order(rows))
 
     def block(self, at, place):
-        """That of a block: it is staged at the replica, or comes from the first other one that has it, in a part that
-        was made within the replica's copy of the log, or staged."""
+        """That of a block: it is staged at the replica, or comes from the first other one that is up and has it, in a
+        part that was made within the replica's copy of the log, or staged."""
         replica, entry = self.replicas[at], self.replicas[at].log[place]
         name, staged = result(entry), (entry.partition, entry.number)
         if staged in replica.staged:
             return name, Part(place, self.in_key_order(replica.staged[staged]))
-        for other in self.replicas[:at] + self.replicas[at + 1 :]:
+        for other in [other for number, other in enumerate(self.replicas) if number not in {at} | self.down]:
             for around, part in other.parts.items():
                 if covers(around, name) and part.place < len(replica.log):
                     return around, part
             if staged in other.staged:
                 return name, Part(place, self.in_key_order(other.staged[staged]))
-        raise Refusal(0, "NeedsPart", name)
+        raise Refusal(19, "NoSource", name, replica_text(entry.source))
 
     def drain(self, at):
-        """Brings a replica to the whole log, every entry of it done, the earlier ones first."""
+        """Brings a replica to the whole log, every entry of it done, the earlier ones first. It stops at a block that
+        no replica has which is up; the one that took it is down then."""
         self.pull(at)
         for place, is_done in enumerate(self.replicas[at].done):
             if not is_done:
@@ -383,13 +422,16 @@ class Table:
             next_ = next_to_mutate(replica.log, len(replica.log))
             if next_ is not None:
                 return "mutate", at, *next_
-        return ("restart" if kind == 7 else "pull"), at
+        return ("restart" if kind == 7 and at not in self.down else "pull"), at
 
     def run(self, turns, draws):
-        """Makes so many background events, and gives each with what came of it. One that is refused is one of them."""
+        """Makes so many background events, and gives each with what came of it. One that is refused is one of them, as
+        each is that is drawn for a replica which is down."""
         for _ in range(turns):
             event = self.turn(draws)
             try:
+                if event[1] in self.down:
+                    raise Refusal(0, "Down")
                 came = getattr(self, event[0])(*event[1:])
             except Refusal as refusal:
                 came = refusal.line

@@ -3,6 +3,7 @@
 input, writes its replies and ends with the program's code. It is slow and shares nothing with the program, so that the
 two can be compared (reference/check). Where the description leaves a choice it is that of docs/DECISIONS.md. What
 happens to a table is in cluster.py."""
+import hashlib
 import sys
 
 import cluster
@@ -375,13 +376,17 @@ def over_table(how, text, *rules):
     return says(sequence(words(text), WORD, *rules), lambda said: (how,) + said[1:])
 
 
+def over_replica(how, word):
+    return says(sequence(keyword(word), WORD), lambda said: (how, said[1]))
+
+
 PARTITION_FINAL = only(sequence(maybe(only(sequence(keyword("partition"), PARTITION), 1)), keyword("final")), 0)
 ACT = choice(
     INSERT, unbuilt(INTO, QUORUM, OFFERED), SELECT, unbuilt(PLAIN_SELECT, SEQUENTIAL), EXPLAIN, ALTER,
     over_table("optimize", "optimize table", PARTITION_FINAL),
     over_table("show", "show parts from"), over_table("wait", "wait mutation", NUMBER),
     over_table("sync", "system sync replica"), over_table("restart", "system restart replica"),
-    unbuilt(words("check table"), WORD),
+    over_table("check", "check table"),
     unbuilt(keyword("system"), choice(words("stop fetches"), words("start fetches")), WORD),
 )  # fmt: skip
 REPLICA = maybe(only(sequence(symbol("@"), WORD), 1))
@@ -392,8 +397,7 @@ LANE = sequence(keyword("lane"), END, times(sequence(REPLICA, choice(INSERT, SEL
 LATER = choice(
     CREATE,
     says(sequence(REPLICA, ACT), lambda said: said[1] if said[1][0] == "unbuilt" else ("at", said[0], said[1])),
-    unbuilt(keyword("kill"), WORD), unbuilt(keyword("restart"), WORD),
-    RUN,
+    over_replica("kill", "kill"), over_replica("start", "restart"), RUN,
     unbuilt(keyword("lanes"), END, LANE, times(LANE, 7), keyword("end")),
 )  # fmt: skip
 REPLICAS = says(sequence(keyword("replicas"), number_of(1, 8)), lambda said: ("replicas", said[1]))
@@ -669,20 +673,18 @@ def partition_of(table, word):
 
 class World:
     def __init__(self):
-        self.replicas, self.tables, self.lines, self.refused = 2, {}, [], 0
+        self.replicas, self.down, self.tables, self.lines, self.refused = 2, set(), {}, [], 0
 
     def play(self, statement):
         """A statement and what it says; an act is sent to a replica."""
         if statement[0] == "replicas":
             self.replicas = statement[1]
             self.lines.append(b"ok")
-        elif statement[0] == "create":
-            self.create(*statement[1:])
-        elif statement[0] == "run":
-            self.run(*statement[1:])
-        else:
+        elif statement[0] == "at":
             _, replica, (how, table, *said) = statement
             getattr(self, how)(self.table(table), self.replica(replica), *said)
+        else:
+            getattr(self, statement[0])(*statement[1:])
 
     def create(self, name, columns, rule, key, granularity, window):
         if name in self.tables:
@@ -699,7 +701,7 @@ class World:
             raise Refusal(18, "LimitReached", "tables", 4)
         if len(columns) > 64:
             raise Refusal(18, "LimitReached", "columns", 64)
-        self.tables[name] = cluster.Table(columns, rule, key, granularity, window, self.replicas)
+        self.tables[name] = cluster.Table(columns, rule, key, granularity, window, self.replicas, self.down)
         self.lines.append(b"ok")
 
     def table(self, name):
@@ -709,15 +711,20 @@ class World:
 
     def replica(self, name):
         """The place of a replica; without a name it is the first."""
-        replicas = [b"r%d" % (number + 1) for number in range(self.replicas)]
+        replicas = [cluster.replica_text(at) for at in range(self.replicas)]
         if name is not None and name not in replicas:
             raise Refusal(4, "UnknownReplica", name)
         return 0 if name is None else replicas.index(name)
 
-    # ---- acts, at a replica of a table
+    def check_up(self, at):
+        if at in self.down:
+            raise Refusal(9, "ReplicaDown", cluster.replica_text(at))
+
+    # ---- acts, at a replica of a table, which is looked at once what the act says of the table was checked
 
     def insert(self, table, at, columns, offered):
         rows = rows_of(table, columns, offered)
+        self.check_up(at)
         if not rows:
             self.lines.append(b"nothing")
         for partition, block in table.split(rows):
@@ -725,6 +732,7 @@ class World:
 
     def select(self, table, at, said, is_sync):
         query = Query(table, said)
+        self.check_up(at)
         if is_sync:
             table.drain(at)
             rows = table.synced_rows(at)
@@ -737,6 +745,7 @@ class World:
 
     def explain(self, table, at, said):
         query, total_chosen, total = Query(table, said), 0, 0
+        self.check_up(at)
         for name, part in table.read(at):
             chosen, count = query.granules(part.rows)
             self.lines.append(b"granules %s %d/%d" % (cluster.text(name), chosen, count))
@@ -744,18 +753,31 @@ class World:
         self.lines.append(b"granules total %d/%d" % (total_chosen, total))
 
     def show(self, table, at):
+        self.check_up(at)
         self.lines.append(b" ".join([b"parts"] + [cluster.text(name) for name, _ in table.read(at)]))
 
+    def check(self, table, at):
+        self.check_up(at)
+        for name, part in table.read(at):
+            digest = hashlib.sha256(table.part_bytes(part.rows)).hexdigest()
+            self.lines.append(b"check %s %s" % (cluster.text(name), digest.encode()))
+        if not table.read(at):
+            self.lines.append(b"nothing")
+
     def alter(self, table, at, sets, filter):
-        self.lines.append(b"mutation %010d" % table.alter(Command(table, sets, filter)))
+        command = Command(table, sets, filter)
+        self.check_up(at)
+        self.lines.append(b"mutation %010d" % table.alter(command))
 
     def drop(self, table, at, word):
         partition = partition_of(table, word)
+        self.check_up(at)
         below = table.drop(at, partition)
         self.lines.append(b"dropped %s below %d" % (cluster.partition_text(partition), below))
 
     def optimize(self, table, at, word):
         partitions = None if word is None else [partition_of(table, word)]
+        self.check_up(at)
         table.drain(at)
         names = [name for name in cluster.live(table.log) if partitions is None or name.partition in partitions]
         if not names:
@@ -770,6 +792,7 @@ class World:
 
     def wait(self, table, at, id_):
         """Brings each part to the mutation, the first one first."""
+        self.check_up(at)
         mutations = [place for place, entry in enumerate(table.log) if isinstance(entry, cluster.Mutation)]
         if id_ >= len(mutations):
             raise Refusal(17, "UnknownMutation", id_)
@@ -782,14 +805,32 @@ class World:
         self.lines.append(b"done %010d" % id_)
 
     def sync(self, table, at):
+        self.check_up(at)
         table.drain(at)
         self.lines.append(b"ok")
 
     def restart(self, table, at):
+        self.check_up(at)
         table.restart(at)
         self.lines.append(b"ok")
 
     # ---- what is sent to no replica
+
+    def kill(self, name):
+        at = self.replica(name)
+        self.check_up(at)
+        self.down.add(at)
+        self.lines.append(b"ok")
+
+    def start(self, name):
+        """Brings a replica up again, in every table."""
+        at = self.replica(name)
+        if at not in self.down:
+            raise Refusal(10, "ReplicaUp", name)
+        self.down.remove(at)
+        for table in self.tables.values():
+            table.restart(at)
+        self.lines.append(b"ok")
 
     def run(self, name, turns, seed):
         table = self.table(name)

@@ -1,6 +1,7 @@
 """Random scripts: mostly statements that are played, some that are refused, and some with a token too few, too many or
 out of place. Half of them are INSERTs for the most part, among them some that are sent again, SELECTs and EXPLAINs. The
-other half, the busy ones, change what was inserted, by commands, drops, merges and background work at all replicas."""
+other half, the busy ones, change what was inserted, by commands, drops, merges and background work at all replicas.
+Sometimes a replica goes down, and mostly it comes up again a few statements later."""
 import random
 
 COLUMNS = ["a", "b", "c", "d", "k", "day", "page"]
@@ -21,7 +22,7 @@ NO_PARTITIONS += ["ID '1 '", f"ID '{2**64}'", f"ID '{10**30}'"]
 # how many of the statements of a busy script are of each kind
 BUSY = {
     "insert": 26, "many": 1, "reload": 5, "update": 9, "delete": 3, "drop": 4, "optimize": 8, "wait": 8, "work": 12,
-    "show": 8, "system": 5, "select": 14, "explain": 4, "create": 2, "other": 2,
+    "show": 8, "system": 5, "select": 14, "explain": 4, "create": 2, "other": 2, "check": 6, "kill": 3, "lost": 2,
 }  # fmt: skip
 NOISE = (
     "( ) , ; = < - @ * ! + WHERE SELECT FROM a t 1 'x' GROUP BY VALUES FORMAT CSV TABLE 'open 'bad\\q' -- and SYNC"
@@ -37,7 +38,7 @@ class Raw(str):
 class Scripts:
     def __init__(self, seed):
         self.random = random.Random(seed)
-        self.tables, self.replicas = {}, 2
+        self.tables, self.replicas, self.down = {}, 2, set()
         self.keys, self.rules = {}, {}  # of each table the columns that no UPDATE sets, and its rule's divisor or None
         self.commands = {}  # how many commands were made for each table, those left out that are likely to be refused
         self.is_busy, self.next = False, []  # and how the statements are made that come next in a busy script
@@ -78,8 +79,11 @@ class Scripts:
     def column(self, table):
         return self.one(self.columns(table))[0] if self.chance(0.97) else self.one(COLUMNS)
 
+    def number_of_replica(self):
+        return self.random.randint(1, self.replicas if self.chance(0.97) else 9)
+
     def replica(self):
-        return ["@", "r%d" % self.random.randint(1, self.replicas if self.chance(0.97) else 9)] if self.chance(0.5) else []
+        return ["@", f"r{self.number_of_replica()}"] if self.chance(0.5) else []
 
     # ---- statements, as lists of tokens
 
@@ -128,7 +132,7 @@ class Scripts:
         chosen += [self.one(both)] if chosen and self.chance(0.02) else []
         return [self.keyword("SETTINGS")] + self.commas(chosen) if chosen else []
 
-    def insert(self, table=None, share=0.45):
+    def insert(self, table=None, share=0.45, number=None):
         """An INSERT; such a share of them are earlier ones once more."""
         table = self.table() if table is None else table
         earlier = self.inserts.setdefault(table, [])
@@ -136,7 +140,8 @@ class Scripts:
         last = earlier[-self.one([2, 4, 40]) :]
         names, is_csv, rows = self.again(*self.one(last)) if is_again else self.offered(table)
         earlier.append((names, is_csv, rows))
-        tokens = self.replica() + self.keywords("INSERT INTO") + ([self.keyword("TABLE")] if self.chance(0.15) else [])
+        tokens = self.replica() if number is None else ["@", f"r{number}"]
+        tokens += self.keywords("INSERT INTO") + ([self.keyword("TABLE")] if self.chance(0.15) else [])
         tokens += [table] + (["("] + self.commas([[name] for name in names]) + [")"] if names else [])
         tokens += ["SETTINGS", "insert_quorum", "=", "2"] if self.chance(0.01) else []
         if is_csv:
@@ -323,16 +328,64 @@ class Scripts:
         at = self.replica() if number is None else ["@", f"r{number}"]
         return at + self.keywords("SHOW PARTS FROM") + [self.table() if table is None else table]
 
+    def check(self, table=None, number=None):
+        at = self.replica() if number is None else ["@", f"r{number}"]
+        return at + self.keywords("CHECK TABLE") + [self.table() if table is None else table]
+
     def system(self):
         words = self.one(["SYSTEM SYNC REPLICA", "SYSTEM RESTART REPLICA"])
         return self.replica() + self.keywords(words) + [self.table()]
 
+    # ---- replicas that go down and come up again
+
+    def kill(self, number=None):
+        """The end of a replica, and often background work without it."""
+        number = self.number_of_replica() if number is None else number
+        self.down |= {number} if number <= self.replicas else set()
+        self.next += [self.work] if self.is_busy and self.chance(0.5) else []
+        return [self.keyword("KILL"), self.one(["r0", "R1", "r01"]) if self.chance(0.03) else f"r{number}"]
+
+    def restart(self, number=None):
+        """The restart of a replica, mostly of one that is down."""
+        downs = sorted(self.down)
+        if number is None:
+            number = self.one(downs) if downs and self.chance(0.9) else self.number_of_replica()
+        self.down.discard(number)
+        return [self.keyword("RESTART"), f"r{number}"]
+
+    def lost(self):
+        """An INSERT at a replica that goes down then, which another one may have the block of; and statements that want
+        it, until the replica comes up again."""
+        table, number = self.table(), self.random.randint(1, self.replicas)
+        others = [other for other in range(1, self.replicas + 1) if other != number] or [number]
+        wants = [lambda: self.want(table, self.one(others)) for _ in range(self.random.randint(1, 5))]
+        sync = ["@", f"r{self.one(others)}", "SYSTEM", "SYNC", "REPLICA", table]
+        self.next += [lambda: sync] if self.chance(0.6) else []
+        self.next += [lambda: self.work(table)] if self.chance(0.3) else []
+        self.next += [lambda: self.kill(number)] + wants
+        self.next += [lambda: self.restart(number)] if self.chance(0.8) else []
+        self.next += [lambda: self.want(table, self.one(others))]
+        return self.insert(table, 0, number)
+
+    def want(self, table, number):
+        """A statement that brings a replica up to date, or tells how far it got."""
+        last = str(max(0, self.commands.get(table, 0) - 1))
+        return ["@", f"r{number}"] + self.one([
+            ["SELECT", "*", "FROM", table, "SYNC"], ["SYSTEM", "SYNC", "REPLICA", table],
+            ["OPTIMIZE", "TABLE", table, "FINAL"], ["WAIT", "MUTATION", table, last],
+            ["SHOW", "PARTS", "FROM", table], ["CHECK", "TABLE", table],
+        ])  # fmt: skip
+
     def everywhere(self):
-        """What there is of a table in the end, at each replica: its parts, and all its rows."""
+        """What there is of a table in the end, at each replica: its parts, all its rows, and the digests of the parts
+        that it has then."""
         table = self.table()
+        for number in sorted(self.down) if self.chance(0.8) else []:
+            yield self.restart(number)
         for number in range(1, self.replicas + 1):
             yield self.show(table, number)
             yield ["@", f"r{number}", "SELECT", "*", "FROM", table, "SYNC"]
+            yield self.check(table, number)
 
     def other(self):
         table = self.table()
@@ -343,7 +396,7 @@ class Scripts:
             self.replica() + alter + update, alter + ["DELETE", "WHERE"] + self.filter(table),
             alter + ["DROP", "PARTITION", "ID", "'all'"], ["OPTIMIZE", "TABLE", table, "FINAL"],
             ["SHOW", "PARTS", "FROM", table], ["CHECK", "TABLE", table], ["WAIT", "MUTATION", table, "0"],
-            ["SYSTEM", "SYNC", "REPLICA", table], ["KILL", "r1"], ["RESTART", "r1"], ["RUN", table, "3", "SEED", "4"],
+            ["SYSTEM", "SYNC", "REPLICA", table], ["RUN", table, "3", "SEED", "4"],
             ["SYSTEM", "STOP", "FETCHES", table], ["SYSTEM", "START", "FETCHES", table], ["REPLICAS", "3"], lanes,
         ])  # fmt: skip
 
@@ -353,6 +406,8 @@ class Scripts:
             return self.next.pop(0)()
         if not self.tables:
             return self.create()
+        if self.down and self.chance(0.2):
+            return self.restart()
         return getattr(self, self.random.choices(list(BUSY), BUSY.values())[0])()
 
     def statement(self):
@@ -361,14 +416,20 @@ class Scripts:
         self.is_wild = self.chance(0.3)
         if not self.tables or self.chance(0.08):
             return self.create()
+        if self.down and self.chance(0.2):
+            return self.restart()
         if self.chance(self.share):
             return self.insert()
         turn = self.random.random()
         if turn < 0.63:
             return self.select()
-        if turn < 0.87:
+        if turn < 0.84:
             return self.explain()
-        return self.other() if turn < 0.94 else []
+        if turn < 0.88:
+            return self.check()
+        if turn < 0.91:
+            return self.kill() if self.chance(0.8) else self.restart()
+        return self.other() if turn < 0.96 else []
 
     # ---- noise and white space
 

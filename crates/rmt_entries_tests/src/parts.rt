@@ -143,8 +143,20 @@ fn other_spellings_are_no_part(rt: HostRuntime) -> Result<(), Fail> {
     let alloc = rt.alloc();
     let one = schema_of(alloc, &[(b'c', Kind::UInt64)], b'c', 8192)?;
     let (body, _) = SEVEN_EIGHT.split_at(54);
-    // Rows that fall, 3 rows, 2 granules, another mark, another granularity, no granule: each with its own digest.
-    let changes: [(usize, u8); 6] = [(37, 9), (25, 3), (29, 2), (53, 8), (21, 1), (29, 0)];
+    // Rows that fall, 3 rows, 2 granules, another mark, another granularity, no granule, another column's name, another type,
+    // another version, no key: each with its own digest.
+    let changes: [(usize, u8); 10] = [
+        (37, 9),
+        (25, 3),
+        (29, 2),
+        (53, 8),
+        (21, 1),
+        (29, 0),
+        (13, b'd'),
+        (10, 2),
+        (7, b'2'),
+        (15, 0),
+    ];
     for (at, byte) in changes {
         let mut bytes = Vec::from_slice(alloc, body)?;
         if let Some(there) = bytes.get_mut(at) {

@@ -15,3 +15,5 @@ mod played;
 mod replies;
 #[cfg(test)]
 mod runs;
+#[cfg(test)]
+mod sources;
