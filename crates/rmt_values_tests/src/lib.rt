@@ -1,6 +1,8 @@
-//! Tests of rmt_values, which need its public calls alone.
+//! Tests of rmt_values and rmt_columns, which need their public calls alone.
 #![tactic(auto)]
 
+#[cfg(test)]
+mod columns;
 #[cfg(test)]
 mod copies;
 #[cfg(test)]

@@ -1,0 +1,6 @@
+pub mod BuilderLemmas
+pub mod OrderLemmas
+pub mod PlacesLemmas
+pub mod RowsLemmas
+pub mod TextLemmas
+pub mod TypedLemmas
