@@ -1,4 +1,5 @@
 pub mod BlockLemmas
+pub mod BytesLemmas
 pub mod GroupLemmas
 pub mod IdLemmas
 pub mod SplitLemmas

@@ -1,16 +1,14 @@
 -- Blocks of rows, their bytes and their ids.
 -- FIPS 180-4, section 6.2: SHA-256. ClickHouse documentation, Data Replication: a block that is inserted again is told by
 -- its checksum. Which bytes a block has is this program's own; numbers have their most significant byte first.
-use Rattle.std.specs.Prelude.{◌≡◌, ℕ, ◌<◌, ◌^◌, ◌&&◌, Bool, true, false, List, [], ◌∷◌, ◌++◌, length, map, codes, FitsSigned, IfSome}
-use Rattle.std.specs.Int.{w16, w32, w64, to_be_bytes, cast_unsigned}
+use Rattle.std.specs.Prelude.{◌≡◌, ℕ, ◌<◌, ◌^◌, ◌&&◌, Bool, true, false, List, [], ◌∷◌, ◌++◌, length, map, codes, IfSome}
+use Rattle.std.specs.Int.{w16, w32, to_be_bytes}
 use Rattle.std.specs.List.{All, flat_map}
 use Rattle.std.specs.declared.option.Option.{Option}
 use Rattle.sha2.specs.Sha256.{sha256}
 use Rattle.hex.specs.Hex.{encode_lower}
 use Rattle.rmt_values.specs.declared.value.Value.{Value}
-use Rattle.rmt_values.specs.declared.value.Value.TheVariants.{UInt, Int, Text}
 use Rattle.rmt_values.specs.declared.kind.Kind.{Kind}
-use Rattle.rmt_values.specs.declared.kind.Kind.TheVariants as kinds
 use Rattle.rmt_values.specs.declared.column.Column.{Column}
 use Rattle.rmt_values.specs.declared.partition_rule.PartitionRule.{PartitionRule}
 use Rattle.rmt_values.specs.Rows.{is_of}

@@ -4,8 +4,9 @@ ghost use Rattle.rmt_values.specs.Rows.{fits};
 ghost use Rattle.rmt_block.specs.Blocks.{AreOfOne, IsBlock, RowsFit, block_of, kinds_of as types_of};
 
 use crate::spelling::digest_of;
+use rmt_columns::Rows;
 use rmt_names::PartitionId;
-use rmt_values::{Column, Kind, Row, Schema};
+use rmt_values::{Column, Kind, Schema};
 use std::alloc::{AllocError, Global};
 use std::marker::Model;
 
@@ -15,27 +16,29 @@ use std::marker::Model;
 pub struct Block {
     partition: PartitionId,
     kinds: Vec<Kind>,
-    rows: Vec<Row>,
+    rows: Rows,
     digest: [u8; 32],
 }
 
 impl Model for Block {
+    ghost use Rattle.std.specs.Prelude.{◌≡◌};
     ghost use Rattle.rmt_block.specs.Blocks.{BlockView, IsBlock};
 
     ghost Value = { BlockView };
 
-    ghost view = { λ b. record { partition = b.partition; kinds = b.kinds.items; rows = b.rows.items; digest = b.digest } };
+    ghost view = { λ b. record { partition = b.partition; kinds = b.kinds.items; rows = b.rows.rows; digest = b.digest } };
 
-    ghost invariant = { λ b. IsBlock (record { partition = b.partition; kinds = b.kinds.items; rows = b.rows.items; digest = b.digest }) };
+    ghost invariant = { λ b. IsBlock (record { partition = b.partition; kinds = b.kinds.items; rows = b.rows.rows; digest = b.digest }) × (b.rows.kinds ≡ b.kinds.items) };
 }
 
 impl Block {
     /// Makes a block of the rows of a table that isn't partitioned, and computes its digest. At an error no memory was
     /// left, and the rows are gone.
-    pub fn new(alloc: Global, rows: Vec<Row>, schema: &Schema) -> Result<Block, AllocError>
-        requires fit { All (λ row. fits schema.now.columns row ≡ true) rows.items }
-        requires few_rows { length rows.items < 2 ^ 32 }
-        ensures { IfOk result (λ b. b ≡ block_of None (types_of schema.now.columns) rows.items) }
+    pub fn new(alloc: Global, rows: Rows, schema: &Schema) -> Result<Block, AllocError>
+        requires fit { All (λ row. fits schema.now.columns row ≡ true) rows.rows }
+        requires few_rows { length rows.rows < 2 ^ 32 }
+        requires kinds { rows.kinds ≡ types_of schema.now.columns }
+        ensures { IfOk result (λ b. b ≡ block_of None (types_of schema.now.columns) rows.rows) }
     {
         let kinds = kinds_of(alloc, schema.columns())?;
         Block::of_kinds(alloc, None, kinds, rows)
@@ -46,13 +49,14 @@ impl Block {
         alloc: Global,
         partition: PartitionId,
         kinds: Vec<Kind>,
-        rows: Vec<Row>,
+        rows: Rows,
     ) -> Result<Block, AllocError>
-        requires partition { AreOfOne partition rows.items }
-        requires fit { RowsFit kinds.items rows.items }
-        requires few_rows { length rows.items < 2 ^ 32 }
+        requires partition { AreOfOne partition rows.rows }
+        requires fit { RowsFit kinds.items rows.rows }
+        requires few_rows { length rows.rows < 2 ^ 32 }
         requires few_columns { length kinds.items < 2 ^ 16 }
-        ensures { IfOk result (λ b. b ≡ block_of partition kinds.items rows.items) }
+        requires kinds { rows.kinds ≡ kinds.items }
+        ensures { IfOk result (λ b. b ≡ block_of partition kinds.items rows.rows) }
     {
         let digest = digest_of(alloc, &kinds, &rows)?;
         Ok(Block {
@@ -79,8 +83,9 @@ impl Block {
     }
 
     /// Its rows, as they were offered.
-    pub fn rows(&self) -> &[Row]
-        ensures value { result.now ≡ self.now.rows }
+    pub fn rows(&self) -> &Rows
+        ensures value { result.now.rows ≡ self.now.rows }
+        ensures kinds { result.now.kinds ≡ self.now.kinds }
         ensures sound { IsBlock self.now }
     {
         &self.rows

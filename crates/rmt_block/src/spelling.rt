@@ -1,16 +1,21 @@
 ghost use Rattle.std.specs.Prelude.{◌≡◌, ◌++◌, ◌<◌, ◌≤◌, ◌^◌, length, map, true, IfOk, OnOk};
 ghost use Rattle.std.specs.List.{All};
-ghost use Rattle.std.specs.Int.{w16, to_be_bytes};
 ghost use Rattle.rmt_values.specs.Rows.{is_value};
 ghost use Rattle.sha2.specs.Sha256.{sha256};
 ghost use Rattle.rmt_bytes.specs.Encoding.{IsInRange, kind_byte, value_bytes};
+ghost use Rattle.rmt_columns.specs.Columns.{value_of};
+ghost use Rattle.rmt_columns.specs.RowsByColumn.{row_at};
 ghost use Rattle.rmt_block.specs.Blocks.{RowsFit, row_bytes, head_bytes, block_bytes};
 
 use crate::block::Block;
-use rmt_bytes::{put_kind, put_u16, put_u32, put_value};
-use rmt_values::{Kind, Row, Value};
+use rmt_bytes::{put_kind, put_u16, put_u32};
+use rmt_columns::{ColumnValues, Rows, ValueRef, put_value_ref};
+use rmt_values::Kind;
 use sha2::{Digest, Sha256};
 use std::alloc::{AllocError, Global};
+
+/// The hasher is given this many bytes at a time, and those of one row more.
+const HASHED_BYTES: usize = 4096;
 
 /// The bytes of a block, of which its digest is. At an error no memory was left.
 pub fn bytes(alloc: Global, block: &Block) -> Result<Vec<u8>, AllocError>
@@ -19,30 +24,35 @@ pub fn bytes(alloc: Global, block: &Block) -> Result<Vec<u8>, AllocError>
     let rows = block.rows();
     let mut out = Vec::new(alloc);
     push_head(&mut out, block.kinds(), rows.len())?;
-    'written: for row in rows {
-        push_row(&mut out, row)?;
+    let columns = rows.columns();
+    'written: for i in 0..rows.len() {
+        push_row(&mut out, columns, i)?;
     }
     Ok(out)
 }
 
-/// The SHA-256 of the bytes that a block of these rows has. The rows go through a buffer one by one, so that the bytes
-/// never stand in memory as a whole. At an error no memory was left.
-pub fn digest_of(alloc: Global, kinds: &[Kind], rows: &[Row]) -> Result<[u8; 32], AllocError>
-    requires fit { RowsFit kinds.now rows.now }
-    requires few_rows { length rows.now < 2 ^ 32 }
+/// The SHA-256 of the bytes that a block of these rows has. Some rows at a time go through a buffer, so that the bytes never
+/// stand in memory as a whole. At an error no memory was left.
+pub fn digest_of(alloc: Global, kinds: &[Kind], rows: &Rows) -> Result<[u8; 32], AllocError>
+    requires fit { RowsFit kinds.now rows.now.rows }
+    requires few_rows { length rows.now.rows < 2 ^ 32 }
     requires few_columns { length kinds.now < 2 ^ 16 }
-    ensures ok { IfOk result (λ digest. digest ≡ sha256 (block_bytes kinds.now rows.now)) }
-    ensures in_range { OnOk result (All (λ row. All IsInRange row) rows.now) }
+    ensures ok { IfOk result (λ digest. digest ≡ sha256 (block_bytes kinds.now rows.now.rows)) }
+    ensures in_range { OnOk result (All (λ row. All IsInRange row) rows.now.rows) }
 {
     let mut hasher = Sha256::new();
     let mut buffer = Vec::new(alloc);
     push_head(&mut buffer, kinds, rows.len())?;
-    hasher.update(buffer.as_slice());
-    'rows: for row in rows {
-        buffer.clear();
-        push_row(&mut buffer, row)?;
+    let columns = rows.columns();
+    'rows: for i in 0..rows.len() {
+        push_row(&mut buffer, columns, i)?;
+        if buffer.len() < HASHED_BYTES {
+            continue;
+        }
         hasher.update(buffer.as_slice());
+        buffer.clear();
     }
+    hasher.update(buffer.as_slice());
     Ok(hasher.finalize())
 }
 
@@ -68,24 +78,25 @@ fn push_kinds(out: &mut Vec<u8>, kinds: &[Kind]) -> Result<(), AllocError>
     Ok(())
 }
 
-// Writes the values of a row, in the order of the columns.
-fn push_row(out: &mut Vec<u8>, row: &Row) -> Result<(), AllocError>
-    requires { All (λ value. is_value value ≡ true) row.now }
-    ensures ok { OnOk result (out.new.items ≡ out.old.items ++ row_bytes row.now) }
-    ensures in_range { OnOk result (All IsInRange row.now) }
+// Writes the values of row `i`, in the order of the columns.
+fn push_row(out: &mut Vec<u8>, columns: &[ColumnValues], i: usize) -> Result<(), AllocError>
+    requires { All (λ value. is_value value ≡ true) (row_at i columns.now) }
+    ensures ok { OnOk result (out.new.items ≡ out.old.items ++ row_bytes (row_at i columns.now)) }
+    ensures in_range { OnOk result (All IsInRange (row_at i columns.now)) }
 {
-    let values = row.values();
-    'values: for value in values {
-        push_value(out, value)?;
+    'values: for column in columns {
+        if let Some(value) = column.get(i) {
+            push_value(out, value)?;
+        }
     }
     Ok(())
 }
 
 // Writes a value.
-fn push_value(out: &mut Vec<u8>, value: &Value) -> Result<(), AllocError>
-    requires { is_value value.now ≡ true }
-    ensures ok { OnOk result (out.new.items ≡ out.old.items ++ value_bytes value.now) }
-    ensures in_range { OnOk result (IsInRange value.now) }
+fn push_value(out: &mut Vec<u8>, value: ValueRef<'_>) -> Result<(), AllocError>
+    requires { is_value (value_of value) ≡ true }
+    ensures ok { OnOk result (out.new.items ≡ out.old.items ++ value_bytes (value_of value.entry)) }
+    ensures in_range { OnOk result (IsInRange (value_of value.entry)) }
 {
-    put_value(out, value)
+    put_value_ref(out, value)
 }

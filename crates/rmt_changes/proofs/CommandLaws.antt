@@ -16,12 +16,7 @@ use Rattle.rmt_values.specs.declared.checked_mutation.CheckedMutation.TheVariant
 use Rattle.rmt_values.specs.Rows.{Shape, kind_of, is_value, same_kind, is_of, fits, kind_at, key_of}
 use Rattle.rmt_values.specs.Filters.{holds, IsOfColumn}
 use Rattle.rmt_values.specs.Commands.{plus, minus, set_from, new_value, updated_from, applied, RightFits, NotAmong, SetFits, SetsFit, AreAlike, AddsUp, CommandFits}
-
--- the value of a column after an update
-updated-at : (i : ℕ) (sets : List (ℕ × CheckedRight)) (row vs : List Value) (j : ℕ) → slice_get (updated_from i sets row vs) j ≡ option_map (λ v. new_value (set_from sets (i + j)) row v) (slice_get vs j)
-updated-at i sets row [] j = refl
-updated-at i sets row (v ∷ vs) zero = let e : i + 0 ≡ i = omega arith in rw e refl
-updated-at i sets row (v ∷ vs) (suc j) = let e : i + suc j ≡ i + 1 + j = omega arith in rw e (updated-at (i + 1) sets row vs j)
+use Rattle.rmt_expr.proofs.UpdateLemmas.{updated-at, right-of}
 
 -- none of these columns is set
 abbrev pub Unset : List ℕ → List (ℕ × CheckedRight) → Type 0
@@ -112,16 +107,6 @@ cell-at (x ∷ xs) [] c k f e = absurd (cc)
 cell-at (x ∷ xs) (v ∷ vs) zero k f e = record { value = v; stands = refl; is = subst (λ (k : Kind). is_of k v ≡ true) (some-one x.kind k e) (both-true (is_of x.kind v) (fits xs vs) f).0 }
 cell-at (x ∷ xs) (v ∷ vs) (suc c) k f e =
     let r = cell-at xs vs c k (both-true (is_of x.kind v) (fits xs vs) f).1 e in record { value = r.value; stands = r.stands; is = r.is }
-
-right-of : (shape : Shape) (sets : List (ℕ × CheckedRight)) (c : ℕ) (r : CheckedRight) → SetsFit shape sets → set_from sets c ≡ Some r → RightFits shape c r
-right-of shape [] c r h e = absurd (cc)
-right-of shape (s ∷ ss) c r h e = go (nat_eq s.0 c) refl e (right-of shape ss c r h.2)
-  where
-    go : (b : Bool) → nat_eq s.0 c ≡ b → cond b (Some s.1) (set_from ss c) ≡ Some r → (set_from ss c ≡ Some r → RightFits shape c r) → RightFits shape c r
-    go true q i f =
-        let z : s.0 ≡ c = grind (arith, nat_tests) in
-        subst (RightFits shape c) (some-one s.1 r i) (subst (λ n. RightFits shape n s.1) z (SetFits.value h.0))
-    go false q i f = f i
 
 cell-of : (shape : Shape) (row : List Value) (target c : ℕ) (k : Kind) (old : Value) → fits shape.columns row ≡ true → AreAlike shape target c → kind_at shape.columns target ≡ Some k → is_of k (unwrap_or (slice_get row c) old) ≡ true
 cell-of shape row target c k old f a e =

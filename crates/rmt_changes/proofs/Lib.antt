@@ -1,3 +1,4 @@
 pub mod TokenOrder
 pub mod CommandLaws
 pub mod ChangeLaws
+pub mod PassLaws

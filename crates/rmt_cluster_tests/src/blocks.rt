@@ -6,6 +6,7 @@ ghost use Rattle.rmt_values.specs.Rows.{fits};
 
 use crate::rows::{Numbers, rows_of};
 use rmt_block::{Block, split};
+use rmt_columns::Rows;
 use rmt_granules::all_fit;
 use rmt_values::Schema;
 use std::alloc::Global;
@@ -20,10 +21,10 @@ pub(crate) fn block_of(
 ) -> Result<Arc<Block, Global>, Fail>
     ensures { IfOk result (λ block. All (λ row. fits schema.now.columns row ≡ true) (arc_value block).rows) }
 {
-    let rows = rows_of(alloc, numbers)?;
-    if !all_fit(&rows, schema) || rows.len() > 1_000 {
-        return Err("the rows are not of the table".into());
-    }
+    let rows = match Rows::of_rows(alloc, &rows_of(alloc, numbers)?, schema)? {
+        Some(rows) if rows.len() <= 1_000 => rows,
+        _ => return Err("the rows are not of the table".into()),
+    };
     let mut blocks = split(alloc, rows, schema)?;
     let Some(block) = blocks.pop() else {
         return Err("no rows".into());

@@ -7,3 +7,4 @@ pub mod GatheredLemmas
 pub mod NewPartLemmas
 pub mod MutatedPartLemmas
 pub mod SentLemmas
+pub mod TokensFit

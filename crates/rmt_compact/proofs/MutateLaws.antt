@@ -47,7 +47,7 @@ entry-fits schema (x ∷ log) e l (inl q) = of e (subst (Meets schema log) q l.1
     of (DropRange p n) m = tt
 entry-fits schema (x ∷ log) e l (inr h) = entry-fits schema log e l.0 h
 
-entries-fit : (schema : Shape) (log ms : List Entry) → Lawful schema log → Each (Has log) ms → Each (EntryFits schema) ms
+pub entries-fit : (schema : Shape) (log ms : List Entry) → Lawful schema log → Each (Has log) ms → Each (EntryFits schema) ms
 entries-fit schema log ms l h = Each-all (EntryFits schema) ms (λ e i. entry-fits schema log e l (Each-at (Has log) ms e h i))
 
 -- mutations leave a row that fits one that fits

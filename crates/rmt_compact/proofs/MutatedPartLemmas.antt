@@ -96,7 +96,7 @@ first-has (x ∷ log) i e h = go (nat_lt (length log) i) h (first-has log i e)
     go true k f = k
     go false k f = inr (f k)
 
-below-has : (log : List Entry) (i : ℕ) → Each (Has log) (mutations_below log i)
+pub below-has : (log : List Entry) (i : ℕ) → Each (Has log) (mutations_below log i)
 below-has log i = Each-all (Has log) (mutations_below log i) (λ e h. first-has log i e (Has-filter is_mutation (first_entries log i) e h).0)
 
 -- ---- rows

@@ -8,12 +8,13 @@ ghost use Rattle.rmt_compact.specs.NewParts.{GetsBlock, IsOfBlock};
 
 use crate::name::made_name;
 use rmt_block::Block;
+use rmt_columns::{Rows, RowsBuilder};
 use rmt_entries::Entry;
 use rmt_granules::{PartData, from_unsorted_rows};
 use rmt_list::List;
 use rmt_part::{Accepted, Part};
 use rmt_row::Seen;
-use rmt_values::{Row, Schema};
+use rmt_values::Schema;
 use std::alloc::{AllocError, Global};
 use std::sync::Arc;
 
@@ -41,14 +42,13 @@ pub fn from_block(
 }
 
 /// Rows in order of key, as the data of a part.
-fn sorted_data(alloc: Global, rows: &[Row], schema: &Schema) -> Result<PartData, AllocError>
-    requires { All (λ row. fits schema.now.columns row ≡ true) rows.now }
-    ensures { IfOk result (λ part. part ≡ data_of schema.now (in_key_order schema.now rows.now)) }
+fn sorted_data(alloc: Global, rows: &Rows, schema: &Schema) -> Result<PartData, AllocError>
+    requires { All (λ row. fits schema.now.columns row ≡ true) rows.now.rows }
+    ensures { IfOk result (λ part. part ≡ data_of schema.now (in_key_order schema.now rows.now.rows)) }
 {
-    let mut all = Vec::with_capacity(alloc, rows.len())?;
-    'rows: for row in rows {
-        all.push(row.copy()?)?;
+    if rows.len() == 0 {
+        let none = RowsBuilder::new(alloc, schema.columns())?.into_rows();
+        return from_unsorted_rows(alloc, &none, schema);
     }
-    let part = from_unsorted_rows(alloc, all, schema)?;
-    Ok(part)
+    from_unsorted_rows(alloc, rows, schema)
 }

@@ -38,7 +38,15 @@ pub fn mutate(
     let low = data_version(old.name());
     let start = first_pending(tokens, partition, low, high);
     let pending = tokens.split_at(start).1;
-    let rows = changed_rows(alloc, old.body(), pending, partition, low, high)?;
+    let rows = changed_rows(
+        alloc,
+        old.body(),
+        pending,
+        partition,
+        low,
+        high,
+        old.schema(),
+    )?;
     let data = from_rows(alloc, rows, old.schema())?;
     let body = Arc::new(alloc, data)?;
     let mut blocks = Vec::new(alloc);

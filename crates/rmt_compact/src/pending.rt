@@ -1,19 +1,22 @@
 //! The rows of a part after its pending mutations.
 ghost use Rattle.std.specs.Prelude.{◌≡◌, ◌<◌, ◌≤◌, true, drop, length, slice_get, IfOk, IfSome};
 ghost use Rattle.std.specs.declared.option.Option.TheVariants.{Some};
-ghost use Rattle.std.specs.List.{filter_map};
+ghost use Rattle.std.specs.List.{All, filter_map};
 ghost use Rattle.rmt_model.specs.Content.{Row as Values, chosen, changed};
 ghost use Rattle.rmt_changes.specs.Changes.{between};
+ghost use Rattle.rmt_changes.specs.Laws.{EntryFits};
+ghost use Rattle.rmt_columns.specs.RowsByColumn.{kinds_in};
 ghost use Rattle.rmt_part.specs.Lineages.{entries_of};
 ghost use Rattle.rmt_compact.specs.NewParts.{has_number as has_number_told};
 
-use rmt_changes::changed_row;
+use rmt_changes::changed_rows as rows_after;
+use rmt_columns::Rows;
 use rmt_entries::Entry;
 use rmt_granules::PartData;
 use rmt_list::List;
 use rmt_names::PartitionId;
 use rmt_row::Seen;
-use rmt_values::Row;
+use rmt_values::Schema;
 use std::alloc::{AllocError, Global};
 
 /// How many tokens come before the first whose mutation has a number in the partition, above `low` and at most `high`.
@@ -60,8 +63,8 @@ fn is_among(numbers: &List<(PartitionId, u32)>, partition: PartitionId, low: u32
     false
 }
 
-/// The rows of a part, each after the mutations of the tokens that have a number in the partition, above `low` and at most
-/// `high`, the first token first. Rows that one of them deletes are left out.
+/// The rows of a part of a schema, each after the mutations of the tokens that have a number in the partition, above `low` and
+/// at most `high`, the first token first. Rows that one of them deletes are left out.
 pub(crate) fn changed_rows(
     alloc: Global,
     body: &PartData,
@@ -69,28 +72,14 @@ pub(crate) fn changed_rows(
     partition: PartitionId,
     low: u32,
     high: u32,
-) -> Result<Vec<Row>, AllocError>
-    ensures { IfOk result (λ rows. rows.items
+    schema: &Schema,
+) -> Result<Rows, AllocError>
+    requires fit { All (λ token. EntryFits schema.now token.value) tokens.now }
+    requires kinds { body.now.kinds ≡ kinds_in schema.now.columns }
+    ensures rows { IfOk result (λ rows. rows.rows
         ≡ filter_map (changed (entries_of tokens.now) partition (between low high)) body.now.rows) }
+    ensures kinds { IfOk result (λ rows. rows.kinds ≡ body.now.kinds) }
 {
-    let mut rows = Vec::new(alloc);
-    'rows: for i in 0..body.rows() {
-        let row = row_of(body, i)?;
-        let Some(new) = changed_row(alloc, tokens, partition, low, high, row)? else {
-            continue;
-        };
-        rows.push(new)?;
-    }
-    Ok(rows)
-}
-
-/// A copy of a row of a part.
-fn row_of(body: &PartData, i: usize) -> Result<Row, AllocError>
-    requires { i < length body.now.rows }
-    ensures { IfOk result (λ row. slice_get body.now.rows i ≡ Some row) }
-{
-    match body.row(i)? {
-        Some(row) => Ok(row),
-        None => unreachable!(),
-    }
+    let rows = body.data().copy()?;
+    rows_after(alloc, tokens, partition, low, high, rows, schema)
 }

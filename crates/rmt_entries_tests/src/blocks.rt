@@ -1,6 +1,11 @@
 //! Blocks of rows, their bytes and digests, their ids, and how rows are split into them.
+ghost use Rattle.std.specs.Prelude.{◌≡◌, ◌<◌, ◌^◌, length, true, IfOk};
+ghost use Rattle.std.specs.List.{All};
+ghost use Rattle.rmt_values.specs.Rows.{fits};
+ghost use Rattle.rmt_columns.specs.RowsByColumn.{kinds_in};
+
 use rmt_block::{Block, BlockId, bytes, id, id_text, split};
-use rmt_granules::all_fit;
+use rmt_columns::{Rows, ValueRef};
 use rmt_names::partition_text;
 use rmt_values::{Blob, Column, Kind, Name, Row, Schema, Value};
 use std::alloc::{AllocError, Global};
@@ -55,20 +60,28 @@ fn text_row(alloc: Global, text: &[u8], number: i64) -> Result<Row, AllocError> 
     Ok(Row::new(vec![in alloc; text, Value::Int(number)]?))
 }
 
-/// The block of these rows of a table that isn't divided.
-fn block_of(alloc: Global, rows: Vec<Row>, schema: &Schema) -> Result<Block, Fail> {
-    if !all_fit(&rows, schema) || rows.len() >= 1 << 32 {
-        return Err("the rows don't fit".into());
+/// The rows held by column.
+fn held(alloc: Global, rows: &[Row], schema: &Schema) -> Result<Rows, Fail>
+    ensures fit { IfOk result (λ all. All (λ row. fits schema.now.columns row ≡ true) all.rows) }
+    ensures few_rows { IfOk result (λ all. length all.rows < 2 ^ 32) }
+    ensures kinds { IfOk result (λ all. all.kinds ≡ kinds_in schema.now.columns) }
+{
+    match Rows::of_rows(alloc, rows, schema)? {
+        Some(rows) if rows.len() < 1 << 32 => Ok(rows),
+        _ => Err("the rows don't fit".into()),
     }
+}
+
+/// The block of these rows of a table that isn't divided.
+fn block_of(alloc: Global, rows: &[Row], schema: &Schema) -> Result<Block, Fail> {
+    let rows = held(alloc, rows, schema)?;
     let block = Block::new(alloc, rows, schema)?;
     Ok(block)
 }
 
 /// The blocks of these rows.
-fn blocks_of(alloc: Global, rows: Vec<Row>, schema: &Schema) -> Result<Vec<Block>, Fail> {
-    if !all_fit(&rows, schema) || rows.len() >= 1 << 32 {
-        return Err("the rows don't fit".into());
-    }
+fn blocks_of(alloc: Global, rows: &[Row], schema: &Schema) -> Result<Vec<Block>, Fail> {
+    let rows = held(alloc, rows, schema)?;
     let blocks = split(alloc, rows, schema)?;
     Ok(blocks)
 }
@@ -79,8 +92,8 @@ fn text_of(alloc: Global, blocks: &[Block]) -> Result<String, AllocError> {
     for block in blocks {
         let partition = partition_text(alloc, block.partition())?;
         text.push_str(partition.as_str())?;
-        for row in block.rows() {
-            if let [Value::UInt(number), ..] = row.values() {
+        for i in 0..block.len() {
+            if let Some(ValueRef::UInt(number)) = block.rows().value(i, 0) {
                 text.push(' ')?;
                 text.push_str(number.to_string(alloc)?.as_str())?;
             }
@@ -98,19 +111,19 @@ fn a_block_has_these_bytes_and_this_digest(rt: HostRuntime) -> Result<(), Fail> 
     let two = vec![in alloc; text_row(alloc, b"", -2)?, text_row(alloc, b"ab", 3)?]?;
     let cases: [(Block, &[u8], [u8; 32], usize); 3] = [
         (
-            block_of(alloc, rows_of(alloc, &[7, 8])?, &numbers)?,
+            block_of(alloc, &rows_of(alloc, &[7, 8])?, &numbers)?,
             b"\x00\x01\x01\x00\x00\x00\x02\x00\x00\x00\x00\x00\x00\x00\x07\x00\x00\x00\x00\x00\x00\x00\x08",
             OF_NUMBERS,
             2,
         ),
         (
-            block_of(alloc, two, &texts)?,
+            block_of(alloc, &two, &texts)?,
             b"\x00\x02\x03\x02\x00\x00\x00\x02\x00\x00\xff\xff\xff\xff\xff\xff\xff\xfe\x00\x02ab\x00\x00\x00\x00\x00\x00\x00\x03",
             OF_TWO_COLUMNS,
             2,
         ),
         (
-            block_of(alloc, Vec::new(alloc), &numbers)?,
+            block_of(alloc, &[], &numbers)?,
             b"\x00\x01\x01\x00\x00\x00\x00",
             OF_NO_ROWS,
             0,
@@ -133,7 +146,7 @@ fn a_block_has_these_bytes_and_this_digest(rt: HostRuntime) -> Result<(), Fail> 
 fn a_block_of_no_rows_of_a_table_has_its_types(rt: HostRuntime) -> Result<(), Fail> {
     let alloc = rt.alloc();
     let schema = schema_of(alloc, &[Kind::Text, Kind::Int64], None)?;
-    let block = block_of(alloc, Vec::new(alloc), &schema)?;
+    let block = block_of(alloc, &[], &schema)?;
     assert_eq!(rt; block.kinds(), [Kind::Text, Kind::Int64].as_slice());
     Ok(())
 }
@@ -149,9 +162,9 @@ fn rows_are_split_by_their_partition(rt: HostRuntime) -> Result<(), Fail> {
     ];
     for (divisor, expected) in cases {
         let schema = schema_of(alloc, &[Kind::UInt64], divisor)?;
-        let blocks = blocks_of(alloc, rows_of(alloc, &offered)?, &schema)?;
+        let blocks = blocks_of(alloc, &rows_of(alloc, &offered)?, &schema)?;
         assert_eq!(rt; text_of(alloc, &blocks)?.as_str(), expected);
-        let none = blocks_of(alloc, Vec::new(alloc), &schema)?;
+        let none = blocks_of(alloc, &[], &schema)?;
         assert_eq!(rt; none.len(), 0);
     }
     Ok(())

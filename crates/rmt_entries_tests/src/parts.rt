@@ -1,6 +1,7 @@
 //! Parts as bytes, and bytes that are no part's.
+use rmt_columns::Rows;
 use rmt_format::{DecodeError, decode, digest_of, encode};
-use rmt_granules::{all_fit, from_unsorted_rows};
+use rmt_granules::from_unsorted_rows;
 use rmt_values::{Blob, Column, Kind, Name, Row, Schema, Value};
 use std::alloc::{AllocError, Global};
 use std::test::Fail;
@@ -67,11 +68,11 @@ fn text_row(alloc: Global, number: i64, text: &[u8]) -> Result<Row, AllocError> 
 }
 
 /// The bytes of the part of these rows.
-fn bytes_of(alloc: Global, rows: Vec<Row>, schema: &Schema) -> Result<Vec<u8>, Fail> {
-    if !all_fit(&rows, schema) {
+fn bytes_of(alloc: Global, rows: &[Row], schema: &Schema) -> Result<Vec<u8>, Fail> {
+    let Some(rows) = Rows::of_rows(alloc, rows, schema)? else {
         return Err("the rows don't fit".into());
-    }
-    let part = from_unsorted_rows(alloc, rows, schema)?;
+    };
+    let part = from_unsorted_rows(alloc, &rows, schema)?;
     if part.rows() >= 1 << 32 {
         return Err("there are too many rows".into());
     }
@@ -111,14 +112,11 @@ fn parts_have_these_bytes(rt: HostRuntime) -> Result<(), Fail> {
         text_row(alloc, 5, b"x")?,
     ]?;
     assert_eq!(rt;
-        bytes_of(alloc, rows_of(alloc, &[8, 7])?, &one)?.as_slice(),
+        bytes_of(alloc, &rows_of(alloc, &[8, 7])?, &one)?.as_slice(),
         SEVEN_EIGHT.as_slice()
     );
-    assert_eq!(rt;
-        bytes_of(alloc, Vec::new(alloc), &one)?.as_slice(),
-        NO_ROWS.as_slice()
-    );
-    assert_eq!(rt; bytes_of(alloc, texts, &two)?.as_slice(), THREE.as_slice());
+    assert_eq!(rt; bytes_of(alloc, &[], &one)?.as_slice(), NO_ROWS.as_slice());
+    assert_eq!(rt; bytes_of(alloc, &texts, &two)?.as_slice(), THREE.as_slice());
     let cases: [(&[u8], &Schema, usize); 3] = [
         (&SEVEN_EIGHT, &one, 2),
         (&NO_ROWS, &one, 0),

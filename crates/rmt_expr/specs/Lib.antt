@@ -2,3 +2,4 @@ pub mod Checks
 pub mod Mutations
 pub mod Placed
 pub mod Queries
+pub mod Updates

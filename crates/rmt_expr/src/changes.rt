@@ -45,6 +45,7 @@ pub fn apply(alloc: Global, m: &CheckedMutation, row: &Row) -> Result<Option<Row
 fn updated(alloc: Global, sets: &List<(u16, CheckedRight)>, row: &Row) -> Result<Row, AllocError>
     ensures { IfOk result (λ new. new ≡ updated_from 0 sets.now row.now row.now) }
 {
+    let sets = sets.as_slice();
     let values = row.values();
     let mut new = Vec::with_capacity(alloc, values.len())?;
     'columns: for i in 0..values.len() {
@@ -55,7 +56,7 @@ fn updated(alloc: Global, sets: &List<(u16, CheckedRight)>, row: &Row) -> Result
 
 /// The value that a column gets.
 fn value_for(
-    sets: &List<(u16, CheckedRight)>,
+    sets: &[(u16, CheckedRight)],
     column: usize,
     row: &Row,
     old: &Value,
@@ -69,13 +70,12 @@ fn value_for(
 }
 
 /// What the column is set to.
-fn find(sets: &List<(u16, CheckedRight)>, column: usize) -> Option<&CheckedRight>
+pub fn find(sets: &[(u16, CheckedRight)], column: usize) -> Option<&CheckedRight>
     ensures { option_map (λ r. r.now) result ≡ set_from sets.now column }
 {
-    let all = sets.as_slice();
-    'sets: for i in 0..all.len() {
-        if all[i].0 as usize == column {
-            return Some(&all[i].1);
+    'sets: for i in 0..sets.len() {
+        if sets[i].0 as usize == column {
+            return Some(&sets[i].1);
         }
     }
     None

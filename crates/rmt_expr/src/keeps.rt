@@ -27,7 +27,7 @@ fn passes(column: u16, cmp: Cmp, value: &Value, row: &Row) -> bool
 }
 
 /// Whether the comparison holds of two values in this order.
-fn compares(cmp: Cmp, order: Ordering) -> bool
+pub fn compares(cmp: Cmp, order: Ordering) -> bool
     ensures { result ≡ test_holds cmp order }
 {
     match cmp {

@@ -10,6 +10,7 @@ use Rattle.rmt_granules.specs.Granules.{PartView}
 use Rattle.rmt_granules.specs.MadePart.{data_of}
 use Rattle.rmt_granules.specs.MergedData.{IsDataOf}
 use Rattle.rmt_granules.proofs.StableOrder.{All-ordered, order-twice}
+use Rattle.rmt_granules.proofs.MergeLemmas.{merged-sorted}
 use Rattle.rmt_format.specs.PartBytes.{HasPartBytes}
 
 -- the part of rows that fit has bytes, where there are few enough, as `from_unsorted_rows` makes it
@@ -35,3 +36,7 @@ sorted-has shape rows part is fit sorted few =
     let P : PartView → Type 0 = λ p. IsDataOf shape p in
     let ordered = in_order-from_sort (key_cmp shape.key) (key_cmp_total shape.key) rows rows sorted (λ x. refl) in
     record { of_schema = subst P (sym is) (record { is = refl; fit = fit; ordered = sym ordered }); few_rows = few }
+
+-- the rows of a part that has bytes are sorted
+pub has-sorted : (shape : Shape) (part : PartView) → HasPartBytes shape part → IsSorted (key_cmp shape.key) part.rows
+has-sorted shape part has = subst (IsSorted (key_cmp shape.key)) has.of_schema.ordered (merged-sorted shape part.rows)

@@ -9,8 +9,9 @@ use Rattle.std.proofs.lemmas.Nat.{mul-le}
 use Rattle.std.proofs.lemmas.Option.{some_pair_parts}
 use Rattle.rmt_values.specs.declared.value.Value.{Value}
 use Rattle.rmt_bytes.specs.Encoding.{value_bytes}
-use Rattle.rmt_granules.specs.Columns.{ColumnView, beside, rows_of, kinds_of, AreLong}
-use Rattle.rmt_granules.proofs.Transposed.{length-rows_of}
+use Rattle.rmt_columns.specs.Columns.{ColumnView}
+use Rattle.rmt_columns.specs.RowsByColumn.{beside, rows_of, kinds_of, AreLong}
+use Rattle.rmt_columns.proofs.RowsLemmas.{length-rows_of}
 use Rattle.rmt_granules.specs.Granules.{PartView, IsPart, granule_of}
 use Rattle.rmt_granules.proofs.Marks.{no-granules-more}
 use Rattle.rmt_format.specs.PartBytes.{column_of, columns_bytes, granules_bytes}

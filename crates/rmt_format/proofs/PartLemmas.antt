@@ -16,16 +16,19 @@ use Rattle.std.specs.Borrow.{Bor}
 use Rattle.std.specs.declared.result.Result.TheVariants.{Err}
 use Rattle.rmt_bytes.specs.declared.decode_error.DecodeError.{DecodeError}
 use Rattle.rmt_bytes.specs.declared.decode_error.DecodeError.TheVariants as errors
-use Rattle.rmt_bytes.specs.Decoding.{Fails, decode_number}
+use Rattle.rmt_bytes.specs.Decoding.{Fails, decode_number, mapped}
 use Rattle.rmt_bytes.proofs.Codes.{◌>>=◌}
 use Rattle.rmt_bytes.proofs.NumberCodes.{number32}
 use Rattle.rmt_granules.specs.Granules.{PartView, IsPart}
-use Rattle.rmt_granules.specs.MadePart.{kinds_in, data_of}
+use Rattle.rmt_granules.specs.MadePart.{data_of}
+use Rattle.rmt_granules.specs.Places.{columns_from}
+use Rattle.rmt_granules.proofs.ColumnLemmas.{HaveColumns, have-columns}
+use Rattle.rmt_columns.specs.RowsByColumn.{kinds_in, no_values, rows_of}
 use Rattle.rmt_granules.proofs.Made.{part-made}
 use Rattle.rmt_granules.proofs.Marks.{enough-granules}
 use Rattle.rmt_granules.proofs.MergeLemmas.{merged-sorted}
 use Rattle.rmt_format.specs.PartBytes.{HasPartBytes, AreInRange, head_bytes, data_bytes, rows_bytes, row_bytes, part_body, part_bytes, granules_bytes}
-use Rattle.rmt_format.specs.PartDecoding.{IsReadAs, decode_granules, decode_rows}
+use Rattle.rmt_format.specs.PartDecoding.{IsReadAs, decode_all, decode_granules, decode_rows}
 use Rattle.rmt_format.proofs.GranuleLemmas.{few-granules}
 use Rattle.rmt_format.proofs.AgainLemmas.{granules-again}
 
@@ -64,16 +67,19 @@ rows-again shape part rest schema has held =
     ap (λ (k : ℕ). granules_bytes k part.granularity (length part.marks) part.rows ++ after) width
     ∙ ap (λ (n : ℕ). granules_bytes (length shape.columns) n (length part.marks) part.rows ++ after) granularity in
     let enough = subst (λ (n : ℕ). length part.rows ≤ length part.marks * n) granularity (enough-granules part is) in
-    let rows : decode_granules shape.columns shape.granularity (length part.marks) (length part.rows) (rows_bytes part ++ after) ≡ Some (part.rows, after) =
-    ap (decode_granules shape.columns shape.granularity (length part.marks) (length part.rows)) bytes
-    ∙ granules-again shape.columns shape.granularity (length part.marks) part.rows after schema.has_columns
+    let read : decode_granules (no_values shape.columns) shape.granularity (length part.marks) (length part.rows) (rows_bytes part ++ after) ≡ Some (columns_from 0 shape.columns part.rows, after) =
+    ap (decode_granules (no_values shape.columns) shape.granularity (length part.marks) (length part.rows)) bytes
+    ∙ granules-again shape.columns shape.granularity (length part.marks) part.rows after
     (recursion_from_All (λ row. fits shape.columns row ≡ true) part.rows has.of_schema.fit) held enough in
+    let rows : decode_all shape.columns shape.granularity (length part.marks) (length part.rows) (rows_bytes part ++ after) ≡ Some (part.rows, after) =
+    ap (mapped (rows_of (length part.rows))) read
+    ∙ ap (λ (l : List (List Value)). Some (l, after)) (HaveColumns.are (have-columns shape.columns part.rows has.of_schema.fit)) in
     ap (decode_rows shape.columns shape.granularity) (data-parts part rest)
-    ∙ ap (λ (o : Option (ℕ × List ℕ)). o >>= λ r. decode_number w32 r.1 >>= λ g. cond (ltb r.0 g.0) None (decode_granules shape.columns shape.granularity g.0 r.0 g.1))
+    ∙ ap (λ (o : Option (ℕ × List ℕ)). o >>= λ r. decode_number w32 r.1 >>= λ g. cond (ltb r.0 g.0) None (decode_all shape.columns shape.granularity g.0 r.0 g.1))
     (number32.again (length part.rows) (to_be_bytes w32 (length part.marks) ++ (rows_bytes part ++ after)) has.few_rows)
-    ∙ ap (λ (o : Option (ℕ × List ℕ)). o >>= λ g. cond (ltb (length part.rows) g.0) None (decode_granules shape.columns shape.granularity g.0 (length part.rows) g.1))
+    ∙ ap (λ (o : Option (ℕ × List ℕ)). o >>= λ g. cond (ltb (length part.rows) g.0) None (decode_all shape.columns shape.granularity g.0 (length part.rows) g.1))
     (number32.again (length part.marks) (rows_bytes part ++ after) (omega (arith, few, has.few_rows)))
-    ∙ cond-false (ltb (length part.rows) (length part.marks)) None (decode_granules shape.columns shape.granularity (length part.marks) (length part.rows) (rows_bytes part ++ after))
+    ∙ cond-false (ltb (length part.rows) (length part.marks)) None (decode_all shape.columns shape.granularity (length part.marks) (length part.rows) (rows_bytes part ++ after))
     (le-ltb (length part.rows) (length part.marks) few)
     ∙ rows
 

@@ -9,9 +9,10 @@ use Rattle.rmt_values.specs.declared.value.Value.{Value}
 use Rattle.rmt_values.specs.declared.column.Column.{Column}
 use Rattle.rmt_values.specs.Rows.{fits, is_of, is_value, same_kind, kind_of}
 use Rattle.rmt_bytes.specs.Encoding.{IsInRange}
-use Rattle.rmt_granules.specs.Columns.{ColumnView, beside, blank_rows, rows_of, AreLong}
+use Rattle.rmt_columns.specs.Columns.{ColumnView}
+use Rattle.rmt_columns.specs.RowsByColumn.{beside, blank_rows, rows_of, AreLong}
 use Rattle.rmt_granules.specs.Granules.{PartView, granule_of}
-use Rattle.rmt_granules.proofs.Transposed.{length-rows_of}
+use Rattle.rmt_columns.proofs.RowsLemmas.{length-rows_of}
 use Rattle.rmt_format.specs.PartBytes.{AreInRange}
 use Rattle.rmt_format.specs.StoredBytes.{IsHeld, CellsAreHeld, RowsAreHeld}
 use Rattle.rmt_format.proofs.GranuleLemmas.{LieIn, granule-rows, granule-pair, slice_get-drop, window-beside, end-is}

@@ -1,6 +1,6 @@
 -- Decoding parts from left to right, as in `Decoding` of `rmt_bytes`. Only the words for results are cited by public
 -- clauses.
-use Rattle.std.specs.Prelude.{◌≡◌, ℕ, zero, suc, ◌-◌, cond, min, nat_lt, List, [], ◌∷◌, ◌++◌, length}
+use Rattle.std.specs.Prelude.{◌≡◌, ℕ, zero, suc, ◌-◌, cond, min, nat_lt, List, [], ◌∷◌, ◌++◌}
 use Rattle.std.specs.Int.{w32}
 use Rattle.std.specs.Option.{option_and_then}
 use Rattle.std.specs.declared.option.Option.{Option}
@@ -9,11 +9,11 @@ use Rattle.std.specs.declared.result.Result.{Result}
 use Rattle.std.specs.declared.result.Result.TheVariants.{Ok, Err}
 use Rattle.rmt_values.specs.declared.value.Value.{Value}
 use Rattle.rmt_values.specs.declared.column.Column.{Column}
-use Rattle.rmt_values.specs.declared.kind.Kind.{Kind}
 use Rattle.rmt_bytes.specs.declared.decode_error.DecodeError.{DecodeError as ReadError}
 use Rattle.rmt_bytes.specs.declared.decode_error.DecodeError.TheVariants as reads
-use Rattle.rmt_bytes.specs.Decoding.{decode_number, decode_value}
-use Rattle.rmt_granules.specs.Columns.{blank_rows}
+use Rattle.rmt_bytes.specs.Decoding.{decode_number, decode_value, mapped}
+use Rattle.rmt_columns.specs.Columns.{ColumnView}
+use Rattle.rmt_columns.specs.RowsByColumn.{rows_of, no_values}
 use Rattle.rmt_granules.specs.Granules.{PartView}
 use Rattle.rmt_format.specs.declared.decode_error.DecodeError.{DecodeError}
 use Rattle.rmt_format.specs.declared.decode_error.DecodeError.TheVariants.{NotAPart, Memory}
@@ -34,36 +34,38 @@ IsReadAs view a (Err reads.Malformed) = ⊥
 
 -- ---- rows
 
--- these rows, each with a value more: of one column, whose values these bytes begin with
-abbrev pub decode_cells : Kind → List (List Value) → List ℕ → Option (List (List Value) × List ℕ)
-decode_cells kind [] bytes = Some ([], bytes)
-decode_cells kind (row ∷ rows) bytes =
+-- the column with so many values more, which these bytes begin with
+abbrev pub decode_cells : ColumnView → ℕ → List ℕ → Option (ColumnView × List ℕ)
+decode_cells c zero bytes = Some (c, bytes)
+decode_cells c (suc n) bytes =
+    option_and_then (λ v. decode_cells (record c { values = c.values ++ v.0 ∷ [] }) n v.1) (decode_value c.kind bytes)
+
+-- the columns, each with so many values more
+abbrev pub decode_columns : List ColumnView → ℕ → List ℕ → Option (List ColumnView × List ℕ)
+decode_columns [] count bytes = Some ([], bytes)
+decode_columns (c ∷ cs) count bytes =
     option_and_then
-    (λ v. option_and_then (λ x. Some ((row ++ v.0 ∷ []) ∷ x.0, x.1)) (decode_cells kind rows v.1))
-    (decode_value kind bytes)
+    (λ x. option_and_then (λ y. Some (x.0 ∷ y.0, y.1)) (decode_columns cs count x.1))
+    (decode_cells c count bytes)
 
--- these rows, each with a value more of each of these columns
-abbrev pub decode_columns : List Column → List (List Value) → List ℕ → Option (List (List Value) × List ℕ)
-decode_columns [] rows bytes = Some (rows, bytes)
-decode_columns (c ∷ cs) rows bytes = option_and_then (λ x. decode_columns cs x.0 x.1) (decode_cells c.kind rows bytes)
-
--- the rows of a granule, so many, where there are as many bytes at least
-unfoldable pub decode_granule : List Column → ℕ → List ℕ → Option (List (List Value) × List ℕ)
-decode_granule columns count bytes = cond (nat_lt (length bytes) count) None (decode_columns columns (blank_rows count) bytes)
-
--- the rows of so many granules of `size` rows, of which the last one has what is left
-abbrev pub decode_granules : List Column → ℕ → ℕ → ℕ → List ℕ → Option (List (List Value) × List ℕ)
-decode_granules columns size zero left bytes = Some ([], bytes)
+-- the columns, with the values of so many granules of `size` rows, of which the last one has what is left
+abbrev pub decode_granules : List ColumnView → ℕ → ℕ → ℕ → List ℕ → Option (List ColumnView × List ℕ)
+decode_granules columns size zero zero bytes = Some (columns, bytes)
+decode_granules columns size zero (suc left) bytes = None
 decode_granules columns size (suc granules) left bytes =
     option_and_then
-    (λ x. option_and_then (λ y. Some (x.0 ++ y.0, y.1)) (decode_granules columns size granules (left - size) x.1))
-    (decode_granule columns (min left size) bytes)
+    (λ x. decode_granules x.0 size granules (left - min left size) x.1)
+    (decode_columns columns (min left size) bytes)
+
+-- the rows of so many granules, and so many rows in all
+abbrev pub decode_all : List Column → ℕ → ℕ → ℕ → List ℕ → Option (List (List Value) × List ℕ)
+decode_all columns size granules count bytes = mapped (rows_of count) (decode_granules (no_values columns) size granules count bytes)
 
 -- the rows of a part, from their number on; there are no more granules than rows
 unfoldable pub decode_rows : List Column → ℕ → List ℕ → Option (List (List Value) × List ℕ)
 decode_rows columns size bytes =
     option_and_then
     (λ rows. option_and_then
-    (λ granules. cond (nat_lt rows.0 granules.0) None (decode_granules columns size granules.0 rows.0 granules.1))
+    (λ granules. cond (nat_lt rows.0 granules.0) None (decode_all columns size granules.0 rows.0 granules.1))
     (decode_number w32 rows.1))
     (decode_number w32 bytes)

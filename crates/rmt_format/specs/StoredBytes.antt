@@ -4,7 +4,7 @@ use Rattle.std.specs.List.{flat_map, AllByRecursion}
 use Rattle.rmt_values.specs.declared.value.Value.{Value}
 use Rattle.rmt_values.specs.Rows.{is_value}
 use Rattle.rmt_bytes.specs.Encoding.{value_bytes, IsInRange}
-use Rattle.rmt_granules.specs.Columns.{ColumnView}
+use Rattle.rmt_columns.specs.Columns.{ColumnView}
 
 -- the values of a column from row `first` to before row `past`
 abbrev pub cells_bytes : ℕ → ℕ → ColumnView → List ℕ

@@ -6,8 +6,8 @@ ghost use Rattle.rmt_bytes.specs.Encoding.{value_bytes};
 ghost use Rattle.rmt_format.specs.PartBytes.{rows_bytes};
 ghost use Rattle.rmt_format.specs.StoredBytes.{cells_bytes, IsHeld, CellsAreHeld, RowsAreHeld};
 
-use rmt_bytes::put_value;
-use rmt_granules::{ColumnValues, PartData};
+use rmt_columns::{ColumnValues, put_value_ref};
+use rmt_granules::PartData;
 use std::alloc::AllocError;
 
 /// Appends the rows of each granule.
@@ -65,8 +65,8 @@ fn put_cell(out: &mut Vec<u8>, column: &ColumnValues, i: usize) -> Result<(), Al
     ensures in_range { OnOk result
         (AllByRecursion IsHeld (option_to_list (slice_get column.now.values i))) }
 {
-    if let Some(value) = column.value(i)? {
-        put_value(out, &value)?;
+    if let Some(value) = column.get(i) {
+        put_value_ref(out, value)?;
     }
     Ok(())
 }

@@ -1,6 +1,7 @@
 //! Parts as bytes, both ways, and their digests.
 #![tactic(auto)]
 
+mod cells;
 mod decode_error;
 mod decoded;
 mod digest;

@@ -1,20 +1,20 @@
 //! The rows of a part from bytes: granule by granule, each column by column.
-ghost use Rattle.std.specs.Prelude.{◌≡◌, ℕ, ◌++◌, List, IfOk};
-ghost use Rattle.rmt_granules.specs.Columns.{blank_rows};
+ghost use Rattle.std.specs.Prelude.{◌≡◌, ◌≤◌, ℕ, ◌++◌, List, length, IfOk};
 ghost use Rattle.rmt_bytes.specs.Decoding.{Decodes};
+ghost use Rattle.rmt_columns.specs.RowsByColumn.{kinds_in, no_values};
 ghost use Rattle.rmt_format.specs.PartBytes.{head_bytes};
 ghost use Rattle.rmt_format.specs.PartDecoding.{
   IsReadAs,
-  decode_cells,
   decode_columns,
-  decode_granule,
-  decode_granules,
+  decode_all,
   decode_rows,
 };
 
+use crate::cells::read_cells;
 use crate::head::put_head;
-use rmt_bytes::{DecodeError, read_u32, read_value};
-use rmt_values::{Column, Kind, Row, Schema};
+use rmt_bytes::{DecodeError, read_u32};
+use rmt_columns::{ColumnValues, Rows};
+use rmt_values::{Column, Schema};
 use std::alloc::{AllocError, Global};
 
 /// What comes after the head of the schema's parts.
@@ -41,8 +41,9 @@ pub fn read_rows<'a>(
     bytes: &'a [u8],
     columns: &[Column],
     size: u32,
-) -> Result<(Vec<Row>, &'a [u8]), DecodeError>
-    ensures { Decodes (λ x. (x.0.items, x.1.now)) result (decode_rows columns.now size bytes.now) }
+) -> Result<(Rows, &'a [u8]), DecodeError>
+    ensures rows { Decodes (λ x. (x.0.rows, x.1.now)) result (decode_rows columns.now size bytes.now) }
+    ensures kinds { IfOk result (λ x. x.0.kinds ≡ kinds_in columns.now) }
 {
     let (count, rest) = read_u32(bytes)?;
     let (granules, rest) = read_u32(rest)?;
@@ -59,93 +60,61 @@ fn read_granules<'a>(
     columns: &[Column],
     size: u32,
     counts: (u32, u32),
-) -> Result<(Vec<Row>, &'a [u8]), DecodeError>
-    ensures { Decodes (λ x. (x.0.items, x.1.now)) result
-        (decode_granules columns.now size counts.0 counts.1 bytes.now) }
+) -> Result<(Rows, &'a [u8]), DecodeError>
+    ensures rows { Decodes (λ x. (x.0.rows, x.1.now)) result
+        (decode_all columns.now size counts.0 counts.1 bytes.now) }
+    ensures kinds { IfOk result (λ x. x.0.kinds ≡ kinds_in columns.now) }
 {
     let (granules, count) = counts;
-    let mut rows = Vec::new(alloc);
+    let mut made = empty_columns(alloc, columns, most_rows(bytes, columns, count))?;
     let mut rest = bytes;
     let mut left = count;
     'granules: for _ in 0..granules {
-        let (mut granule, after) = read_granule(alloc, rest, columns, left.min(size))?;
-        rows.append(&mut granule)?;
-        rest = after;
-        left = left.saturating_sub(size);
+        let here = left.min(size);
+        rest = read_columns(rest, &mut made, here)?;
+        left -= here;
     }
-    Ok((rows, rest))
-}
-
-// Decodes the rows of a granule, so many, and gives back the rest.
-#[tactic(auto, unfolding(crate::specs::PartDecoding::decode_granule))]
-fn read_granule<'a>(
-    alloc: Global,
-    bytes: &'a [u8],
-    columns: &[Column],
-    count: u32,
-) -> Result<(Vec<Row>, &'a [u8]), DecodeError>
-    ensures { Decodes (λ x. (x.0.items, x.1.now)) result
-        (decode_granule columns.now count bytes.now) }
-{
-    if bytes.len() < count as usize {
+    if left > 0 {
         return Err(DecodeError::Malformed);
     }
-    // Each value takes a byte or more.
-    let room = columns.len().min(bytes.len() / (count as usize).max(1));
-    let rows = blank(alloc, count, room)?;
-    read_columns(alloc, bytes, columns, rows)
+    Ok((Rows::of_columns(made, count as usize), rest))
 }
 
-// So many rows without values, each with room for so many.
-fn blank(alloc: Global, count: u32, room: usize) -> Result<Vec<Row>, AllocError>
-    ensures { IfOk result (λ rows. rows.items ≡ blank_rows count) }
+// The most rows that these bytes can have, of so many: each value takes a byte or more.
+fn most_rows(bytes: &[u8], columns: &[Column], count: u32) -> usize
+    ensures count { result ≤ count }
+    ensures bytes { result ≤ length bytes.now }
 {
-    let mut rows = Vec::with_capacity(alloc, count as usize)?;
-    'rows: for _ in 0..count {
-        let row = Vec::with_capacity(alloc, room)?;
-        rows.push(Row::new(row))?;
-    }
-    Ok(rows)
+    (count as usize).min(bytes.len() / columns.len().max(1))
 }
 
-// Gives each row a value more of each column, and gives back the rest.
-fn read_columns<'a>(
+// Columns of these types that have no values yet, with room for so many.
+fn empty_columns(
     alloc: Global,
-    bytes: &'a [u8],
     columns: &[Column],
-    rows: Vec<Row>,
-) -> Result<(Vec<Row>, &'a [u8]), DecodeError>
-    ensures { Decodes (λ x. (x.0.items, x.1.now)) result
-        (decode_columns columns.now rows.items bytes.now) }
+    room: usize,
+) -> Result<Vec<ColumnValues>, AllocError>
+    ensures { IfOk result (λ made. made.items ≡ no_values columns.now) }
 {
-    let mut rows = rows;
-    let mut rest = bytes;
+    let mut made = Vec::with_capacity(alloc, columns.len())?;
     'columns: for column in columns {
-        let (longer, after) = read_cells(alloc, rest, column.kind, rows)?;
-        rows = longer;
-        rest = after;
+        made.push(ColumnValues::with_capacity(alloc, column.kind, room, 0)?)?;
     }
-    Ok((rows, rest))
+    Ok(made)
 }
 
-// Gives each row a value more, of one column, and gives back the rest.
-fn read_cells(
-    alloc: Global,
-    bytes: &[u8],
-    kind: Kind,
-    rows: Vec<Row>,
-) -> Result<(Vec<Row>, &[u8]), DecodeError>
-    ensures { Decodes (λ x. (x.0.items, x.1.now)) result (decode_cells kind rows.items bytes.now) }
+// Decodes so many values of each column, puts them there, and gives back the rest.
+fn read_columns<'a>(
+    bytes: &'a [u8],
+    columns: &mut [ColumnValues],
+    count: u32,
+) -> Result<&'a [u8], DecodeError>
+    ensures { Decodes (λ rest. (columns.new, rest.now)) result
+        (decode_columns columns.old count bytes.now) }
 {
-    let mut longer = Vec::with_capacity(alloc, rows.len())?;
     let mut rest = bytes;
-    let mut left = rows.into_iter();
-    'rows: while let Some(row) = left.next() {
-        let (value, after) = read_value(alloc, kind, rest)?;
-        let mut values = row.into_values();
-        values.push(value)?;
-        longer.push(Row::new(values))?;
-        rest = after;
+    'columns: for i in 0..columns.len() {
+        rest = read_cells(rest, &mut columns[i], count)?;
     }
-    Ok((longer, rest))
+    Ok(rest)
 }

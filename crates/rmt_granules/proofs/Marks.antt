@@ -1,7 +1,8 @@
 -- Which rows marks are of, and that they rise.
 use Rattle.std.proofs.Math.Nat.{suc-mul}
-use Rattle.std.proofs.Common.{◌≡◌, ℕ, zero, suc, ◌+◌, ◌-◌, ◌*◌, ◌<◌, ◌≤◌, false, List, [], ◌∷◌, ◌++◌, length, get_or, slice_get, refl, sym, ap, ◌∙◌, subst, arith, inl, inr}
+use Rattle.std.proofs.Common.{◌≡◌, ℕ, zero, suc, ◌+◌, ◌-◌, ◌*◌, ◌<◌, ◌≤◌, false, List, [], ◌∷◌, ◌++◌, length, get_or, slice_get, drop, ◌⊎◌, append_assoc, refl, sym, ap, ◌∙◌, subst, arith, inl, inr}
 use Rattle.std.proofs.lemmas.Bool.{cases_lt, cond-true, lt-ltb}
+use Rattle.std.proofs.lemmas.List.{drop-drop}
 use Rattle.std.specs.Prelude.{min}
 use Rattle.std.specs.List.{All}
 use Rattle.std.specs.Option.{option_to_list}
@@ -14,7 +15,8 @@ use Rattle.rmt_values.specs.declared.value.Value.{Value}
 use Rattle.rmt_values.specs.Rows.{AllBelow, cell_cmp, key_cmp}
 use Rattle.rmt_values.proofs.Sorting.{Up, Low, Up-from_sort}
 use Rattle.rmt_values.proofs.Totals.{key_cmp_total}
-use Rattle.rmt_granules.specs.Granules.{PartView, IsPart, key_values, marks_after, AboveNone, Rising, granule_of}
+use Rattle.rmt_granules.proofs.MergeStep.{drop-past}
+use Rattle.rmt_granules.specs.Granules.{PartView, IsPart, key_values, marks_after, marks_of, AboveNone, Rising, granule_of}
 
 -- the value of a row in the key's first column, where it has one
 abbrev pub key_cell : List ℕ → List Value → Option Value
@@ -157,3 +159,30 @@ granule-is part p g count size e h s =
     let first = part-row-there part p g h in
     let past : g * part.granularity + size ≡ min ((g + 1) * part.granularity) (length part.rows) = omega (arith, first, e, s, suc-mul g part.granularity) in
     ap (λ (k : ℕ). Some (g * part.granularity, k)) past ∙ sym (cond-true _ _ _ (lt-ltb g (length part.marks) h))
+
+-- ---- one mark after the other
+
+marks-skip : (p n : ℕ) (key : List ℕ) (rows : List (List Value)) → marks_after p n key rows ≡ marks_of n key (drop p rows)
+marks-skip zero n key rows = refl
+marks-skip (suc p) n key [] = refl
+marks-skip (suc p) n key (r ∷ rs) = marks-skip p n key rs
+
+from-row : (rows : List (List Value)) (i : ℕ) → i < length rows → drop i rows ≡ get_or rows i [] ∷ drop (i + 1) rows
+from-row [] i h = absurd (omega (arith, h))
+from-row (r ∷ rs) zero h = refl
+from-row (r ∷ rs) (suc i) h = let e : suc i + 1 ≡ suc (i + 1) = omega arith in rw e (from-row rs i (omega (arith, h)))
+
+-- the marks so far and those of the rows from one on, with one mark more
+pub mark-next : (marks all rows : List (List Value)) (key : List ℕ) (n i next most : ℕ) → 0 < n → i < length rows → length rows ≤ most → next ≡ min (i + n) most
+    → marks ++ marks_of n key (drop i rows) ≡ all → (marks ++ key_values key (get_or rows i []) ∷ []) ++ marks_of n key (drop next rows) ≡ all
+mark-next marks all rows key n i next most pos h few is so_far =
+    let r = get_or rows i [] in
+    let past : drop next rows ≡ drop (i + 1 + (n - 1)) rows = go (cases_lt (i + n) most) in
+    append_assoc marks (key_values key r ∷ []) (marks_of n key (drop next rows))
+    ∙ (ap (λ (l : List (List Value)). marks ++ key_values key r ∷ marks_of n key l) (past ∙ sym (drop-drop (n - 1) (i + 1) rows))
+    ∙ (ap (λ (l : List (List Value)). marks ++ key_values key r ∷ l) (sym (marks-skip (n - 1) n key (drop (i + 1) rows)))
+    ∙ (ap (λ (l : List (List Value)). marks ++ marks_of n key l) (sym (from-row rows i h)) ∙ so_far)))
+  where
+    go : (i + n < most) ⊎ (most ≤ i + n) → drop next rows ≡ drop (i + 1 + (n - 1)) rows
+    go (inl l) = ap (λ (k : ℕ). drop k rows) (let e : next ≡ i + 1 + (n - 1) = omega (arith, is, l, pos) in e)
+    go (inr l) = drop-past rows next (omega (arith, is, l, few)) ∙ sym (drop-past rows (i + 1 + (n - 1)) (omega (arith, l, few, pos)))

@@ -3,79 +3,22 @@ use Rattle.std.proofs.Common.{◌≡◌, ℕ, zero, suc, ◌+◌, ◌-◌, ◌/�
 use Rattle.std.specs.Prelude.{not, IsTrue}
 use Rattle.std.proofs.lemmas.List.Elements.{All-append}
 use Rattle.std.specs.declared.option.Option.{Option}
-use Rattle.std.specs.declared.option.Option.TheVariants.{Some, None}
+use Rattle.std.specs.declared.option.Option.TheVariants.{Some}
 use Rattle.std.specs.List.Sorted.{IsSorted}
-use Rattle.std.specs.Cmp.Lexicographic.{slice_cmp}
 use Rattle.std.specs.declared.cmp.Ordering.{Ordering}
 use Rattle.std.specs.Ordering.{is_gt}
 use Rattle.std.specs.Cmp.{IsTotalOrder}
-use Rattle.std.proofs.lemmas.Option.{get_or_from_slice_get, unwrap_or-slice_get}
-use Rattle.std.specs.Option.{unwrap_or}
 use Rattle.rmt_values.specs.declared.value.Value.{Value}
-use Rattle.rmt_values.specs.Rows.{Shape, fits, key_of, key_cmp, cell_cmp, in_key_order}
+use Rattle.rmt_values.specs.Rows.{Shape, fits, key_cmp, in_key_order}
 use Rattle.rmt_values.specs.Order.{sink, in_order}
 use Rattle.rmt_values.proofs.Totals.{key_cmp_total}
 use Rattle.rmt_values.proofs.Sorting.{Up}
-use Rattle.rmt_granules.proofs.StableOrder.{All-ordered, map-ordered, pulled-total, Up-pulled, ordered-up, order-ordered, order-joined, ordered-sorted, order-twice}
-use Rattle.rmt_granules.specs.Columns.{ColumnView, beside, blank_rows, rows_of, kinds_of, AreLong}
+use Rattle.rmt_columns.proofs.OrderLemmas.{map-ordered, pulled-total}
+use Rattle.rmt_granules.proofs.StableOrder.{All-ordered, Up-pulled, ordered-up, order-ordered, order-joined, ordered-sorted, order-twice}
 use Rattle.rmt_granules.specs.Granules.{PartView}
 use Rattle.rmt_granules.specs.declared.place.Place.{Place}
 use Rattle.rmt_granules.specs.MergedData.{rows_joined, IsDataOf, AreDataOf}
-use Rattle.rmt_granules.specs.Places.{cell_in, cells_cmp, rows_at, row_in, place_cmp, places_from, all_places, AreOf}
-use Rattle.rmt_granules.proofs.Transposed.{length-rows_of}
-
--- ---- cells
-
-pub kinds-at : (a b : List ColumnView) (at : ℕ) (x y : ColumnView) → kinds_of a ≡ kinds_of b → x ≡ get_or a at x → y ≡ get_or b at y → at < length a → y.kind ≡ x.kind
-kinds-at [] b at x y k e f h = absurd (omega (arith, h))
-kinds-at (c ∷ cs) [] at x y k e f h = absurd (cc)
-kinds-at (c ∷ cs) (d ∷ ds) zero x y k e f h = cc
-kinds-at (c ∷ cs) (d ∷ ds) (suc at) x y k e f h = kinds-at cs ds at x y (cc) e f (omega (arith, h))
-
-pub length-kinds : (a b : List ColumnView) → kinds_of a ≡ kinds_of b → length a ≡ length b
-length-kinds [] [] k = refl
-length-kinds [] (d ∷ ds) k = absurd (cc)
-length-kinds (c ∷ cs) [] k = absurd (cc)
-length-kinds (c ∷ cs) (d ∷ ds) k = let r = length-kinds cs ds (cc) in omega (arith, r)
-
-pub cell-at : (cs : List ColumnView) (i at : ℕ) (x : ColumnView) → x ≡ get_or cs at x → at < length cs → slice_get x.values i ≡ cell_in cs i at
-cell-at [] i at x e h = absurd (omega (arith, h))
-cell-at (c ∷ cs) i zero x e h = ap (λ (d : ColumnView). slice_get d.values i) e
-cell-at (c ∷ cs) i (suc at) x e h = cell-at cs i at x e (omega (arith, h))
-
-blank-cell : (n i c : ℕ) → slice_get (get_or (blank_rows n) i []) c ≡ None
-blank-cell zero i c = refl
-blank-cell (suc n) zero c = refl
-blank-cell (suc n) (suc i) c = blank-cell n i c
-
-beside-first : (vs : List Value) (rs : List (List Value)) (i : ℕ) → length vs ≡ length rs → slice_get (get_or (beside vs rs) i []) 0 ≡ slice_get vs i
-beside-first [] rs i h = refl
-beside-first (v ∷ vs) [] i h = absurd (omega (arith, h))
-beside-first (v ∷ vs) (r ∷ rs) zero h = refl
-beside-first (v ∷ vs) (r ∷ rs) (suc i) h = beside-first vs rs i (omega (arith, h))
-
-beside-later : (vs : List Value) (rs : List (List Value)) (i c : ℕ) → length vs ≡ length rs → slice_get (get_or (beside vs rs) i []) (suc c) ≡ slice_get (get_or rs i []) c
-beside-later [] [] i c h = refl
-beside-later [] (r ∷ rs) i c h = absurd (omega (arith, h))
-beside-later (v ∷ vs) [] i c h = refl
-beside-later (v ∷ vs) (r ∷ rs) zero c h = refl
-beside-later (v ∷ vs) (r ∷ rs) (suc i) c h = beside-later vs rs i c (omega (arith, h))
-
--- a value of a row of columns
-row-cell : (n : ℕ) (cs : List ColumnView) (i c : ℕ) → AreLong n cs → slice_get (get_or (rows_of n cs) i []) c ≡ cell_in cs i c
-row-cell n [] i c l = blank-cell n i c
-row-cell n (x ∷ xs) i zero l = beside-first x.values (rows_of n xs) i (l.0 ∙ sym (length-rows_of n xs l.1))
-row-cell n (x ∷ xs) i (suc c) l = beside-later x.values (rows_of n xs) i c (l.0 ∙ sym (length-rows_of n xs l.1)) ∙ row-cell n xs i c l.1
-
-key-cells : (key : List ℕ) (n : ℕ) (cs : List ColumnView) (i : ℕ) → AreLong n cs → key_of key (get_or (rows_of n cs) i []) ≡ map (λ c. cell_in cs i c) key
-key-cells [] n cs i l = refl
-key-cells (k ∷ ks) n cs i l = ap (λ (o : Option Value). o ∷ key_of ks (get_or (rows_of n cs) i [])) (row-cell n cs i k l) ∙ ap (λ (os : List (Option Value)). cell_in cs i k ∷ os) (key-cells ks n cs i l)
-
--- rows of columns by their keys
-pub cells-keys : (key : List ℕ) (n m : ℕ) (a b : List ColumnView) (i j : ℕ) → AreLong n a → AreLong m b → cells_cmp key a i b j ≡ key_cmp key (get_or (rows_of n a) i []) (get_or (rows_of m b) j [])
-cells-keys key n m a b i j l k =
-    ap (λ (x : List (Option Value)). slice_cmp cell_cmp x (map (λ c. cell_in b j c) key)) (sym (key-cells key n a i l))
-    ∙ ap (λ (x : List (Option Value)). slice_cmp cell_cmp (key_of key (get_or (rows_of n a) i [])) x) (sym (key-cells key m b j k))
+use Rattle.rmt_granules.specs.Places.{rows_at, row_in, place_cmp, places_from, all_places, AreOf}
 
 -- ---- places
 
@@ -282,12 +225,6 @@ half-places first half count parts h l =
     drop-twice (suc j) (suc i) [] = let e : suc i + suc j ≡ suc (i + suc j) = omega arith in rw e refl
     drop-twice j (suc i) (p ∷ ps) = let e : suc i + j ≡ suc (i + j) = omega arith in rw e (drop-twice j i ps)
 
-pub row-there : (parts : List PartView) (p : Place) (x : PartView) (r : List Value) → slice_get parts p.part ≡ Some x → slice_get x.rows p.row ≡ Some r → r ≡ row_in parts p
-row-there parts p x r e f = sym (ap (λ (o : Option PartView). get_or (rows_at o) p.row []) e ∙ get_or_from_slice_get x.rows p.row r [] f)
-
-pub row-missing : (parts : List PartView) (p : Place) (x : PartView) → slice_get parts p.part ≡ Some x → slice_get x.rows p.row ≡ None → [] ≡ row_in parts p
-row-missing parts p x e f = sym (ap (λ (o : Option PartView). get_or (rows_at o) p.row []) e ∙ (sym (unwrap_or-slice_get x.rows p.row []) ∙ ap (λ (o : Option (List Value)). unwrap_or o []) f))
-
 -- ---- the recursion over halves
 
 pub still-ordered : (shape : Shape) (parts : List PartView) (ps qs rs : List Place) → qs ≡ rs → rs ≡ in_order (place_cmp shape.key parts) ps → in_order (place_cmp shape.key parts) qs ≡ qs
@@ -324,12 +261,12 @@ take-whole [] (suc n) h = refl
 take-whole (x ∷ xs) zero h = absurd (omega (arith, h))
 take-whole {A} (x ∷ xs) (suc n) h = ap (λ (l : List A). x ∷ l) (take-whole xs n (omega (arith, h)))
 
-pub merged-rows : (shape : Shape) (parts : List PartView) (n : ℕ) (places given : List Place) (rows : List (List Value)) → n ≡ length parts → places ≡ in_order (place_cmp shape.key parts) (all_places 0 (take n (drop 0 parts))) → given ≡ places → rows ≡ map (row_in parts) given → rows ≡ in_key_order shape (rows_joined parts)
-merged-rows shape parts n places given rows h e f g =
-    g
-    ∙ (ap (map (row_in parts)) (f ∙ e)
+pub merged-rows : (shape : Shape) (parts : List PartView) (n : ℕ) (places given : List Place) → n ≡ length parts → places ≡ in_order (place_cmp shape.key parts) (all_places 0 (take n (drop 0 parts))) → given ≡ places
+    → map (row_in parts) given ≡ in_key_order shape (rows_joined parts)
+merged-rows shape parts n places given h e f =
+    ap (map (row_in parts)) (f ∙ e)
     ∙ (ap (λ (ps : List PartView). map (row_in parts) (in_order (place_cmp shape.key parts) (all_places 0 ps))) (take-whole parts n h)
-    ∙ shown-ordered shape parts))
+    ∙ shown-ordered shape parts)
 
 -- ---- tests
 

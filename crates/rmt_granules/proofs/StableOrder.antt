@@ -15,6 +15,7 @@ use Rattle.std.specs.Cmp.{IsTotalOrder}
 use Rattle.std.specs.List.Sorted.{ties}
 use Rattle.rmt_values.specs.Order.{sink, in_order}
 use Rattle.rmt_values.proofs.Sorting.{Low, Up, Up-in_order, filter-in_order, same_from_ties}
+use Rattle.rmt_columns.proofs.OrderLemmas.{pulled, pulled-total}
 
 module _ {X : Type 0} (cmp : X → X → Ordering) (o : IsTotalOrder cmp) where
   abbrev less : X → X → Bool
@@ -191,29 +192,6 @@ All-ordered {X} cmp P (x ∷ xs) h = sunk (in_order cmp xs) (All-ordered cmp P x
         go false r = All-cons P x (y ∷ ys) head g
 
 -- ---- the order by what a function shows
-
--- an order by what a function shows
-abbrev pub pulled : {X Y : Type 0} → (Y → X) → (X → X → Ordering) → Y → Y → Ordering
-pulled f cmp p q = cmp (f p) (f q)
-
-pub pulled-total : {X Y : Type 0} (f : Y → X) (cmp : X → X → Ordering) → IsTotalOrder cmp → IsTotalOrder (pulled f cmp)
-pulled-total f cmp o = record {
-  antisymm = λ x y. o.antisymm (f x) (f y);
-  trans = λ x y z. o.trans (f x) (f y) (f z);
-  congr = λ x y z. o.congr (f x) (f y) (f z);
-}
-
-pub map-ordered : {X Y : Type 0} (f : Y → X) (cmp : X → X → Ordering) (ps : List Y) → map f (in_order (pulled f cmp) ps) ≡ in_order cmp (map f ps)
-map-ordered f cmp [] = refl
-map-ordered {X} {Y} f cmp (p ∷ ps) = sunk (in_order (pulled f cmp) ps) ∙ ap (sink cmp (f p)) (map-ordered f cmp ps)
-  where
-    sunk : (qs : List Y) → map f (sink (pulled f cmp) p qs) ≡ sink cmp (f p) (map f qs)
-    sunk [] = refl
-    sunk (q ∷ qs) = go (is_gt (cmp (f p) (f q))) (sunk qs)
-      where
-        go : (b : Bool) → map f (sink (pulled f cmp) p qs) ≡ sink cmp (f p) (map f qs) → map f (cond b (q ∷ sink (pulled f cmp) p qs) (p ∷ q ∷ qs)) ≡ cond b (f q ∷ sink cmp (f p) (map f qs)) (f p ∷ f q ∷ map f qs)
-        go true r = ap (λ (l : List X). f q ∷ l) r
-        go false r = refl
 
 pub Up-pulled : {X Y : Type 0} (f : Y → X) (cmp : X → X → Ordering) (o : IsTotalOrder cmp) (ps : List Y) → Up cmp o (map f ps) → Up (pulled f cmp) (pulled-total f cmp o) ps
 Up-pulled f cmp o [] u = tt

@@ -1,6 +1,4 @@
-pub mod Columns
 pub mod Granules
 pub mod MadePart
 pub mod MergedData
 pub mod Places
-pub mod Stored

@@ -1,23 +1,15 @@
 -- Places of rows in several parts. No public clause cites this module.
-use Rattle.std.specs.Prelude.{ℕ, zero, suc, ◌+◌, ◌<◌, List, [], ◌∷◌, ◌++◌, map, length, slice_get, get_or}
-use Rattle.std.specs.Option.{option_and_then}
+use Rattle.std.specs.Prelude.{ℕ, zero, suc, ◌+◌, ◌<◌, List, [], ◌∷◌, ◌++◌, length, slice_get, get_or}
+use Rattle.std.specs.Option.{option_to_list}
 use Rattle.std.specs.declared.option.Option.{Option}
 use Rattle.std.specs.declared.option.Option.TheVariants.{Some, None}
 use Rattle.std.specs.declared.cmp.Ordering.{Ordering}
-use Rattle.std.specs.Cmp.Lexicographic.{slice_cmp}
 use Rattle.rmt_values.specs.declared.value.Value.{Value}
-use Rattle.rmt_values.specs.Rows.{cell_cmp, key_cmp}
-use Rattle.rmt_granules.specs.Columns.{ColumnView}
+use Rattle.rmt_values.specs.declared.column.Column.{Column}
+use Rattle.rmt_values.specs.Rows.{key_cmp}
+use Rattle.rmt_columns.specs.Columns.{ColumnView}
 use Rattle.rmt_granules.specs.Granules.{PartView}
 use Rattle.rmt_granules.specs.declared.place.Place.{Place}
-
--- the value of a column in a row, where it is there
-abbrev pub cell_in : List ColumnView → ℕ → ℕ → Option Value
-cell_in columns i at = option_and_then (λ c. slice_get c.values i) (slice_get columns at)
-
--- the order of a row of some columns and of a row of others by the columns of a key
-abbrev pub cells_cmp : List ℕ → List ColumnView → ℕ → List ColumnView → ℕ → Ordering
-cells_cmp key a i b j = slice_cmp cell_cmp (map (λ c. cell_in a i c) key) (map (λ c. cell_in b j c) key)
 
 -- the rows of a part, where it is there
 abbrev pub rows_at : Option PartView → List (List Value)
@@ -46,3 +38,15 @@ all_places first (part ∷ parts) = places_from first 0 (length part.rows) ++ al
 abbrev pub AreOf : ℕ → List Place → Type 0
 AreOf n [] = Unit {0}
 AreOf n (p ∷ ps) = (p.part < n) × AreOf n ps
+
+-- ---- the columns of some rows
+
+-- the values of a column in rows
+abbrev pub cells_of : ℕ → List (List Value) → List Value
+cells_of at [] = []
+cells_of at (row ∷ rows) = option_to_list (slice_get row at) ++ cells_of at rows
+
+-- these columns of rows, the first of which has this number
+abbrev pub columns_from : ℕ → List Column → List (List Value) → List ColumnView
+columns_from at [] rows = []
+columns_from at (c ∷ cs) rows = record { kind = c.kind; values = cells_of at rows } ∷ columns_from (suc at) cs rows

@@ -1,54 +1,40 @@
 //! The marks of rows.
-ghost use Rattle.std.specs.Prelude.{◌≡◌, ◌<◌, slice_get, IfOk};
+ghost use Rattle.std.specs.Prelude.{◌≡◌, ◌<◌, [], get_or, IfOk};
 ghost use Rattle.rmt_granules.specs.Granules.{key_values, marks_of};
 
-use rmt_values::{Row, Value};
+use rmt_columns::Rows;
+use rmt_values::Row;
 use std::alloc::{AllocError, Global};
 
 /// The key of each granule's first row.
 pub fn marks_in(
     alloc: Global,
-    rows: &[Row],
+    rows: &Rows,
     key: &[u16],
     granularity: u32,
 ) -> Result<Vec<Row>, AllocError>
     requires { 0 < granularity }
-    ensures { IfOk result (λ marks. marks.items ≡ marks_of granularity key.now rows.now) }
+    ensures { IfOk result (λ marks. marks.items ≡ marks_of granularity key.now rows.now.rows) }
 {
     let mut marks = Vec::new(alloc);
-    let mut passed = 0;
-    'rows: for row in rows {
-        if passed > 0 {
-            passed -= 1;
-            continue;
-        }
-        let mark = mark_of(alloc, row, key)?;
+    let mut first: usize = 0;
+    'granules: while first < rows.len() {
+        let mark = mark_of(alloc, rows, first, key)?;
         marks.push(mark)?;
-        passed = granularity - 1;
+        first = first.saturating_add(granularity as usize);
     }
     Ok(marks)
 }
 
-/// The row's values in the key's columns.
-fn mark_of(alloc: Global, row: &Row, key: &[u16]) -> Result<Row, AllocError>
-    ensures { IfOk result (λ mark. mark ≡ key_values key.now row.now) }
+/// The values of row `i` in the key's columns.
+fn mark_of(alloc: Global, rows: &Rows, i: usize, key: &[u16]) -> Result<Row, AllocError>
+    ensures { IfOk result (λ mark. mark ≡ key_values key.now (get_or rows.now.rows i [])) }
 {
-    let values = row.values();
     let mut mark = Vec::with_capacity(alloc, key.len())?;
     'columns: for column in key {
-        if let Some(value) = value_at(values, *column)? {
-            mark.push(value)?;
+        if let Some(value) = rows.value(i, *column) {
+            mark.push(value.to_value(alloc)?)?;
         }
     }
     Ok(Row::new(mark))
-}
-
-/// A copy of the value in a column, where there is one.
-fn value_at(values: &[Value], column: u16) -> Result<Option<Value>, AllocError>
-    ensures { IfOk result (λ value. value ≡ slice_get values.now column) }
-{
-    match values.get(column as usize) {
-        Some(value) => Ok(Some(value.copy()?)),
-        None => Ok(None),
-    }
 }

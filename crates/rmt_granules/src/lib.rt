@@ -1,9 +1,6 @@
 //! A part's rows, column by column, in granules, with a mark for each granule.
 #![tactic(auto)]
 
-mod cell_order;
-mod column_values;
-mod columns;
 mod index;
 mod merge;
 mod order;
@@ -11,7 +8,6 @@ mod part_data;
 mod place;
 mod places;
 
-pub use column_values::ColumnValues;
 pub use merge::merged;
-pub use order::{all_fit, from_unsorted_rows, sorted_rows};
+pub use order::{all_fit, from_unsorted_rows};
 pub use part_data::{PartData, from_rows};

@@ -1,45 +1,78 @@
 //! Rows in the order of the key.
-ghost use Rattle.std.specs.Prelude.{◌≡◌, Bool, true, List, IfOk};
-ghost use Rattle.std.specs.List.{All};
-ghost use Rattle.std.specs.List.Sorted.{IsSorted};
-ghost use Rattle.rmt_values.specs.declared.value.Value.{Value as OneValue};
-ghost use Rattle.std.specs.Prelude.{◌↔◌, IsTrue};
-ghost use Rattle.rmt_values.specs.Rows.{fits, in_key_order, key_cmp};
+ghost use Rattle.std.specs.Prelude.{◌≡◌, ◌↔◌, IsTrue, true, IfOk};
+ghost use Rattle.std.specs.List.{All, AllByRecursion};
+ghost use Rattle.rmt_values.specs.Rows.{fits, in_key_order, is_value};
+ghost use Rattle.rmt_columns.specs.Columns.{value_of};
+ghost use Rattle.rmt_columns.specs.RowsByColumn.{AreOf, kinds_in};
 ghost use Rattle.rmt_granules.specs.MadePart.{data_of};
 
 use crate::part_data::{PartData, from_rows};
-use rmt_values::{Row, Schema};
+use rmt_columns::{ColumnValues, Rows, ValueRef};
+use rmt_values::{Kind, LONGEST_TEXT, Schema};
 use std::alloc::{AllocError, Global};
 
-/// Whether each row has a value of its type for each column.
-pub fn all_fit(rows: &[Row], schema: &Schema) -> bool
-    ensures { IsTrue result ↔ All (λ row. fits schema.now.columns row ≡ true) rows.now }
+/// Whether each row of the schema's types fits it: whether no String is too long.
+pub fn all_fit(rows: &Rows, schema: &Schema) -> bool
+    requires { rows.now.kinds ≡ kinds_in schema.now.columns }
+    ensures { IsTrue result ↔ All (λ row. fits schema.now.columns row ≡ true) rows.now.rows }
 {
-    rows.iter().all(|row| schema.fits(row))
+    let columns = rows.columns();
+    'columns: for column in columns {
+        if !are_values(column) {
+            return false;
+        }
+    }
+    true
 }
 
-/// Puts rows in the order of the key; rows of equal keys keep their order.
-pub fn sorted_rows(rows: Vec<Row>, schema: &Schema) -> Result<Vec<Row>, AllocError>
-    ensures order { IfOk result (λ r. r.items ≡ in_key_order schema.now rows.items) }
-    ensures sorted { IfOk result (λ r. IsSorted (key_cmp schema.now.key) r.items) }
-    ensures members { (p : List OneValue → Bool) → All (λ row. p row ≡ true) rows.items
-        → IfOk result (λ r. All (λ row. p row ≡ true) r.items) }
+/// Whether each value of the column is one: a String may be too long.
+fn are_values(column: &ColumnValues) -> bool
+    requires { AreOf column.now.kind column.now.values }
+    ensures { IsTrue result ↔ AllByRecursion (λ value. is_value value ≡ true) column.now.values }
 {
-    let mut rows = rows;
-    rows.sort_by(|a, b| schema.key_order(a, b))?;
-    Ok(rows)
+    match column.kind() {
+        Kind::UInt64 | Kind::Int64 => true,
+        Kind::Text => are_short(column),
+    }
+}
+
+/// Whether no String of the column is too long.
+fn are_short(column: &ColumnValues) -> bool
+    ensures { IsTrue result ↔ AllByRecursion (λ value. is_value value ≡ true) column.now.values }
+{
+    'values: for i in 0..column.len() {
+        if let Some(value) = column.get(i) {
+            if !is_short(value) {
+                return false;
+            }
+        }
+    }
+    true
+}
+
+/// Whether this is no String that is too long.
+fn is_short(value: ValueRef<'_>) -> bool
+    ensures { result ≡ is_value (value_of value.entry) }
+{
+    match value {
+        ValueRef::UInt(_) | ValueRef::Int(_) => true,
+        ValueRef::Text(text) => text.len() <= LONGEST_TEXT,
+    }
 }
 
 /// Makes a part of the rows of a schema, in whatever order they are.
+#[tactic(auto, unfolding(rmt_values::specs::Rows::in_key_order))]
 pub fn from_unsorted_rows(
     alloc: Global,
-    rows: Vec<Row>,
+    rows: &Rows,
     schema: &Schema,
 ) -> Result<PartData, AllocError>
-    requires { All (λ row. fits schema.now.columns row ≡ true) rows.items }
-    ensures { IfOk result (λ part. part ≡ data_of schema.now (in_key_order schema.now rows.items)) }
+    requires fit { All (λ row. fits schema.now.columns row ≡ true) rows.now.rows }
+    requires kinds { rows.now.kinds ≡ kinds_in schema.now.columns }
+    ensures { IfOk result (λ part. part ≡ data_of schema.now (in_key_order schema.now rows.now.rows)) }
 {
-    let sorted = sorted_rows(rows, schema)?;
+    let places = rows.places_in_order(alloc, schema.key())?;
+    let sorted = rows.gather(alloc, &places)?;
     let part = from_rows(alloc, sorted, schema)?;
     Ok(part)
 }

@@ -2,14 +2,12 @@ ghost use Rattle.std.specs.Prelude.{◌≡◌, ◌<◌, ◌≤◌, ◌+◌, ◌*
 ghost use Rattle.std.specs.List.{All};
 ghost use Rattle.std.specs.List.Sorted.{IsSorted};
 ghost use Rattle.rmt_values.specs.Rows.{fits, key_cmp};
-ghost use Rattle.rmt_granules.specs.Columns.{rows_of, kinds_of, AreLong};
+ghost use Rattle.rmt_columns.specs.RowsByColumn.{rows_of, kinds_of, kinds_in, AreLong};
 ghost use Rattle.rmt_granules.specs.Granules.{IsPart, Rising, granule_of};
 ghost use Rattle.rmt_granules.specs.MadePart.{data_of};
 
-use crate::cell_order::order_of_rows;
-use crate::column_values::ColumnValues;
-use crate::columns::{columns_in, row_at};
 use crate::index::marks_in;
+use rmt_columns::{ColumnValues, Rows};
 use rmt_values::{Row, Schema};
 use std::alloc::{AllocError, Global};
 use std::cmp::Ordering;
@@ -19,40 +17,35 @@ use std::marker::Model;
 /// row. Contracts see it as a `PartView`.
 #[derive(Debug, Drop)]
 pub struct PartData {
-    columns: Vec<ColumnValues>,
-    count: usize,
+    rows: Rows,
     marks: Vec<Row>,
     key: Vec<u16>,
     granularity: u32,
 }
 
 impl Model for PartData {
-    ghost use Rattle.rmt_granules.specs.Columns.{AreLong};
     ghost use Rattle.rmt_granules.specs.Granules.{PartView, IsPart};
     ghost use Rattle.rmt_granules.specs.MadePart.{stored_part};
 
     ghost Value = { PartView };
 
-    ghost view = { λ p. stored_part p.count p.columns.items p.marks.items p.key.items p.granularity };
+    ghost view = { λ p. stored_part p.rows p.marks.items p.key.items p.granularity };
 
-    ghost invariant = { λ p. AreLong p.count p.columns.items
-        × IsPart (stored_part p.count p.columns.items p.marks.items p.key.items p.granularity) };
+    ghost invariant = { λ p. IsPart (stored_part p.rows p.marks.items p.key.items p.granularity) };
 }
 
 /// Makes a part of the rows of a schema, which are sorted by its key.
-pub fn from_rows(alloc: Global, rows: Vec<Row>, schema: &Schema) -> Result<PartData, AllocError>
-    requires fit { All (λ row. fits schema.now.columns row ≡ true) rows.items }
-    requires sorted { IsSorted (key_cmp schema.now.key) rows.items }
-    ensures { IfOk result (λ part. part ≡ data_of schema.now rows.items) }
+pub fn from_rows(alloc: Global, rows: Rows, schema: &Schema) -> Result<PartData, AllocError>
+    requires fit { All (λ row. fits schema.now.columns row ≡ true) rows.rows }
+    requires sorted { IsSorted (key_cmp schema.now.key) rows.rows }
+    requires kinds { rows.kinds ≡ kinds_in schema.now.columns }
+    ensures { IfOk result (λ part. part ≡ data_of schema.now rows.rows) }
 {
     let granularity = schema.granularity();
     let key = Vec::from_slice(alloc, schema.key())?;
     let marks = marks_in(alloc, &rows, &key, granularity)?;
-    let count = rows.len();
-    let columns = columns_in(alloc, rows, schema.columns())?;
     Ok(PartData {
-        columns,
-        count,
+        rows,
         marks,
         key,
         granularity,
@@ -60,20 +53,28 @@ pub fn from_rows(alloc: Global, rows: Vec<Row>, schema: &Schema) -> Result<PartD
 }
 
 impl PartData {
+    /// The rows, which lie in columns.
+    pub fn data(&self) -> &Rows
+        ensures rows { result.now.rows ≡ self.now.rows }
+        ensures kinds { result.now.kinds ≡ self.now.kinds }
+    {
+        &self.rows
+    }
+
     /// The columns, in the schema's order.
     pub fn columns(&self) -> &[ColumnValues]
         ensures rows { rows_of (length self.now.rows) result.now ≡ self.now.rows }
         ensures kinds { kinds_of result.now ≡ self.now.kinds }
         ensures long { AreLong (length self.now.rows) result.now }
     {
-        &self.columns
+        self.rows.columns()
     }
 
     /// How many rows there are.
     pub fn rows(&self) -> usize
         ensures { result ≡ length self.now.rows }
     {
-        self.count
+        self.rows.len()
     }
 
     /// How many granules there are: the last one may have fewer rows than the others.
@@ -112,11 +113,8 @@ impl PartData {
     pub fn row(&self, i: usize) -> Result<Option<Row>, AllocError>
         ensures { IfOk result (λ row. row ≡ slice_get self.now.rows i) }
     {
-        if i >= self.count {
-            return Ok(None);
-        }
-        let row = row_at(*self.columns.allocator(), &self.columns, i)?;
-        Ok(Some(row))
+        let row = self.rows.row(*self.key.allocator(), i)?;
+        Ok(row)
     }
 
     /// The order of row `i` and row `j` of another part with the same types, both counted from 0, by the key of this
@@ -125,7 +123,7 @@ impl PartData {
         requires { other.now.kinds ≡ self.now.kinds }
         ensures { result ≡ key_cmp self.now.key (get_or self.now.rows i []) (get_or other.now.rows j []) }
     {
-        order_of_rows(&self.key, &self.columns, i, &other.columns, j)
+        self.rows.order(&self.key, i, &other.rows, j)
     }
 
     /// The rows of granule `g`, from the first to past the last, all counted from 0; `None` where there is no such
@@ -136,7 +134,7 @@ impl PartData {
         if g >= self.marks.len() {
             return None;
         }
-        let (count, size) = (self.count, self.granularity as usize);
+        let (count, size) = (self.rows.len(), self.granularity as usize);
         let first = g * size;
         let past = first + size.min(count - first);
         Some((first, past))

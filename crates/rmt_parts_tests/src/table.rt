@@ -3,9 +3,10 @@ ghost use Rattle.std.specs.Prelude.{◌≡◌, IfOk, true, length};
 ghost use Rattle.std.specs.List.{All};
 ghost use Rattle.rmt_values.specs.Rows.{fits};
 ghost use Rattle.rmt_values.specs.Commands.{CommandFits};
+ghost use Rattle.rmt_columns.specs.RowsByColumn.{kinds_in};
 
+use rmt_columns::Rows;
 use rmt_expr::check_mutation;
-use rmt_granules::all_fit;
 use rmt_sql::{Parsed, next_statement};
 use rmt_statements::{Act, Statement};
 use rmt_values::{CheckedMutation, Column, Kind, Name, Row, Schema, Value};
@@ -57,19 +58,20 @@ pub(crate) fn random(alloc: Global, seed: u64, count: usize) -> Result<Vec<Numbe
 }
 
 /// The rows of the table that have these numbers.
-pub(crate) fn rows_of(alloc: Global, schema: &Schema, all: &[Numbers]) -> Result<Vec<Row>, Fail>
-    ensures fit { IfOk result (λ rows. All (λ row. fits schema.now.columns row ≡ true) rows.items) }
-    ensures count { IfOk result (λ rows. length rows.items ≡ length all.now) }
+pub(crate) fn rows_of(alloc: Global, schema: &Schema, all: &[Numbers]) -> Result<Rows, Fail>
+    ensures fit { IfOk result (λ held. All (λ row. fits schema.now.columns row ≡ true) held.rows) }
+    ensures count { IfOk result (λ held. length held.rows ≡ length all.now) }
+    ensures kinds { IfOk result (λ held. held.kinds ≡ kinds_in schema.now.columns) }
 {
     let mut rows = Vec::with_capacity(alloc, all.len())?;
     'rows: for (k, u, v) in all {
         let values = vec![in alloc; Value::UInt(*k), Value::UInt(*u), Value::UInt(*v)]?;
         rows.push(Row::new(values))?;
     }
-    if !all_fit(&rows, schema) {
-        return Err("the rows are not of the table".into());
+    match Rows::of_rows(alloc, &rows, schema)? {
+        Some(held) => Ok(held),
+        None => Err("the rows are not of the table".into()),
     }
-    Ok(rows)
 }
 
 /// What a script's only statement asks of a replica.

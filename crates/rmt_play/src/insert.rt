@@ -6,6 +6,7 @@ ghost use Rattle.rmt_block.specs.Splits.{IsSplit};
 ghost use Rattle.rmt_cluster.specs.Clusters.{IsNumber};
 ghost use Rattle.rmt_statement_model.specs.TableStates.{TableState};
 ghost use Rattle.rmt_statement_model.specs.Shows.{HoldsNone, IsIdle, Leads, Shows, ups};
+ghost use Rattle.rmt_columns.specs.RowsByColumn.{kinds_in};
 ghost use Rattle.rmt_statements.specs.declared.act.Act.TheVariants as acts;
 ghost use Rattle.rmt_play.specs.InsertStatement.{InsertsRows};
 ghost use Rattle.rmt_play.specs.PlayerSteps.{HasRows, RefusesRows, ExecutesIn};
@@ -13,10 +14,11 @@ ghost use Rattle.rmt_play.specs.PlayerSteps.{HasRows, RefusesRows, ExecutesIn};
 use rmt_acts::{insert_blocks, schema_of};
 use rmt_block::{Block, split};
 use rmt_cluster::Cluster;
+use rmt_columns::Rows;
 use rmt_reply::{Line, Refusal};
 use rmt_sql_rows::{RowsError, rows_of};
 use rmt_statements::Insert;
-use rmt_values::{ReplicaId, Row, Schema};
+use rmt_values::{ReplicaId, Schema};
 use std::alloc::{AllocError, Global};
 
 /// The rows of an INSERT, or why they are refused.
@@ -24,9 +26,10 @@ pub(crate) fn rows_to_insert(
     alloc: Global,
     insert: &Insert,
     schema: &Schema,
-) -> Result<Result<Vec<Row>, Refusal>, AllocError>
+) -> Result<Result<Rows, Refusal>, AllocError>
     ensures ok { IfOk result (λ found. IfOk found (λ rows.
-        HasRows schema.now insert.now rows.items)) }
+        HasRows schema.now insert.now rows.rows)) }
+    ensures kinds { IfOk result (λ found. IfOk found (λ rows. rows.kinds ≡ kinds_in schema.now.columns)) }
     ensures refused { IfOk result (λ found. IfErr found (RefusesRows schema.now insert.now)) }
 {
     match rows_of(alloc, insert, schema) {
@@ -39,9 +42,10 @@ pub(crate) fn rows_to_insert(
 }
 
 /// The blocks of rows. No memory has more rows than a block can count.
-fn blocks_of(alloc: Global, rows: Vec<Row>, schema: &Schema) -> Result<Vec<Block>, AllocError>
-    requires fit { All (λ row. fits schema.now.columns row ≡ true) rows.items }
-    ensures split { IfOk result (λ blocks. IsSplit schema.now rows.items blocks.items) }
+fn blocks_of(alloc: Global, rows: Rows, schema: &Schema) -> Result<Vec<Block>, AllocError>
+    requires fit { All (λ row. fits schema.now.columns row ≡ true) rows.rows }
+    requires kinds { rows.kinds ≡ kinds_in schema.now.columns }
+    ensures split { IfOk result (λ blocks. IsSplit schema.now rows.rows blocks.items) }
 {
     if u32::try_from(rows.len()).is_err() {
         return Err(AllocError);
@@ -54,13 +58,14 @@ fn insert_rows(
     alloc: Global,
     cluster: &mut Cluster,
     replica: ReplicaId,
-    rows: Vec<Row>,
+    rows: Rows,
 ) -> Result<Line, AllocError>
     requires here { IsNumber replica (length cluster.old.replicas) }
     requires idle { IsIdle cluster.old replica }
-    requires fit { All (λ row. fits cluster.old.table.schema.columns row ≡ true) rows.items }
+    requires fit { All (λ row. fits cluster.old.table.schema.columns row ≡ true) rows.rows }
+    requires kinds { rows.kinds ≡ kinds_in cluster.old.table.schema.columns }
     ensures inserts { IfOk result (λ line. (t : TableState) → Shows cluster.old t
-        → Leads cluster.new (InsertsRows t replica rows.items line)) }
+        → Leads cluster.new (InsertsRows t replica rows.rows line)) }
     ensures free { IfOk result (λ _. HoldsNone cluster.new) }
     ensures ups { IfOk result (λ _. ups cluster.new ≡ ups cluster.old) }
     ensures replicas { length cluster.new.replicas ≡ length cluster.old.replicas }

@@ -21,10 +21,11 @@ use crate::cells::{one_cell, zero_cell};
 use crate::matches::matching_rows;
 use crate::runs::tuples_of_runs;
 use crate::tuple::Tuple;
+use rmt_columns::RowRef;
 use rmt_entries::Entry;
 use rmt_partset::Snapshot;
 use rmt_row::Seen;
-use rmt_values::{CheckedItem, CheckedQuery, Row, Schema};
+use rmt_values::{CheckedItem, CheckedQuery, Schema};
 use std::alloc::{AllocError, Global};
 
 /// The answer of a query of a schema over the rows of a snapshot of its table: the tuples in ascending order, from left
@@ -55,11 +56,11 @@ pub fn answer(
 /// The tuples of a query over the matching rows.
 fn tuples_over(
     alloc: Global,
-    rows: Vec<Row>,
+    rows: Vec<RowRef<'_>>,
     query: &CheckedQuery,
     schema: &Schema,
 ) -> Result<Vec<Tuple>, AllocError>
-    ensures { IfOk result (λ tuples. tuples.items ≡ tuples_of schema.now query.now rows.items) }
+    ensures { IfOk result (λ tuples. tuples.items ≡ tuples_of schema.now query.now rows.entry.items) }
 {
     let (items, group) = (query.items.as_slice(), query.group.as_slice());
     if query.is_grouping() {
@@ -74,12 +75,12 @@ fn tuples_over(
 /// The tuples of the groups of rows by these columns.
 fn group_tuples(
     alloc: Global,
-    rows: Vec<Row>,
+    rows: Vec<RowRef<'_>>,
     items: &[CheckedItem],
     group: &[u16],
     schema: &Schema,
 ) -> Result<Vec<Tuple>, AllocError>
-    ensures { IfOk result (λ tuples. tuples.items ≡ tuples_of_groups schema.now items.now group.now rows.items) }
+    ensures { IfOk result (λ tuples. tuples.items ≡ tuples_of_groups schema.now items.now group.now rows.entry.items) }
 {
     let sorted = group_sorted(rows, group)?;
     let tuples = tuples_of_runs(alloc, &sorted, items, group)?;
@@ -88,8 +89,8 @@ fn group_tuples(
 }
 
 /// The rows in the order of these columns; those that tie keep their order.
-fn group_sorted(rows: Vec<Row>, group: &[u16]) -> Result<Vec<Row>, AllocError>
-    ensures order { IfOk result (λ sorted. sorted.items ≡ in_order (key_cmp group.now) rows.items) }
+fn group_sorted<'a>(rows: Vec<RowRef<'a>>, group: &[u16]) -> Result<Vec<RowRef<'a>>, AllocError>
+    ensures order { IfOk result (λ sorted. sorted.items ≡ in_order (key_cmp group.now) rows.entry.items) }
     ensures sorted { IfOk result (λ sorted. IsSorted (key_cmp group.now) sorted.items) }
 {
     let mut rows = rows;
@@ -128,7 +129,11 @@ fn zero_tuple(alloc: Global, items: &[CheckedItem], schema: &Schema) -> Result<T
 }
 
 /// The tuple of each row.
-fn row_tuples(alloc: Global, rows: &[Row], items: &[CheckedItem]) -> Result<Vec<Tuple>, AllocError>
+fn row_tuples(
+    alloc: Global,
+    rows: &[RowRef<'_>],
+    items: &[CheckedItem],
+) -> Result<Vec<Tuple>, AllocError>
     ensures { IfOk result (λ tuples. tuples.items ≡ map (tuple_of_row items.now) rows.now) }
 {
     let mut tuples = Vec::with_capacity(alloc, rows.len())?;
@@ -140,12 +145,12 @@ fn row_tuples(alloc: Global, rows: &[Row], items: &[CheckedItem]) -> Result<Vec<
 }
 
 /// The tuple of a row.
-fn row_tuple(alloc: Global, row: &Row, items: &[CheckedItem]) -> Result<Tuple, AllocError>
+fn row_tuple(alloc: Global, row: &RowRef<'_>, items: &[CheckedItem]) -> Result<Tuple, AllocError>
     ensures { IfOk result (λ tuple. tuple ≡ tuple_of_row items.now row.now) }
 {
     let mut cells = Vec::with_capacity(alloc, items.len())?;
     'items: for item in items {
-        let cell = one_cell(*item, row)?;
+        let cell = one_cell(alloc, *item, row)?;
         cells.push(cell)?;
     }
     Ok(Tuple::new(cells))

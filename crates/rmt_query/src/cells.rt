@@ -3,7 +3,8 @@ ghost use Rattle.std.specs.Prelude.{◌≡◌, ◌^◌, pos, ◌+ℤ◌, ◌≤�
 ghost use Rattle.rmt_query.specs.Cells.{cell_order, cell_of, number_of, one, zero_of};
 ghost use Rattle.rmt_values.specs.Rows.{kind_at};
 
-use rmt_values::{Blob, Cell, CheckedItem, Kind, Row, Schema, Value};
+use rmt_columns::{RowRef, ValueRef};
+use rmt_values::{Blob, Cell, CheckedItem, Kind, Schema};
 use std::alloc::{AllocError, Global};
 use std::cmp::Ordering;
 
@@ -26,39 +27,36 @@ pub fn compare_cells(a: &Cell, b: &Cell) -> Ordering
 }
 
 /// What a row shows in a column.
-pub fn cell_at(row: &Row, column: u16) -> Result<Cell, AllocError>
+pub fn cell_at(alloc: Global, row: &RowRef<'_>, column: u16) -> Result<Cell, AllocError>
     ensures { IfOk result (λ cell. cell ≡ cell_of (slice_get row.now column)) }
 {
-    match row.values().get(column as usize) {
-        Some(Value::UInt(number)) => Ok(Cell::UInt(*number)),
-        Some(Value::Int(number)) => Ok(Cell::Int(*number)),
-        Some(Value::Text(text)) => Ok(Cell::Text(text.copy()?)),
+    match row.value(column) {
+        Some(ValueRef::UInt(number)) => Ok(Cell::UInt(number)),
+        Some(ValueRef::Int(number)) => Ok(Cell::Int(number)),
+        Some(ValueRef::Text(text)) => Ok(Cell::Text(Blob::new(Vec::from_slice(alloc, text)?))),
         None => Ok(Cell::Sum(0)),
     }
 }
 
 /// The number that a row has in a column, and 0 where it has none.
-pub fn number_at(row: &Row, column: u16) -> i128
+pub fn number_at(row: &RowRef<'_>, column: u16) -> i128
     ensures value { result ≡ number_of (slice_get row.now column) }
     ensures least { pos 0 ≤ℤ (result +ℤ pos (2 ^ 64)) }
     ensures greatest { result ≤ℤ pos (2 ^ 64) }
 {
-    match row.values().get(column as usize) {
-        Some(Value::UInt(number)) => *number as i128,
-        Some(Value::Int(number)) => *number as i128,
-        Some(Value::Text(_)) | None => 0,
+    match row.value(column) {
+        Some(ValueRef::UInt(number)) => number as i128,
+        Some(ValueRef::Int(number)) => number as i128,
+        Some(ValueRef::Text(_)) | None => 0,
     }
 }
 
 /// The order of what two rows show in a column.
-pub fn compare_at(a: &Row, b: &Row, column: u16) -> Ordering
+pub fn compare_at(a: &RowRef<'_>, b: &RowRef<'_>, column: u16) -> Ordering
     ensures { result ≡ cell_order (cell_of (slice_get a.now column)) (cell_of (slice_get b.now column)) }
 {
-    match (
-        a.values().get(column as usize),
-        b.values().get(column as usize),
-    ) {
-        (Some(a), Some(b)) => a.compare(b),
+    match (a.value(column), b.value(column)) {
+        (Some(a), Some(b)) => a.order(b),
         (Some(_), None) => Ordering::Less,
         (None, Some(_)) => Ordering::Greater,
         (None, None) => Ordering::Equal,
@@ -66,12 +64,12 @@ pub fn compare_at(a: &Row, b: &Row, column: u16) -> Ordering
 }
 
 /// What an item is over one row.
-pub fn one_cell(item: CheckedItem, row: &Row) -> Result<Cell, AllocError>
+pub fn one_cell(alloc: Global, item: CheckedItem, row: &RowRef<'_>) -> Result<Cell, AllocError>
     ensures { IfOk result (λ cell. cell ≡ one item row.now) }
 {
     match item {
         CheckedItem::Column(column) | CheckedItem::Min(column) | CheckedItem::Max(column) => {
-            let cell = cell_at(row, column)?;
+            let cell = cell_at(alloc, row, column)?;
             Ok(cell)
         }
         CheckedItem::Count => Ok(Cell::UInt(1)),

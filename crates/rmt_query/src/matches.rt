@@ -7,29 +7,31 @@ ghost use Rattle.std.specs.Prelude.{List};
 ghost use Rattle.rmt_values.specs.Rows.{key_of};
 ghost use Rattle.rmt_changes.specs.Changes.{entries_of};
 ghost use Rattle.rmt_changes.specs.Laws.{EntryFits};
+ghost use Rattle.rmt_model.specs.Content.{Row as Values};
 ghost use Rattle.rmt_query.specs.Answers.{matches as matches_filter, matching};
 ghost use Rattle.rmt_query.specs.Explained.{AreInChosen};
 ghost use Rattle.rmt_query.specs.ReadRows.{row_read, rows_of_part, rows_read};
 
-use rmt_changes::{keys_stay, pending_row};
+use rmt_changes::{is_pending, keys_stay, pending_row};
+use rmt_columns::RowRef;
 use rmt_entries::Entry;
-use rmt_expr::holds;
+use rmt_expr::holds_in;
 use rmt_granules::PartData;
 use rmt_keyrange::{range_of, select};
-use rmt_names::data_version;
+use rmt_names::{PartName, data_version};
 use rmt_partset::NamedPart;
 use rmt_row::Seen;
 use rmt_values::{Checked, Row, Schema};
 use std::alloc::{AllocError, Global};
 
 /// The matching rows of parts, one part after the other, each row after the mutations that are pending for its part.
-pub fn matching_rows(
+pub fn matching_rows<'a>(
     alloc: Global,
-    parts: &[NamedPart],
+    parts: &'a [NamedPart],
     filter: &Option<Checked>,
     schema: &Schema,
     pending: &[Seen<Entry>],
-) -> Result<Vec<Row>, AllocError>
+) -> Result<Vec<RowRef<'a>>, AllocError>
     requires parts { All (λ part. part.rows.key ≡ schema.now.key) parts.now }
     requires pending { All (λ token. EntryFits schema.now token.value) pending.now }
     ensures { IfOk result (λ rows. rows.items ≡ matching filter.now (rows_read (entries_of pending.now) parts.now)) }
@@ -42,10 +44,10 @@ pub fn matching_rows(
 }
 
 /// Puts the matching rows of a part at the end. It reads the chosen granules alone.
-fn add_matching(
+fn add_matching<'a>(
     alloc: Global,
-    rows: &mut Vec<Row>,
-    part: &NamedPart,
+    rows: &mut Vec<RowRef<'a>>,
+    part: &'a NamedPart,
     filter: &Option<Checked>,
     schema: &Schema,
     pending: &[Seen<Entry>],
@@ -57,8 +59,9 @@ fn add_matching(
 {
     keys_stay();
     let (first, past) = rows_to_read(part.data(), filter, schema)?;
+    let due = pending_for(pending, part.name());
     'rows: for i in first..past {
-        let Some(row) = matching_row(alloc, part, i, filter, pending)? else {
+        let Some(row) = matching_row(alloc, part, i, filter, due)? else {
             continue;
         };
         rows.push(row)?;
@@ -66,14 +69,25 @@ fn add_matching(
     Ok(())
 }
 
+/// These tokens, where one of them is pending for a part of this name; none where none is.
+fn pending_for<'t>(tokens: &'t [Seen<Entry>], name: &PartName) -> &'t [Seen<Entry>]
+    ensures { (row : Values) → row_read (entries_of result.now) name.now row ≡ row_read (entries_of tokens.now) name.now row }
+{
+    if is_pending(tokens, name.partition(), data_version(name)) {
+        tokens
+    } else {
+        &[]
+    }
+}
+
 /// A row after the mutations that are pending for its part, where there is one then and it matches.
-fn matching_row(
+fn matching_row<'a>(
     alloc: Global,
-    part: &NamedPart,
+    part: &'a NamedPart,
     i: usize,
     filter: &Option<Checked>,
     pending: &[Seen<Entry>],
-) -> Result<Option<Row>, AllocError>
+) -> Result<Option<RowRef<'a>>, AllocError>
     requires { i < length part.now.rows.rows }
     ensures { IfOk result (λ row. option_to_list row ≡ matching filter.now
         (option_to_list (row_read (entries_of pending.now) part.now.name (slice_index_or part.now.rows.rows i [])))) }
@@ -88,21 +102,27 @@ fn matching_row(
     }
 }
 
-/// A row after the mutations that are pending for its part; none where one of them deletes it.
-fn row_after(
+/// A row after the mutations that are pending for its part; none where one of them deletes it. Where none is pending it is
+/// read where it lies.
+fn row_after<'a>(
     alloc: Global,
-    part: &NamedPart,
+    part: &'a NamedPart,
     i: usize,
     pending: &[Seen<Entry>],
-) -> Result<Option<Row>, AllocError>
+) -> Result<Option<RowRef<'a>>, AllocError>
     requires { i < length part.now.rows.rows }
     ensures { IfOk result (λ row. row
         ≡ row_read (entries_of pending.now) part.now.name (slice_index_or part.now.rows.rows i [])) }
 {
+    if pending.is_empty() {
+        return Ok(Some(RowRef::held(part.data().data(), i)));
+    }
     let row = row_of(part.data(), i)?;
     let name = part.name();
-    let new = pending_row(alloc, pending, name.partition(), data_version(name), row)?;
-    Ok(new)
+    match pending_row(alloc, pending, name.partition(), data_version(name), row)? {
+        Some(row) => Ok(Some(RowRef::own(row))),
+        None => Ok(None),
+    }
 }
 
 /// A copy of a row of a part.
@@ -117,12 +137,12 @@ fn row_of(part: &PartData, i: usize) -> Result<Row, AllocError>
 }
 
 /// Whether the row matches.
-fn matches(filter: &Option<Checked>, row: &Row) -> bool
+fn matches(filter: &Option<Checked>, row: &RowRef<'_>) -> bool
     ensures { result ≡ matches_filter filter.now row.now }
 {
     match filter {
         None => true,
-        Some(filter) => holds(filter, row),
+        Some(filter) => holds_in(filter, row),
     }
 }
 

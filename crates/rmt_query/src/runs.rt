@@ -10,14 +10,15 @@ ghost use Rattle.rmt_query.specs.OverRows.{over, total};
 
 use crate::cells::{cell_at, compare_at, number_at};
 use crate::tuple::Tuple;
-use rmt_values::{Cell, CheckedItem, Row};
+use rmt_columns::RowRef;
+use rmt_values::{Cell, CheckedItem};
 use std::alloc::{AllocError, Global};
 use std::cmp::Ordering;
 
 /// The tuples of the groups of rows that are sorted by the columns of a group.
 pub fn tuples_of_runs(
     alloc: Global,
-    rows: &[Row],
+    rows: &[RowRef<'_>],
     items: &[CheckedItem],
     group: &[u16],
 ) -> Result<Vec<Tuple>, AllocError>
@@ -25,19 +26,20 @@ pub fn tuples_of_runs(
     ensures { IfOk result (λ tuples. tuples.items ≡ map (λ g. g.1) (groups_of items.now group.now rows.now)) }
 {
     let mut tuples = Vec::new(alloc);
-    let mut rest = rows;
-    'runs: while !rest.is_empty() {
+    let mut first = 0;
+    'runs: while first < rows.len() {
+        let (_, rest) = rows.split_at(first);
         let end = run_end(rest, group);
-        let (run, others) = rest.split_at(end);
+        let (run, _) = rest.split_at(end);
         let tuple = tuple_over(alloc, run, items)?;
         tuples.push(tuple)?;
-        rest = others;
+        first += end;
     }
     Ok(tuples)
 }
 
 /// How many of the rows, from the first on, are in its group.
-fn run_end(rows: &[Row], group: &[u16]) -> usize
+fn run_end(rows: &[RowRef<'_>], group: &[u16]) -> usize
     requires { 0 < length rows.now }
     ensures some { 0 < result }
     ensures within { result ≤ length rows.now }
@@ -56,20 +58,24 @@ fn run_end(rows: &[Row], group: &[u16]) -> usize
 }
 
 /// The tuple of a group of these rows.
-fn tuple_over(alloc: Global, rows: &[Row], items: &[CheckedItem]) -> Result<Tuple, AllocError>
+fn tuple_over(
+    alloc: Global,
+    rows: &[RowRef<'_>],
+    items: &[CheckedItem],
+) -> Result<Tuple, AllocError>
     requires { 0 < length rows.now }
     ensures { IfOk result (λ tuple. tuple ≡ map (λ i. over i rows.now) items.now) }
 {
     let mut cells = Vec::with_capacity(alloc, items.len())?;
     'items: for item in items {
-        let cell = cell_over(*item, rows)?;
+        let cell = cell_over(alloc, *item, rows)?;
         cells.push(cell)?;
     }
     Ok(Tuple::new(cells))
 }
 
 /// What an item is over these rows.
-fn cell_over(item: CheckedItem, rows: &[Row]) -> Result<Cell, AllocError>
+fn cell_over(alloc: Global, item: CheckedItem, rows: &[RowRef<'_>]) -> Result<Cell, AllocError>
     requires { 0 < length rows.now }
     ensures { IfOk result (λ cell. cell ≡ over item rows.now) }
 {
@@ -77,18 +83,18 @@ fn cell_over(item: CheckedItem, rows: &[Row]) -> Result<Cell, AllocError>
         CheckedItem::Count => Ok(Cell::UInt(rows.len() as u64)),
         CheckedItem::Sum(column) => Ok(Cell::Sum(sum_over(column, rows))),
         CheckedItem::Column(column) | CheckedItem::Min(column) => {
-            let cell = cell_at(&rows[least_row(column, rows)], column)?;
+            let cell = cell_at(alloc, &rows[least_row(column, rows)], column)?;
             Ok(cell)
         }
         CheckedItem::Max(column) => {
-            let cell = cell_at(&rows[greatest_row(column, rows)], column)?;
+            let cell = cell_at(alloc, &rows[greatest_row(column, rows)], column)?;
             Ok(cell)
         }
     }
 }
 
 /// The numbers of a column, added up.
-fn sum_over(column: u16, rows: &[Row]) -> i128
+fn sum_over(column: u16, rows: &[RowRef<'_>]) -> i128
     ensures { result ≡ total column rows.now }
 {
     let mut sum = 0;
@@ -99,7 +105,7 @@ fn sum_over(column: u16, rows: &[Row]) -> i128
 }
 
 /// The place of a row that shows the least cell of a column.
-fn least_row(column: u16, rows: &[Row]) -> usize
+fn least_row(column: u16, rows: &[RowRef<'_>]) -> usize
     requires { 0 < length rows.now }
     ensures there { result < length rows.now }
     ensures is { one (CheckedItem.Min column) (slice_index_or rows.now result []) ≡ over (CheckedItem.Min column) rows.now }
@@ -115,7 +121,7 @@ fn least_row(column: u16, rows: &[Row]) -> usize
 }
 
 /// The place of a row that shows the greatest cell of a column.
-fn greatest_row(column: u16, rows: &[Row]) -> usize
+fn greatest_row(column: u16, rows: &[RowRef<'_>]) -> usize
     requires { 0 < length rows.now }
     ensures there { result < length rows.now }
     ensures is { one (CheckedItem.Max column) (slice_index_or rows.now result []) ≡ over (CheckedItem.Max column) rows.now }

@@ -1,4 +1,5 @@
 use rmt_block::Block;
+use rmt_columns::RowsBuilder;
 use rmt_entries::Entry;
 use rmt_names::block_name;
 use rmt_replica::{Replica, ReplicaError};
@@ -22,6 +23,13 @@ fn one_column(alloc: Global) -> Result<Arc<Schema, Global>, Fail> {
     }
 }
 
+/// A block of no rows of the table.
+fn empty_block(alloc: Global, schema: &Schema) -> Result<Arc<Block, Global>, AllocError> {
+    let rows = RowsBuilder::new(alloc, schema.columns())?.into_rows();
+    let block = Block::new(alloc, rows, schema)?;
+    Ok(Arc::new(alloc, block)?)
+}
+
 /// The token of the Get of a block, as the first entry of a log.
 fn first_get(alloc: Global, block: &Block) -> Result<Seen<Entry>, AllocError> {
     let entry = Entry::Get {
@@ -38,7 +46,7 @@ fn first_get(alloc: Global, block: &Block) -> Result<Seen<Entry>, AllocError> {
 fn a_replica_that_is_down_does_nothing(rt: HostRuntime) -> Result<(), Fail> {
     let alloc = rt.alloc();
     let schema = one_column(alloc)?;
-    let block = Arc::new(alloc, Block::new(alloc, Vec::new(alloc), &schema)?)?;
+    let block = empty_block(alloc, &schema)?;
     let first = first_get(alloc, &block)?;
     let mut replica = Replica::new(alloc, 1, schema, false);
     assert_eq!(rt;
@@ -57,7 +65,7 @@ fn a_replica_that_is_down_does_nothing(rt: HostRuntime) -> Result<(), Fail> {
 fn a_block_is_staged_until_it_is_let_go(rt: HostRuntime) -> Result<(), Fail> {
     let alloc = rt.alloc();
     let schema = one_column(alloc)?;
-    let block = Arc::new(alloc, Block::new(alloc, Vec::new(alloc), &schema)?)?;
+    let block = empty_block(alloc, &schema)?;
     let mut replica = Replica::new(alloc, 1, schema, true);
     assert_eq!(rt; replica.stage(3, block), Ok(()));
     assert!(rt; replica.staged(None, 3).is_some());

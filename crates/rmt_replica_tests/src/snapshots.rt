@@ -1,4 +1,5 @@
 //! A snapshot of two parts.
+use rmt_columns::Rows;
 use rmt_granules::{PartData, from_unsorted_rows};
 use rmt_names::block_name;
 use rmt_partset::{NamedPart, Snapshot};
@@ -22,10 +23,8 @@ fn data_of(alloc: Global, numbers: &[u64]) -> Result<Arc<PartData, Global>, Allo
     for number in numbers {
         rows.push(Row::new(vec![in alloc; Value::UInt(*number)]?))?;
     }
-    if !rmt_granules::all_fit(&rows, &schema) {
-        return Err(AllocError);
-    }
-    let data = from_unsorted_rows(alloc, rows, &schema)?;
+    let rows = Rows::of_rows(alloc, &rows, &schema)?.ok_or(AllocError)?;
+    let data = from_unsorted_rows(alloc, &rows, &schema)?;
     let shared = Arc::new(alloc, data)?;
     Ok(shared)
 }

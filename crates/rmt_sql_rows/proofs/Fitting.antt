@@ -14,7 +14,7 @@ use Rattle.rmt_values.specs.Rows.{is_of, fits}
 use Rattle.rmt_sql_tokens.specs.Tokens.{value_of}
 use Rattle.rmt_statements.specs.declared.offered.Offered.{Offered}
 use Rattle.rmt_statements.specs.declared.offered.Offered.TheVariants.{Values, Csv}
-use Rattle.rmt_sql_rows.specs.InsertedRows.{is_number, digits_value, numeral_value, field_value, absent, cell_value, cell_at, value_at, with_value, row_values, row_with, row_of, rows_from, places_in}
+use Rattle.rmt_sql_rows.specs.InsertedRows.{is_number, digits_value, numeral_value, field_value, absent, cell_value, cell_at, value_at, with_value, row_values, row_of, rows_from, places_in}
 use Rattle.rmt_values.specs.Literals.{number_value, text_value, literal_value}
 use Rattle.rmt_sql_rows.specs.Inserts.{AreInsertedRows}
 use Rattle.rmt_sql_rows.proofs.Fields.{next_ok}

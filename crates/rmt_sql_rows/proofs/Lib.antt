@@ -2,3 +2,4 @@ pub mod Fields
 pub mod Steps
 pub mod Fitting
 pub mod Parts
+pub mod Puts

@@ -1,5 +1,5 @@
 -- What a loop over the records of a text keeps.
-use Rattle.std.proofs.Common.{◌≡◌, ◌∙◌, ℕ, List, [], ◌∷◌, ◌++◌, Bor, Some, None, Ok, Bool, true, refl, sym, inl, Option}
+use Rattle.std.proofs.Common.{◌≡◌, ◌∙◌, ℕ, List, [], ◌∷◌, ◌++◌, Bor, Some, None, Ok, true, refl, sym, inl, Option}
 use Rattle.csv.specs.Reading.{default_config, strip_bom, source_of, Reached, Ready, reader_state, reader_config, reader_trim, RowStep, FlexibleStep, is_flexible, AreRecords}
 use Rattle.csv.specs.Records.{Row, fields_of}
 use Rattle.csv.specs.declared.parser.State.TheVariants as st

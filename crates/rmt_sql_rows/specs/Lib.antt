@@ -1,2 +1,3 @@
 pub mod InsertedRows
 pub mod Inserts
+pub mod PutRows

@@ -1,16 +1,18 @@
 //! Rows of records of comma-separated values.
-ghost use Rattle.std.specs.Prelude.{◌≡◌, ◌⊎◌, IfOk, IfErr, length, slice_get, List, ℕ, Ok};
+ghost use Rattle.std.specs.Prelude.{◌≡◌, ◌<◌, ◌⊎◌, IfOk, IfErr, length, slice_get, List, ℕ, Ok};
 ghost use Rattle.std.specs.Option.{option_map};
 ghost use Rattle.csv.specs.Records.{fields_of};
+ghost use Rattle.rmt_columns.specs.RowsByColumn.{kinds_in};
 ghost use Rattle.rmt_sql_rows.specs.InsertedRows.{field_value as field_value_of, cell_at, row_of as row_in, rows_from};
 ghost use Rattle.rmt_sql_rows.specs.Inserts.{AreCsvRows, IsBadCsvRow};
 
-use crate::cells::{Cells, row_of};
+use crate::cells::{Cells, push_row};
 use crate::rows_error::RowsError;
 use crate::values::field_value;
 use csv::{ByteRecord, ErrorKind, ReaderBuilder};
-use rmt_values::{Column, Kind, Row, Value};
-use std::alloc::{AllocError, Global};
+use rmt_columns::{Rows, RowsBuilder, ValueRef};
+use rmt_values::{Column, Kind};
+use std::alloc::Global;
 
 /// The field of a record at a place, counted from 0.
 fn field_at(fields: &ByteRecord, place: usize) -> Option<&[u8]>
@@ -28,15 +30,10 @@ impl Cells for ByteRecord {
         ByteRecord::len(self)
     }
 
-    fn value_in(
-        &self,
-        alloc: Global,
-        kind: Kind,
-        place: usize,
-    ) -> Result<Option<Value>, AllocError> {
+    fn value_in(&self, kind: Kind, place: usize) -> Option<ValueRef<'_>> {
         match field_at(self, place) {
-            Some(field) => field_value(alloc, kind, field),
-            None => Ok(None),
+            Some(field) => field_value(kind, field),
+            None => None,
         }
     }
 }
@@ -48,13 +45,15 @@ pub fn rows_of_data(
     places: &[Option<usize>],
     named: usize,
     bytes: &[u8],
-) -> Result<Vec<Row>, RowsError>
-    requires { length places.now ≡ length columns.now }
-    ensures ok { IfOk result (λ all. AreCsvRows (row_in field_value_of columns.now places.now named) bytes.now all.items) }
+) -> Result<Rows, RowsError>
+    requires places { length places.now ≡ length columns.now }
+    requires some { 0 < length columns.now }
+    ensures ok { IfOk result (λ all. AreCsvRows (row_in field_value_of columns.now places.now named) bytes.now all.rows) }
+    ensures kinds { IfOk result (λ all. all.kinds ≡ kinds_in columns.now) }
     ensures refused { IfErr result (λ e. (e ≡ RowsError.Memory)
         ⊎ IsBadCsvRow (row_in field_value_of columns.now places.now named) bytes.now e) }
 {
-    let mut all: Vec<Row> = Vec::new(alloc);
+    let mut builder = RowsBuilder::new(alloc, columns)?;
     let reader = ReaderBuilder::new()
         .has_headers(false)
         .flexible(true)
@@ -71,10 +70,10 @@ pub fn rows_of_data(
                 | ErrorKind::Deserialize { .. } => unreachable!(),
             },
         };
-        let Some(row) = row_of(alloc, columns, places, named, &record)? else {
-            return Err(RowsError::BadRow(all.len() as u64 + 1));
-        };
-        all.push(row)?;
+        let number = builder.len() as u64 + 1;
+        if !push_row(&mut builder, columns, places, named, &record)? {
+            return Err(RowsError::BadRow(number));
+        }
     }
-    Ok(all)
+    Ok(builder.into_rows())
 }

@@ -1,14 +1,19 @@
 //! Rows of literals.
-ghost use Rattle.std.specs.Prelude.{◌≡◌, ◌⊎◌, IfOk, IfErr, length, Ok};
+ghost use Rattle.std.specs.Prelude.{◌≡◌, ◌<◌, ◌⊎◌, IfOk, IfErr, length, Ok};
 ghost use Rattle.rmt_values.specs.Literals.{literal_value};
+ghost use Rattle.std.specs.Option.{option_map};
+ghost use Rattle.rmt_columns.specs.Columns.{value_of};
+ghost use Rattle.rmt_columns.specs.RowsByColumn.{kinds_in};
 ghost use Rattle.rmt_sql_rows.specs.InsertedRows.{cell_at, row_of as row_in, rows_from};
 ghost use Rattle.rmt_sql_rows.specs.Inserts.{IsBadRow};
 
-use crate::cells::{Cells, row_of};
+use crate::cells::{Cells, push_row};
 use crate::rows_error::RowsError;
+use crate::values::{number_ref, text_ref};
+use rmt_columns::{Rows, RowsBuilder, ValueRef};
 use rmt_list::List;
-use rmt_values::{Column, Kind, Literal, Row, Value};
-use std::alloc::{AllocError, Global};
+use rmt_values::{Column, Kind, Literal};
+use std::alloc::Global;
 
 impl Cells for List<Literal> {
     ghost count = { λ cells. length cells };
@@ -19,16 +24,21 @@ impl Cells for List<Literal> {
         self.as_slice().len()
     }
 
-    fn value_in(
-        &self,
-        alloc: Global,
-        kind: Kind,
-        place: usize,
-    ) -> Result<Option<Value>, AllocError> {
+    fn value_in(&self, kind: Kind, place: usize) -> Option<ValueRef<'_>> {
         match self.as_slice().get(place) {
-            Some(cell) => cell.value_in(alloc, kind),
-            None => Ok(None),
+            Some(cell) => literal_ref(kind, cell),
+            None => None,
         }
+    }
+}
+
+/// The value of a literal in a column of this type, if it has one there.
+fn literal_ref(kind: Kind, literal: &Literal) -> Option<ValueRef<'_>>
+    ensures { option_map value_of result ≡ literal_value kind literal.now }
+{
+    match literal {
+        Literal::Number { minus, size } => number_ref(kind, *minus, *size),
+        Literal::Text(text) => text_ref(kind, text.as_bytes()),
     }
 }
 
@@ -39,19 +49,20 @@ pub fn rows_of_tuples(
     places: &[Option<usize>],
     named: usize,
     tuples: &[List<Literal>],
-) -> Result<Vec<Row>, RowsError>
-    requires { length places.now ≡ length columns.now }
+) -> Result<Rows, RowsError>
+    requires places { length places.now ≡ length columns.now }
+    requires some { 0 < length columns.now }
     ensures ok { IfOk result (λ all.
-        rows_from (row_in literal_value columns.now places.now named) 1 tuples.now ≡ Ok all.items) }
+        rows_from (row_in literal_value columns.now places.now named) 1 tuples.now ≡ Ok all.rows) }
+    ensures kinds { IfOk result (λ all. all.kinds ≡ kinds_in columns.now) }
     ensures refused { IfErr result (λ e. (e ≡ RowsError.Memory)
         ⊎ IsBadRow e (rows_from (row_in literal_value columns.now places.now named) 1 tuples.now)) }
 {
-    let mut all = Vec::new(alloc);
+    let mut builder = RowsBuilder::new(alloc, columns)?;
     'tuples: for i in 0..tuples.len() {
-        let Some(row) = row_of(alloc, columns, places, named, &tuples[i])? else {
+        if !push_row(&mut builder, columns, places, named, &tuples[i])? {
             return Err(RowsError::BadRow(i as u64 + 1));
-        };
-        all.push(row)?;
+        }
     }
-    Ok(all)
+    Ok(builder.into_rows())
 }

@@ -1,10 +1,13 @@
 //! Fields of data as values of columns.
-ghost use Rattle.std.specs.Prelude.{◌≡◌, IfOk};
+ghost use Rattle.std.specs.Prelude.{◌≡◌};
+ghost use Rattle.std.specs.Option.{option_map};
+ghost use Rattle.rmt_values.specs.Literals.{number_value as number_value_of, text_value as text_value_of};
+ghost use Rattle.rmt_columns.specs.Columns.{value_of};
 ghost use Rattle.rmt_sql_rows.specs.InsertedRows.{is_number as number_test, digits_value as digits_value_of, numeral_value as numeral_value_of, field_value as field_value_of, absent as absent_of};
 
+use rmt_columns::ValueRef;
 use rmt_sql_tokens::{decimal_value, digits_len};
-use rmt_values::{Blob, Kind, MOST_DIGITS, Value, number_value, text_value};
-use std::alloc::{AllocError, Global};
+use rmt_values::{Kind, LONGEST_TEXT, MOST_DIGITS, Value, number_value};
 
 /// Whether these bytes are 1 to 39 digits.
 fn is_number(bytes: &[u8]) -> bool
@@ -16,22 +19,49 @@ fn is_number(bytes: &[u8]) -> bool
     digits_len(bytes) == bytes.len()
 }
 
+/// The value of a number in a column of this type, if it has one there.
+pub fn number_ref<'a>(kind: Kind, minus: bool, size: u128) -> Option<ValueRef<'a>>
+    ensures { option_map value_of result ≡ number_value_of kind minus size }
+{
+    match number_value(kind, minus, size) {
+        Some(Value::UInt(number)) => Some(ValueRef::UInt(number)),
+        Some(Value::Int(number)) => Some(ValueRef::Int(number)),
+        Some(Value::Text(_)) | None => None,
+    }
+}
+
+/// The value of some bytes in a column of this type, if they have one there.
+pub fn text_ref(kind: Kind, bytes: &[u8]) -> Option<ValueRef<'_>>
+    ensures { option_map value_of result ≡ text_value_of kind bytes.now }
+{
+    match kind {
+        Kind::Text => {
+            if bytes.len() <= LONGEST_TEXT {
+                Some(ValueRef::Text(bytes))
+            } else {
+                None
+            }
+        }
+        _ => None,
+    }
+}
+
 /// The value of digits in a column of this type, if they have one there.
-fn digits_value(kind: Kind, minus: bool, digits: &[u8]) -> Option<Value>
-    ensures { result ≡ digits_value_of kind minus digits.now }
+fn digits_value<'a>(kind: Kind, minus: bool, digits: &[u8]) -> Option<ValueRef<'a>>
+    ensures { option_map value_of result ≡ digits_value_of kind minus digits.now }
 {
     if !is_number(digits) {
         return None;
     }
     match decimal_value(digits) {
-        Some(size) => number_value(kind, minus, size),
+        Some(size) => number_ref(kind, minus, size),
         None => None,
     }
 }
 
 /// The value of a number with or without a minus in a column of this type, if it has one there.
-fn numeral_value(kind: Kind, bytes: &[u8]) -> Option<Value>
-    ensures { result ≡ numeral_value_of kind bytes.now }
+fn numeral_value<'a>(kind: Kind, bytes: &[u8]) -> Option<ValueRef<'a>>
+    ensures { option_map value_of result ≡ numeral_value_of kind bytes.now }
 {
     match bytes {
         [] => None,
@@ -41,23 +71,23 @@ fn numeral_value(kind: Kind, bytes: &[u8]) -> Option<Value>
 }
 
 /// The value of a field of data in a column of this type, if it has one there.
-pub fn field_value(alloc: Global, kind: Kind, bytes: &[u8]) -> Result<Option<Value>, AllocError>
-    ensures { IfOk result (λ o. o ≡ field_value_of kind bytes.now) }
+pub fn field_value(kind: Kind, bytes: &[u8]) -> Option<ValueRef<'_>>
+    ensures { option_map value_of result ≡ field_value_of kind bytes.now }
 {
     match kind {
-        Kind::Text => text_value(alloc, Kind::Text, bytes),
-        Kind::UInt64 => Ok(numeral_value(Kind::UInt64, bytes)),
-        Kind::Int64 => Ok(numeral_value(Kind::Int64, bytes)),
+        Kind::Text => text_ref(Kind::Text, bytes),
+        Kind::UInt64 => numeral_value(Kind::UInt64, bytes),
+        Kind::Int64 => numeral_value(Kind::Int64, bytes),
     }
 }
 
 /// The value of a column that is left out.
-pub fn absent(alloc: Global, kind: Kind) -> Value
-    ensures { result ≡ absent_of kind }
+pub fn absent<'a>(kind: Kind) -> ValueRef<'a>
+    ensures { value_of result ≡ absent_of kind }
 {
     match kind {
-        Kind::UInt64 => Value::UInt(0),
-        Kind::Int64 => Value::Int(0),
-        Kind::Text => Value::Text(Blob::new(Vec::new(alloc))),
+        Kind::UInt64 => ValueRef::UInt(0),
+        Kind::Int64 => ValueRef::Int(0),
+        Kind::Text => ValueRef::Text(b""),
     }
 }

@@ -1,4 +1,5 @@
 //! UPDATE and DELETE: which are refused, and what the others make of rows, worked out by hand.
+use crate::insert_rows::copied;
 use rmt_expr::{MutationError, apply, check_mutation};
 use rmt_list::List;
 use rmt_sql::{Parsed, next_statement};
@@ -39,7 +40,7 @@ fn act_of(alloc: Global, script: &str) -> Result<Option<Act>, AllocError> {
 fn offered(alloc: Global, schema: &Schema, insert: &str) -> Result<Vec<Row>, AllocError> {
     match act_of(alloc, insert)? {
         Some(Act::Insert(insert)) => match rows_of(alloc, &insert, schema) {
-            Ok(rows) => Ok(rows),
+            Ok(rows) => copied(alloc, &rows),
             Err(_) => Err(AllocError),
         },
         _ => Err(AllocError),

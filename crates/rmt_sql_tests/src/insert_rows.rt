@@ -1,8 +1,9 @@
 //! Rows of whole INSERTs, worked out by hand.
+use rmt_columns::Rows;
 use rmt_sql::{Parsed, next_statement};
 use rmt_sql_rows::{RowsError, rows_of};
 use rmt_statements::{Act, Insert, Statement};
-use rmt_values::{Column, Kind, Name, Schema};
+use rmt_values::{Column, Kind, Name, Row, Schema};
 use std::alloc::{AllocError, Global};
 use std::test::Fail;
 
@@ -27,9 +28,23 @@ fn reason(alloc: Global, error: &RowsError) -> Result<String, AllocError> {
     }
 }
 
+/// Copies of the rows, each by itself.
+pub fn copied(alloc: Global, rows: &Rows) -> Result<Vec<Row>, AllocError> {
+    let mut all = Vec::new(alloc);
+    for i in 0..rows.len() {
+        if let Some(row) = rows.row(alloc, i)? {
+            all.push(row)?;
+        }
+    }
+    Ok(all)
+}
+
 fn rows_text(alloc: Global, insert: &Insert, schema: &Schema) -> Result<String, AllocError> {
     match rows_of(alloc, insert, schema) {
-        Ok(rows) => format!(in alloc; "{rows:?}"),
+        Ok(rows) => {
+            let rows = copied(alloc, &rows)?;
+            format!(in alloc; "{rows:?}")
+        }
         Err(error) => reason(alloc, &error),
     }
 }

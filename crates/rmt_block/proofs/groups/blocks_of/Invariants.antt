@@ -6,5 +6,5 @@ use Rattle.rmt_block.proofs.groups.blocks_of.Given as goal
 
 abbrev pub invariant-groups : goal.invariant-groups
 invariant-groups l =
-    (l.blocks.items ++ map (group_block (kinds_of l.schema.columns)) l.partition-iterator ≡ map (group_block (kinds_of l.schema.columns)) l.fn.groups.entries)
-    × All (IsGroup (kinds_of l.schema.columns)) l.partition-iterator
+    (l.blocks.items ++ map (group_block (kinds_of l.schema.columns) l.rows.rows) l.partition-iterator ≡ map (group_block (kinds_of l.schema.columns) l.rows.rows) l.fn.groups.entries)
+    × All (IsGroup (kinds_of l.schema.columns) l.rows.rows) l.partition-iterator

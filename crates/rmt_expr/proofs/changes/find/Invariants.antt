@@ -3,4 +3,4 @@ use Rattle.rmt_values.specs.Commands.{set_from}
 use Rattle.rmt_expr.proofs.changes.find.Given as goal
 
 abbrev pub invariant-sets : goal.invariant-sets
-invariant-sets l = set_from l.all l.column ≡ set_from (drop l.i l.all) l.column
+invariant-sets l = set_from l.sets l.column ≡ set_from (drop l.i l.sets) l.column

@@ -1,25 +1,29 @@
-use Rattle.std.proofs.Common.{◌≡◌, ℕ, ◌-◌, ◌+◌, List, Some, sym, ap, subst, ◌∙◌}
-use Rattle.std.proofs.lemmas.Result.{err_from_is_err_and}
-use Rattle.rmt_bytes.specs.Decoding.{Fails}
-use Rattle.rmt_bytes.proofs.ManyLemmas.{with_front}
-use Rattle.rmt_values.specs.declared.value.Value.{Value}
-use Rattle.rmt_format.specs.PartDecoding.{decode_granule, decode_granules}
-use Rattle.rmt_format.proofs.ReadLemmas.{granule-read, granule-fails}
+use Rattle.std.proofs.Common.{rules, ◌≡◌, ◌∙◌, ◌+◌, ◌-◌, min, ap, sym, subst, length, Some, List, ℕ}
+use Rattle.rmt_columns.specs.Columns.{ColumnView}
+use Rattle.rmt_columns.specs.RowsByColumn.{no_values}
+use Rattle.rmt_columns.proofs.RowsLemmas.{length-kinds}
+use Rattle.rmt_format.specs.PartDecoding.{decode_columns}
+use Rattle.rmt_format.proofs.ReadLemmas.{Reads, AreLonger, columns-longer, granule-read, none-kinds, reads-none, written}
 use Rattle.rmt_format.proofs.rows.read_granules.Goals as goal
 
-pub returns-in_err-granule : goal.returns-in_err-granule
-returns-in_err-granule c =
-    let p = err_from_is_err_and c.from_residual.result c.from_residual.ensures.1 in
-    let fails = subst (λ (n : ℕ). Fails c.in_err-granule.field-0.0 (decode_granule c.args.columns.now n c.granules.rest.now)) c.min.ensures c.in_err-granule.ensures in
-    rw (p.1, p.2) (granule-fails c.args.columns.now c.args.size c.args.counts.0 c.granules.counter c.granules.left c.granules.rows.items c.granules.rest.now
-    (decode_granules c.args.columns.now c.args.size c.args.counts.0 c.args.counts.1 c.args.bytes.now) c.in_err-granule.field-0.0 c.granules-test.true fails c.granules.invariant)
+pub granules-init : goal.granules-init
+granules-init c =
+    subst (λ (l : List ColumnView). Reads (no_values c.args.columns.now) c.args.size c.args.counts.0 c.args.counts.1 c.args.bytes.now 0 c.args.counts.1 l c.args.bytes.now) (sym c.in_ok-made.ensures)
+    (reads-none c.args.columns.now c.args.size c.args.counts.0 c.args.counts.1 c.args.bytes.now)
 
 pub granules-preserved : goal.granules-preserved
 granules-preserved c =
-    let k = c.args.counts.0 - (c.granules.counter + 1) in
-    let total = decode_granules c.args.columns.now c.args.size c.args.counts.0 c.args.counts.1 c.args.bytes.now in
-    let read : decode_granule c.args.columns.now c.min.result c.granules.rest.now ≡ Some (c.in_ok-granule.granule.items, c.in_ok-granule.after.now) = c.in_ok-granule.ensures in
-    let next = granule-read c.args.columns.now c.args.size c.args.counts.0 c.granules.counter c.granules.left c.granules.rows.items c.in_ok-granule.granule.items c.granules.rest.now
-    c.in_ok-granule.after.now total c.granules-test.true (ap (λ (n : ℕ). decode_granule c.args.columns.now n c.granules.rest.now) (sym c.min.ensures) ∙ read) c.granules.invariant in
-    subst (λ (n : ℕ). with_front c.append.new.self.items (decode_granules c.args.columns.now c.args.size k n c.in_ok-granule.after.now) ≡ total) (sym c.saturating_sub-left.ensures)
-    (subst (λ (rows : List (List Value)). with_front rows (decode_granules c.args.columns.now c.args.size k (c.granules.left - c.args.size) c.in_ok-granule.after.now) ≡ total) (sym c.in_ok-append.ensures.items) next)
+    let made = c.granules.made.items in
+    let new = c.read_columns.new.columns in
+    let here : decode_columns c.granules.made.items (min c.granules.left c.args.size) c.granules.rest.now ≡ Some (c.read_columns.new.columns, c.in_ok-rest.rest.now) =
+    ap (λ (n : ℕ). decode_columns made n c.granules.rest.now) (sym c.min-here.ensures)
+    ∙ (ap (λ (l : List ColumnView). decode_columns l c.min-here.result c.granules.rest.now) (sym c.deref_mut.ensures.value) ∙ c.in_ok-rest.ensures) in
+    let long : length c.read_columns.new.columns ≡ length c.granules.made.items = length-kinds new made (AreLonger.kinds (columns-longer (min c.granules.left c.args.size) made new c.granules.rest.now c.in_ok-rest.rest.now here)) in
+    let n : c.granules.made.len ≡ length c.granules.made.items = search rules in
+    subst (λ (l : List ColumnView). Reads (no_values c.args.columns.now) c.args.size c.args.counts.0 c.args.counts.1 c.args.bytes.now (c.granules.counter + 1) (c.granules.left - c.min-here.result) l c.in_ok-rest.rest.now)
+    (written c.granules.made.len made new long n)
+    (subst (λ (k : ℕ). Reads (no_values c.args.columns.now) c.args.size c.args.counts.0 c.args.counts.1 c.args.bytes.now (c.granules.counter + 1) (c.granules.left - k) new c.in_ok-rest.rest.now) (sym c.min-here.ensures)
+    (granule-read (no_values c.args.columns.now) c.args.size c.args.counts.0 c.args.counts.1 c.args.bytes.now c.granules.counter c.granules.left made new c.granules.rest.now c.in_ok-rest.rest.now c.granules-test.true here c.granules.invariant))
+
+pub returns-clause-kinds : goal.returns-clause-kinds
+returns-clause-kinds c = c.of_columns.ensures.kinds ∙ (c.granules.invariant.kinds ∙ none-kinds c.args.columns.now)

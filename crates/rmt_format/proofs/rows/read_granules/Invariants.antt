@@ -1,9 +1,6 @@
-use Rattle.std.proofs.Common.{◌≡◌, ◌-◌}
-use Rattle.rmt_bytes.proofs.ManyLemmas.{with_front}
-use Rattle.rmt_format.specs.PartDecoding.{decode_granules}
+use Rattle.rmt_columns.specs.RowsByColumn.{no_values}
+use Rattle.rmt_format.proofs.ReadLemmas.{Reads}
 use Rattle.rmt_format.proofs.rows.read_granules.Given as goal
 
 abbrev pub invariant-granules : goal.invariant-granules
-invariant-granules l =
-    with_front l.rows.items (decode_granules l.columns l.size (l.granules - l.counter) l.left l.rest)
-    ≡ decode_granules l.columns l.size l.granules l.count l.bytes
+invariant-granules l = Reads (no_values l.columns) l.size l.granules l.count l.bytes l.counter l.left l.made.items l.rest

@@ -1,6 +1,9 @@
-use Rattle.std.proofs.Common.{◌≡◌, ◌++◌, drop}
-use Rattle.rmt_granules.specs.Granules.{marks_after, marks_of}
+use Rattle.std.proofs.Common.{◌≡◌, ◌++◌, ◌-◌, drop, length}
+use Rattle.rmt_granules.specs.Granules.{marks_of}
 use Rattle.rmt_granules.proofs.index.marks_in.Given as goal
 
-abbrev pub invariant-rows : goal.invariant-rows
-invariant-rows l = l.marks.items ++ marks_after l.passed l.granularity l.key (drop l.row-index l.rows) ≡ marks_of l.granularity l.key l.rows
+abbrev pub invariant-granules : goal.invariant-granules
+invariant-granules l = l.marks.items ++ marks_of l.granularity l.key (drop l.first l.rows.rows) ≡ marks_of l.granularity l.key l.rows.rows
+
+abbrev pub decreases-granules : goal.decreases-granules
+decreases-granules l = length l.rows.rows - l.first

@@ -6,9 +6,9 @@ use Rattle.rmt_play.proofs.insert.insert_rows.Goals as goal
 
 pub insert_blocks-requires-clause-fit : goal.insert_blocks-requires-clause-fit
 insert_blocks-requires-clause-fit c =
-    split-fits c.args.cluster.now.table.schema c.args.rows.items c.in_ok-blocks.blocks.items (subst (λ (s : Shape). IsSplit s c.args.rows.items c.in_ok-blocks.blocks.items) c.schema_of.ensures c.in_ok-blocks.ensures.split) c.requires.fit
+    split-fits c.args.cluster.now.table.schema c.args.rows.rows c.in_ok-blocks.blocks.items (subst (λ (s : Shape). IsSplit s c.args.rows.rows c.in_ok-blocks.blocks.items) c.schema_of.ensures c.in_ok-blocks.ensures.split) c.requires.fit
 
 pub returns-clause-inserts : goal.returns-clause-inserts
 returns-clause-inserts c =
-    inserts-split c.args.cluster.now c.insert_blocks.new.cluster c.args.replica c.args.rows.items c.in_ok-blocks.blocks.items c.in_ok-insertion.insertion.pieces c.in_ok-insertion.insertion.refused
-    (subst (λ (s : Shape). IsSplit s c.args.rows.items c.in_ok-blocks.blocks.items) c.schema_of.ensures c.in_ok-blocks.ensures.split) c.in_ok-insertion.ensures.inserts
+    inserts-split c.args.cluster.now c.insert_blocks.new.cluster c.args.replica c.args.rows.rows c.in_ok-blocks.blocks.items c.in_ok-insertion.insertion.pieces c.in_ok-insertion.insertion.refused
+    (subst (λ (s : Shape). IsSplit s c.args.rows.rows c.in_ok-blocks.blocks.items) c.schema_of.ensures c.in_ok-blocks.ensures.split) c.in_ok-insertion.ensures.inserts

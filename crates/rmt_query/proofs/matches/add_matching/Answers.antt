@@ -1,7 +1,8 @@
-use Rattle.std.proofs.Common.{◌≡◌, ℕ, List, ◌++◌, take, length, sym, ap, subst, ◌∙◌, arith}
+use Rattle.std.proofs.Common.{◌≡◌, ℕ, List, [], ◌++◌, take, length, get_or, sym, ap, subst, ◌∙◌, arith}
 use Rattle.std.specs.List.{filter_map}
 use Rattle.std.specs.Option.{option_to_list}
 use Rattle.std.specs.declared.option.Option.{Option}
+use Rattle.rmt_names.specs.Names.{Name}
 use Rattle.rmt_granules.specs.Granules.{PartView}
 use Rattle.rmt_model.specs.Content.{Row}
 use Rattle.rmt_changes.specs.Changes.{entries_of}
@@ -31,7 +32,7 @@ rows-preserved-in_default c =
     let long : length c.deref.result.now.rows ≡ length c.args.part.now.rows.rows = ap (λ (d : PartView). length d.rows) same in
     let bound = c.in_ok-first.ensures.bound in
     row-none (matches c.args.filter.now) (row_read (entries_of c.args.pending.now) c.args.part.now.name) c.args.part.now.rows.rows c.rows.rows.items c.args.rows.now.items c.rows.i (omega (arith, long, bound)) c.rows.invariant
-    (ap (λ (o : Option Row). option_to_list o) (sym c.in_default.is) ∙ c.in_ok-row.ensures)
+    (ap (λ (o : Option Row). option_to_list o) (sym c.in_default.is) ∙ (c.in_ok-row.ensures ∙ ap (λ (o : Option Row). matching c.args.filter.now (option_to_list o)) (subst (λ (n : Name). row_read (entries_of c.pending_for-due.result.now) n (get_or c.args.part.now.rows.rows c.rows.i []) ≡ row_read (entries_of c.args.pending.now) n (get_or c.args.part.now.rows.rows c.rows.i [])) c.name.ensures (c.pending_for-due.ensures (get_or c.args.part.now.rows.rows c.rows.i [])))))
 
 pub rows-preserved : goal.rows-preserved
 rows-preserved c =
@@ -39,7 +40,7 @@ rows-preserved c =
     let long : length c.deref.result.now.rows ≡ length c.args.part.now.rows.rows = ap (λ (d : PartView). length d.rows) same in
     let bound = c.in_ok-first.ensures.bound in
     row-one (matches c.args.filter.now) (row_read (entries_of c.args.pending.now) c.args.part.now.name) c.args.part.now.rows.rows c.rows.rows.items c.args.rows.now.items c.push.new.self.items c.rows.i c.in-Some.row (omega (arith, long, bound)) c.rows.invariant
-    (ap (λ (o : Option Row). option_to_list o) (sym c.in-Some.is) ∙ c.in_ok-row.ensures) c.in_ok-push.ensures.items
+    (ap (λ (o : Option Row). option_to_list o) (sym c.in-Some.is) ∙ (c.in_ok-row.ensures ∙ ap (λ (o : Option Row). matching c.args.filter.now (option_to_list o)) (subst (λ (n : Name). row_read (entries_of c.pending_for-due.result.now) n (get_or c.args.part.now.rows.rows c.rows.i []) ≡ row_read (entries_of c.args.pending.now) n (get_or c.args.part.now.rows.rows c.rows.i [])) c.name.ensures (c.pending_for-due.ensures (get_or c.args.part.now.rows.rows c.rows.i []))))) c.in_ok-push.ensures.items
 
 pub returns : goal.returns
 returns c =

@@ -5,4 +5,4 @@ use Rattle.rmt_block.proofs.block.Block.new.Goals as goal
 
 pub of_kinds-requires-clause-fit : goal.of_kinds-requires-clause-fit
 of_kinds-requires-clause-fit c =
-    RowsFit-kinds_of c.args.schema.now.columns c.in_ok-kinds.kinds.items c.args.rows.items (c.in_ok-kinds.ensures ∙ ap kinds_of c.columns.ensures.value) c.requires.fit
+    RowsFit-kinds_of c.args.schema.now.columns c.in_ok-kinds.kinds.items c.args.rows.rows (c.in_ok-kinds.ensures ∙ ap kinds_of c.columns.ensures.value) c.requires.fit

@@ -1,0 +1,7 @@
+use Rattle.std.proofs.Common.{◌≡◌, drop, nat_lt}
+use Rattle.rmt_model.specs.Content.{Row}
+use Rattle.rmt_changes.proofs.TokenOrder.{forward}
+use Rattle.rmt_changes.proofs.pending.is_pending.Given as goal
+
+abbrev pub invariant-tokens : goal.invariant-tokens
+invariant-tokens l = (row : Row) → forward l.partition (nat_lt l.low) l.tokens row ≡ forward l.partition (nat_lt l.low) (drop l.token-index l.tokens) row

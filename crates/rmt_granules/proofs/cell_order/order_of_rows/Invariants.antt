@@ -1,6 +1,0 @@
-use Rattle.std.proofs.Common.{◌≡◌, drop}
-use Rattle.rmt_granules.specs.Places.{cells_cmp}
-use Rattle.rmt_granules.proofs.cell_order.order_of_rows.Given as goal
-
-abbrev pub invariant-columns : goal.invariant-columns
-invariant-columns l = cells_cmp l.key l.left l.i l.right l.j ≡ cells_cmp (drop l.column-index l.key) l.left l.i l.right l.j
