@@ -10,6 +10,7 @@ use Rattle.rmt_values.specs.declared.column.Column.{Column}
 use Rattle.rmt_values.specs.declared.kind.Kind.{Kind}
 use Rattle.rmt_columns.specs.Columns.{ColumnView}
 use Rattle.rmt_columns.specs.RowsByColumn.{beside, blank_rows, rows_of, kinds_of, kinds_in, AreLong, AreBegun, begun_of, rows_begun, BegunView, no_values}
+use Rattle.rmt_columns.proofs.PlacesLemmas.{some-there}
 
 -- ---- how long
 
@@ -27,11 +28,6 @@ pub length-begun_rows : (n b : ℕ) (cs : List ColumnView) → AreBegun n b cs �
 length-begun_rows n b [] h = length-blank n
 length-begun_rows n zero (c ∷ cs) h = let r = length-begun_rows n zero cs h.1 in let w = h.0 in length-cut c.values (rows_of n cs) (omega (arith, r, w)) ∙ r
 length-begun_rows n (suc b) (c ∷ cs) h = let r = length-begun_rows n b cs h.1 in let w = h.0 in length-cut c.values (rows_of n cs) (omega (arith, r, w)) ∙ r
-
-some-there : (xs : List Value) (i : ℕ) → i < length xs → length (option_to_list (slice_get xs i)) ≡ 1
-some-there [] i h = absurd (omega (arith, h))
-some-there (x ∷ xs) zero h = refl
-some-there (x ∷ xs) (suc i) h = some-there xs i (omega (arith, h))
 
 pub length-begun : (n b : ℕ) (cs : List ColumnView) → AreBegun n b cs → length (begun_of n b cs) ≡ b
 length-begun n zero cs h = refl

@@ -1,4 +1,5 @@
 pub mod BuilderLemmas
+pub mod LeadLemmas
 pub mod OrderLemmas
 pub mod PlacesLemmas
 pub mod RowsLemmas

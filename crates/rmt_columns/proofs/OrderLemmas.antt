@@ -8,11 +8,9 @@ use Rattle.std.specs.Ordering.{is_gt}
 use Rattle.std.specs.Cmp.{IsTotalOrder}
 use Rattle.rmt_values.specs.Order.{sink, in_order}
 use Rattle.rmt_values.specs.Rows.{AllBelow}
+use Rattle.rmt_columns.specs.Leading.{pulled}
 use Rattle.rmt_columns.specs.Places.{at_places, numbers_from}
-
--- an order by what a function shows
-abbrev pub pulled : {X Y : Type 0} → (Y → X) → (X → X → Ordering) → Y → Y → Ordering
-pulled f cmp p q = cmp (f p) (f q)
+use Rattle.rmt_columns.proofs.PlacesLemmas.{append-next}
 
 pub pulled-total : {X Y : Type 0} (f : Y → X) (cmp : X → X → Ordering) → IsTotalOrder cmp → IsTotalOrder (pulled f cmp)
 pulled-total f cmp o = record {
@@ -39,10 +37,6 @@ pub numbers-step : (some all : List ℕ) (i n : ℕ) → i < n → some ++ numbe
 numbers-step some all i n h e =
     let k : n - i ≡ suc (n - (i + 1)) = omega (arith, h) in
     append-next some i (numbers_from (i + 1) (n - (i + 1))) ∙ (ap (λ (m : ℕ). some ++ numbers_from i m) (sym k) ∙ e)
-  where
-    append-next : (some : List ℕ) (x : ℕ) (more : List ℕ) → (some ++ x ∷ []) ++ more ≡ some ++ x ∷ more
-    append-next [] x more = refl
-    append-next (y ∷ ys) x more = ap (λ (l : List ℕ). y ∷ l) (append-next ys x more)
 
 pub numbers-done : (some all : List ℕ) (i n : ℕ) → n ≤ i → some ++ numbers_from i (n - i) ≡ all → some ≡ all
 numbers-done some all i n h e =
@@ -84,15 +78,11 @@ all-shown before [] all d i (suc n) e f g = absurd (omega (arith, g))
 all-shown before (x ∷ xs) all d i zero e f g = absurd (omega (arith, g))
 all-shown {X} before (x ∷ xs) all d i (suc n) e f g =
     ap (λ (y : X). y ∷ map (λ k. get_or all k d) (numbers_from (i + 1) n)) (ap (λ (l : List X). get_or l i d) e ∙ (ap (λ (k : ℕ). get_or (before ++ x ∷ xs) k d) f ∙ seam before))
-    ∙ ap (λ (l : List X). x ∷ l) (all-shown (before ++ x ∷ []) xs all d (i + 1) n (e ∙ sym (append-next before)) (let l = length-more before in omega (arith, f, l)) (omega (arith, g)))
+    ∙ ap (λ (l : List X). x ∷ l) (all-shown (before ++ x ∷ []) xs all d (i + 1) n (e ∙ sym (append-next before x xs)) (let l = length-more before in omega (arith, f, l)) (omega (arith, g)))
   where
     seam : (b : List X) → get_or (b ++ x ∷ xs) (length b) d ≡ x
     seam [] = refl
     seam (y ∷ ys) = seam ys
-
-    append-next : (b : List X) → (b ++ x ∷ []) ++ xs ≡ b ++ x ∷ xs
-    append-next [] = refl
-    append-next (y ∷ ys) = ap (λ (l : List X). y ∷ l) (append-next ys)
 
     length-more : (b : List X) → length (b ++ x ∷ []) ≡ length b + 1
     length-more [] = refl

@@ -16,9 +16,14 @@ drop-next [] k x h e = absurd (omega (arith, h))
 drop-next {X} (y ∷ ys) zero x h e = ap (λ (z : X). z ∷ ys) (sym e)
 drop-next (y ∷ ys) (suc k) x h e = let n : suc k + 1 ≡ suc (k + 1) = omega arith in rw n (drop-next ys k x (omega (arith, h)) e)
 
-append-next : {X : Type 0} (some : List X) (x : X) (more : List X) → (some ++ x ∷ []) ++ more ≡ some ++ x ∷ more
+pub append-next : {X : Type 0} (some : List X) (x : X) (more : List X) → (some ++ x ∷ []) ++ more ≡ some ++ x ∷ more
 append-next [] x more = refl
 append-next {X} (y ∷ ys) x more = ap (λ (l : List X). y ∷ l) (append-next ys x more)
+
+pub some-there : {X : Type 0} (xs : List X) (i : ℕ) → i < length xs → length (option_to_list (slice_get xs i)) ≡ 1
+some-there [] i h = absurd (omega (arith, h))
+some-there (x ∷ xs) zero h = refl
+some-there (x ∷ xs) (suc i) h = some-there xs i (omega (arith, h))
 
 -- a loop that gathers has gathered the elements up to a place of places
 pub record Gathers {X : Type 0} (xs all some : List X) (rest : List ℕ) : Type 0 where

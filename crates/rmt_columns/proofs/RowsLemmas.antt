@@ -14,6 +14,7 @@ use Rattle.rmt_values.specs.Rows.{AllBelow, fits, is_of, same_kind, is_value, ki
 use Rattle.rmt_columns.specs.Columns.{ColumnView}
 use Rattle.rmt_columns.specs.Places.{at_places}
 use Rattle.rmt_columns.specs.RowsByColumn.{beside, blank_rows, rows_of, kinds_of, kinds_in, AreLong, RowsView, rows_held, row_at, cell_in, cells_cmp}
+use Rattle.rmt_columns.proofs.PlacesLemmas.{some-there}
 
 length-blank_rows : (n : ℕ) → length (blank_rows n) ≡ n
 length-blank_rows zero = refl
@@ -171,11 +172,6 @@ rows-at n [] is l b = at-blank n is b
 rows-at n (c ∷ cs) is l b =
     ap (λ (rs : List (List Value)). beside (at_places c.values is) rs) (rows-at n cs is l.1 b)
     ∙ at-beside n c.values (rows_of n cs) is l.0 (length-rows_of n cs l.1) b
-
-some-there : {X : Type 0} (xs : List X) (i : ℕ) → i < length xs → length (option_to_list (slice_get xs i)) ≡ 1
-some-there [] i h = absurd (omega (arith, h))
-some-there (x ∷ xs) zero h = refl
-some-there (x ∷ xs) (suc i) h = some-there xs i (omega (arith, h))
 
 pub length-at : {X : Type 0} (xs : List X) (is : List ℕ) → AllBelow (length xs) is → length (at_places xs is) ≡ length is
 length-at xs [] b = refl

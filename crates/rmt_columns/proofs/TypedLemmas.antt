@@ -10,25 +10,25 @@ use Rattle.rmt_values.specs.declared.kind.Kind.TheVariants as kinds
 use Rattle.rmt_values.specs.Rows.{kind_of}
 use Rattle.rmt_columns.specs.Columns.{ColumnView}
 use Rattle.rmt_columns.specs.Places.{at_places}
-use Rattle.rmt_columns.specs.RowsByColumn.{beside, blank_rows, rows_of, kinds_of, AreOf, AreTyped, HaveKinds, no_values}
+use Rattle.rmt_columns.specs.RowsByColumn.{beside, blank_rows, rows_of, kinds_of, AreOfKind, AreTyped, HaveKinds, no_values}
 use Rattle.rmt_columns.proofs.BuilderLemmas.{pushed}
 use Rattle.rmt_columns.proofs.RowsLemmas.{columns_at}
 
-pub unsigned-typed : (ns : List ℕ) → AreOf kinds.UInt64 (map (λ n. UInt n) ns)
+pub unsigned-typed : (ns : List ℕ) → AreOfKind kinds.UInt64 (map (λ n. UInt n) ns)
 unsigned-typed [] = tt
 unsigned-typed (n ∷ ns) = (refl, unsigned-typed ns)
 
-pub signed-typed : (zs : List ℤ) → AreOf kinds.Int64 (map (λ z. Int z) zs)
+pub signed-typed : (zs : List ℤ) → AreOfKind kinds.Int64 (map (λ z. Int z) zs)
 signed-typed [] = tt
 signed-typed (z ∷ zs) = (refl, signed-typed zs)
 
-pub texts-typed : (ts : List (List ℕ)) → AreOf kinds.Text (map (λ t. Text t) ts)
+pub texts-typed : (ts : List (List ℕ)) → AreOfKind kinds.Text (map (λ t. Text t) ts)
 texts-typed [] = tt
 texts-typed (t ∷ ts) = (refl, texts-typed ts)
 
 -- ---- one more value
 
-push-typed : (k : Kind) (vs : List Value) (v : Value) → AreOf k vs → kind_of v ≡ k → AreOf k (vs ++ v ∷ [])
+push-typed : (k : Kind) (vs : List Value) (v : Value) → AreOfKind k vs → kind_of v ≡ k → AreOfKind k (vs ++ v ∷ [])
 push-typed k [] v a e = (e, tt)
 push-typed k (w ∷ ws) v a e = (a.0, push-typed k ws v a.1 e)
 
@@ -43,12 +43,12 @@ none-typed (c ∷ cs) = (tt, none-typed cs)
 
 -- ---- values at places
 
-one-typed : (k : Kind) (vs : List Value) (i : ℕ) (ws : List Value) → AreOf k vs → AreOf k ws → AreOf k (option_to_list (slice_get vs i) ++ ws)
+one-typed : (k : Kind) (vs : List Value) (i : ℕ) (ws : List Value) → AreOfKind k vs → AreOfKind k ws → AreOfKind k (option_to_list (slice_get vs i) ++ ws)
 one-typed k [] i ws a b = b
 one-typed k (v ∷ vs) zero ws a b = (a.0, b)
 one-typed k (v ∷ vs) (suc i) ws a b = one-typed k vs i ws a.1 b
 
-pub at-typed : (k : Kind) (vs : List Value) (is : List ℕ) → AreOf k vs → AreOf k (at_places vs is)
+pub at-typed : (k : Kind) (vs : List Value) (is : List ℕ) → AreOfKind k vs → AreOfKind k (at_places vs is)
 at-typed k vs [] a = tt
 at-typed k vs (i ∷ is) a = one-typed k vs i (at_places vs is) a (at-typed k vs is a)
 
@@ -62,7 +62,7 @@ blank-kinds : (n : ℕ) → HaveKinds [] (blank_rows n)
 blank-kinds zero = tt
 blank-kinds (suc n) = (refl, blank-kinds n)
 
-beside-kinds : (k : Kind) (ks : List Kind) (vs : List Value) (rs : List (List Value)) → AreOf k vs → HaveKinds ks rs → HaveKinds (k ∷ ks) (beside vs rs)
+beside-kinds : (k : Kind) (ks : List Kind) (vs : List Value) (rs : List (List Value)) → AreOfKind k vs → HaveKinds ks rs → HaveKinds (k ∷ ks) (beside vs rs)
 beside-kinds k ks [] rs a h = tt
 beside-kinds k ks (v ∷ vs) [] a h = tt
 beside-kinds k ks (v ∷ vs) (r ∷ rs) a h = (ap (λ (x : Kind). x ∷ map kind_of r) a.0 ∙ ap (λ (l : List Kind). k ∷ l) h.0, beside-kinds k ks vs rs a.1 h.1)

@@ -1,4 +1,5 @@
 pub mod Columns
+pub mod Leading
 pub mod Lying
 pub mod Places
 pub mod RowsByColumn

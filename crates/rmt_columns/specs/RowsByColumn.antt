@@ -52,14 +52,14 @@ AreLong n [] = Unit {0}
 AreLong n (c ∷ cs) = (length c.values ≡ n) × AreLong n cs
 
 -- each value is of this type
-abbrev pub AreOf : Kind → List Value → Type 0
-AreOf kind [] = Unit {0}
-AreOf kind (v ∷ vs) = (kind_of v ≡ kind) × AreOf kind vs
+abbrev pub AreOfKind : Kind → List Value → Type 0
+AreOfKind kind [] = Unit {0}
+AreOfKind kind (v ∷ vs) = (kind_of v ≡ kind) × AreOfKind kind vs
 
 -- the values of each column are of its type
 abbrev pub AreTyped : List ColumnView → Type 0
 AreTyped [] = Unit {0}
-AreTyped (c ∷ cs) = AreOf c.kind c.values × AreTyped cs
+AreTyped (c ∷ cs) = AreOfKind c.kind c.values × AreTyped cs
 
 -- each row has a value of each of these types
 abbrev pub HaveKinds : List Kind → List (List Value) → Type 0

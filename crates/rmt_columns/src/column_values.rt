@@ -1,9 +1,12 @@
-ghost use Rattle.std.specs.Prelude.{◌≡◌, [], ◌∷◌, ◌++◌, ℕ, length, slice_get, IfOk, OnOk, OnErr};
+ghost use Rattle.std.specs.Prelude.{◌≡◌, [], ◌∷◌, ◌++◌, ℕ, map, length, slice_get, IfOk, IfSome, OnOk, OnErr};
 ghost use Rattle.std.specs.Option.{option_map};
+ghost use Rattle.std.specs.declared.option.Option.TheVariants.{None};
+ghost use Rattle.rmt_values.specs.declared.kind.Kind.TheVariants.{UInt64};
+ghost use Rattle.rmt_values.specs.declared.value.Value.TheVariants.{UInt};
 ghost use Rattle.rmt_values.specs.Rows.{AllBelow, kind_of, cell_cmp};
 ghost use Rattle.rmt_columns.specs.Columns.{value_of};
 ghost use Rattle.rmt_columns.specs.Places.{at_places};
-ghost use Rattle.rmt_columns.specs.RowsByColumn.{AreOf};
+ghost use Rattle.rmt_columns.specs.RowsByColumn.{AreOfKind};
 
 use crate::texts::Texts;
 use crate::value_ref::ValueRef;
@@ -68,12 +71,23 @@ impl ColumnValues {
     /// How many values there are.
     pub fn len(&self) -> usize
         ensures count { result ≡ length self.now.values }
-        ensures typed { AreOf self.now.kind self.now.values }
+        ensures typed { AreOfKind self.now.kind self.now.values }
     {
         match &self.stored {
             Stored::Unsigned(all) => all.len(),
             Stored::Signed(all) => all.len(),
             Stored::Texts(all) => all.len(),
+        }
+    }
+
+    /// The numbers of a column of UInt64, in the order of the rows; none where the column has another type.
+    pub fn unsigned(&self) -> Option<&[u64]>
+        ensures some { IfSome result (λ numbers. self.now.values ≡ map (λ n. UInt n) numbers.now) }
+        ensures none { result ≡ None → self.now.kind ≡ UInt64 → ⊥ }
+    {
+        match &self.stored {
+            Stored::Unsigned(all) => Some(all),
+            Stored::Signed(_) | Stored::Texts(_) => None,
         }
     }
 

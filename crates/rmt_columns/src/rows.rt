@@ -5,6 +5,7 @@ ghost use Rattle.std.specs.declared.option.Option.TheVariants.{None};
 ghost use Rattle.rmt_values.specs.Order.{in_order};
 ghost use Rattle.rmt_values.specs.Rows.{AllBelow, fits, key_cmp};
 ghost use Rattle.rmt_columns.specs.Columns.{value_of};
+ghost use Rattle.rmt_columns.specs.Leading.{AreLeading, led, pulled};
 ghost use Rattle.rmt_columns.specs.Places.{at_places};
 ghost use Rattle.rmt_columns.specs.RowsByColumn.{AreLong, AreTyped, HaveKinds, kinds_in, kinds_of, rows_of};
 
@@ -119,7 +120,10 @@ impl Rows {
         requires { other.now.kinds ≡ self.now.kinds }
         ensures { result ≡ key_cmp key.now (get_or self.now.rows i []) (get_or other.now.rows j []) }
     {
-        order_of_rows(key, &self.columns, i, &other.columns, j)
+        match (self.leading_numbers(key), other.leading_numbers(key)) {
+            (Some(left), Some(right)) => self.order_led(key, left, i, other, right, j),
+            (Some(_), None) | (None, Some(_)) | (None, None) => self.order_by_all(key, i, other, j),
+        }
     }
 
     /// The places of the rows, counted from 0, in the order of the rows by their values in these columns; rows that are equal
@@ -128,9 +132,9 @@ impl Rows {
         ensures order { IfOk result (λ places. at_places self.now.rows places.items ≡ in_order (key_cmp key.now) self.now.rows) }
         ensures there { IfOk result (λ places. AllBelow (length self.now.rows) places.items) }
     {
-        let mut places = places_to(alloc, self.count)?;
-        places.sort_by(|i, j| self.order(key, *i, self, *j))?;
-        Ok(places)
+        let places = places_to(alloc, self.count)?;
+        let sorted = self.sorted(key, places)?;
+        Ok(sorted)
     }
 
     /// Returns a copy.
@@ -146,6 +150,85 @@ impl Rows {
             columns,
             count: self.count,
         })
+    }
+
+    /// The numbers of the first of these columns, where there is one and its type is UInt64: rows are ordered by them first.
+    fn leading_numbers(&self, key: &[u16]) -> Option<&[u64]>
+        ensures { IfSome result (λ numbers. AreLeading key.now self.now.rows numbers.now) }
+    {
+        if key.is_empty() {
+            return None;
+        }
+        let first = key[0] as usize;
+        if first >= self.columns.len() {
+            return None;
+        }
+        self.columns[first].unsigned()
+    }
+
+    /// What `order` says, where the numbers of the first column are at hand: the other columns are read only where these are
+    /// equal.
+    fn order_led(
+        &self,
+        key: &[u16],
+        left: &[u64],
+        i: usize,
+        other: &Rows,
+        right: &[u64],
+        j: usize,
+    ) -> Ordering
+        requires { other.now.kinds ≡ self.now.kinds }
+        ensures { result ≡ led (slice_get left.now i) (slice_get right.now j) (key_cmp key.now (get_or self.now.rows i []) (get_or other.now.rows j [])) }
+    {
+        match (left.get(i), right.get(j)) {
+            (Some(a), Some(b)) => match a.cmp(b) {
+                Ordering::Equal => self.order_by_all(key, i, other, j),
+                unequal => unequal,
+            },
+            (Some(_), None) | (None, Some(_)) | (None, None) => self.order_by_all(key, i, other, j),
+        }
+    }
+
+    /// What `order` says, value by value.
+    fn order_by_all(&self, key: &[u16], i: usize, other: &Rows, j: usize) -> Ordering
+        requires { other.now.kinds ≡ self.now.kinds }
+        ensures { result ≡ key_cmp key.now (get_or self.now.rows i []) (get_or other.now.rows j []) }
+    {
+        order_of_rows(key, &self.columns, i, &other.columns, j)
+    }
+
+    /// The places in the order of the rows there.
+    fn sorted(&self, key: &[u16], places: Vec<usize>) -> Result<Vec<usize>, AllocError>
+        ensures { IfOk result (λ sorted. sorted.items ≡ in_order (pulled (λ i. get_or self.now.rows i []) (key_cmp key.now)) places.items) }
+    {
+        match self.leading_numbers(key) {
+            Some(numbers) => self.sorted_by_numbers(key, numbers, places),
+            None => self.sorted_by_all(key, places),
+        }
+    }
+
+    /// What `sorted` says, value by value.
+    fn sorted_by_all(&self, key: &[u16], places: Vec<usize>) -> Result<Vec<usize>, AllocError>
+        ensures { IfOk result (λ sorted. sorted.items ≡ in_order (pulled (λ i. get_or self.now.rows i []) (key_cmp key.now)) places.items) }
+    {
+        let mut sorted = places;
+        sorted.sort_by(|i, j| self.order_by_all(key, *i, self, *j))?;
+        Ok(sorted)
+    }
+
+    /// What `sorted` says, where the numbers of the first column are at hand.
+    fn sorted_by_numbers(
+        &self,
+        key: &[u16],
+        numbers: &[u64],
+        places: Vec<usize>,
+    ) -> Result<Vec<usize>, AllocError>
+        requires { AreLeading key.now self.now.rows numbers.now }
+        ensures { IfOk result (λ sorted. sorted.items ≡ in_order (pulled (λ i. get_or self.now.rows i []) (key_cmp key.now)) places.items) }
+    {
+        let mut sorted = places;
+        sorted.sort_by(|i, j| self.order_led(key, numbers, *i, self, numbers, *j))?;
+        Ok(sorted)
     }
 
     /// The rows at these places, counted from 0, in the order of the places.

@@ -13,7 +13,7 @@ use Rattle.rmt_bytes.specs.Decoding.{decode_kind, decode_value}
 use Rattle.rmt_bytes.proofs.Codes.{◌>>=◌}
 use Rattle.rmt_bytes.proofs.ValueCodes.{typed_code}
 use Rattle.rmt_columns.specs.Columns.{ColumnView}
-use Rattle.rmt_columns.specs.RowsByColumn.{AreOf, no_values}
+use Rattle.rmt_columns.specs.RowsByColumn.{AreOfKind, no_values}
 use Rattle.rmt_granules.specs.Places.{cells_of, columns_from}
 use Rattle.rmt_granules.proofs.ColumnLemmas.{divided}
 use Rattle.rmt_format.specs.PartBytes.{AreInRange, column_of, columns_bytes, granules_bytes}
@@ -35,7 +35,7 @@ with-values : (c : ColumnView) (us vs : List Value) (rest : List ℕ) → us ≡
 with-values c us vs rest e = ap (λ (l : List Value). Some (record c { values = l }, rest)) e
 
 -- the values of a column are decoded from their bytes, whatever the rest is
-cells-again : (c : ColumnView) (vs : List Value) (rest : List ℕ) → AreOf c.kind vs → AllByRecursion IsInRange vs
+cells-again : (c : ColumnView) (vs : List Value) (rest : List ℕ) → AreOfKind c.kind vs → AllByRecursion IsInRange vs
     → decode_cells c (length vs) (flat_map value_bytes vs ++ rest) ≡ Some (record c { values = c.values ++ vs }, rest)
 cells-again c [] rest t h = with-values c c.values (c.values ++ []) rest (sym (append-nil c.values))
 cells-again c (v ∷ vs) rest t h =

@@ -13,7 +13,7 @@ use Rattle.rmt_bytes.proofs.Codes.{◌>>=◌}
 use Rattle.rmt_bytes.proofs.CodeLemmas.{bind_some, mapped_some}
 use Rattle.rmt_columns.specs.Columns.{ColumnView}
 use Rattle.rmt_columns.proofs.TypedLemmas.{none-typed}
-use Rattle.rmt_columns.specs.RowsByColumn.{kinds_of, kinds_in, no_values, AreLong, AreOf, AreTyped}
+use Rattle.rmt_columns.specs.RowsByColumn.{kinds_of, kinds_in, no_values, AreLong, AreOfKind, AreTyped}
 use Rattle.rmt_format.specs.PartDecoding.{decode_cells, decode_columns, decode_granules}
 use Rattle.std.specs.Int.{w64}
 use Rattle.std.proofs.lemmas.Option.{some_pair_parts}
@@ -30,9 +30,9 @@ value-kind kinds.Text bytes v rest e = let m = mapped_some Text (decode_text byt
 pub record IsLonger (n : ℕ) (old new : ColumnView) : Type 0 where
   pub kind : new.kind ≡ old.kind
   pub long : length new.values ≡ length old.values + n
-  pub typed : AreOf old.kind old.values → AreOf new.kind new.values
+  pub typed : AreOfKind old.kind old.values → AreOfKind new.kind new.values
 
-one-typed : (k : Kind) (vs : List Value) (v : Value) → AreOf k vs → kind_of v ≡ k → AreOf k (vs ++ v ∷ [])
+one-typed : (k : Kind) (vs : List Value) (v : Value) → AreOfKind k vs → kind_of v ≡ k → AreOfKind k (vs ++ v ∷ [])
 one-typed k [] v a e = (e, tt)
 one-typed k (w ∷ ws) v a e = (a.0, one-typed k ws v a.1 e)
 

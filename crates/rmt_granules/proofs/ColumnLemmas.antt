@@ -11,7 +11,7 @@ use Rattle.rmt_values.specs.declared.column.Column.{Column}
 use Rattle.rmt_values.specs.declared.kind.Kind.{Kind}
 use Rattle.rmt_values.specs.Rows.{fits, is_of, kind_of, kind_at}
 use Rattle.rmt_columns.specs.Columns.{ColumnView}
-use Rattle.rmt_columns.specs.RowsByColumn.{beside, blank_rows, rows_of, kinds_of, kinds_in, AreLong, AreOf, AreTyped}
+use Rattle.rmt_columns.specs.RowsByColumn.{beside, blank_rows, rows_of, kinds_of, kinds_in, AreLong, AreOfKind, AreTyped}
 use Rattle.rmt_columns.proofs.RowsLemmas.{kinds-fit}
 use Rattle.rmt_granules.specs.Granules.{PartView}
 use Rattle.rmt_granules.specs.declared.place.Place.{Place}
@@ -27,7 +27,7 @@ head-kind c cs v vs h = let e = kinds-fit (c ∷ cs) (v ∷ vs) h in cc
 pub record Divided (at : ℕ) (c : Column) (cs : List Column) (rows : List (List Value)) : Type 0 where
   pub even : length (cells_of at rows) ≡ length rows
   pub is : beside (cells_of at rows) (map (drop (suc at)) rows) ≡ map (drop at) rows
-  pub typed : AreOf c.kind (cells_of at rows)
+  pub typed : AreOfKind c.kind (cells_of at rows)
   pub fit : AllByRecursion (λ row. fits cs (drop (suc at) row) ≡ true) rows
 
 -- the first value of a row from one on
@@ -65,7 +65,7 @@ divided at c cs (row ∷ rows) h =
       is = ap (λ (l : List Value). beside l (map (drop (suc at)) (row ∷ rows))) cells
           ∙ (ap (λ (r : List Value). r ∷ beside (cells_of at rows) (map (drop (suc at)) rows)) f.is
           ∙ ap (λ (l : List (List Value)). drop at row ∷ l) d.is);
-      typed = subst (AreOf c.kind) (sym cells) (f.typed, d.typed);
+      typed = subst (AreOfKind c.kind) (sym cells) (f.typed, d.typed);
       fit = (f.fit, d.fit);
     }
 

@@ -10,7 +10,7 @@ use Rattle.rmt_values.specs.declared.kind.Kind.{Kind}
 use Rattle.rmt_values.specs.declared.kind.Kind.TheVariants as kinds
 use Rattle.rmt_values.specs.Rows.{fits, is_of, same_kind, is_value, kind_of}
 use Rattle.rmt_columns.specs.Columns.{ColumnView}
-use Rattle.rmt_columns.specs.RowsByColumn.{beside, blank_rows, rows_of, kinds_of, kinds_in, AreLong, AreOf, AreTyped}
+use Rattle.rmt_columns.specs.RowsByColumn.{beside, blank_rows, rows_of, kinds_of, kinds_in, AreLong, AreOfKind, AreTyped}
 use Rattle.rmt_columns.proofs.RowsLemmas.{length-rows_of}
 
 -- each value of the column is one
@@ -28,7 +28,7 @@ of-kind kinds.Text (UInt n) e h = absurd (cc)
 of-kind kinds.Text (Int z) e h = absurd (cc)
 of-kind kinds.Text (Text t) e h = h
 
-beside-fit : (k : Column) (ks : List Column) (vs : List Value) (rs : List (List Value)) → AreOf k.kind vs → AllByRecursion (λ v. is_value v ≡ true) vs
+beside-fit : (k : Column) (ks : List Column) (vs : List Value) (rs : List (List Value)) → AreOfKind k.kind vs → AllByRecursion (λ v. is_value v ≡ true) vs
     → AllByRecursion (λ row. fits ks row ≡ true) rs → AllByRecursion (λ row. fits (k ∷ ks) row ≡ true) (beside vs rs)
 beside-fit k ks [] rs t h f = tt
 beside-fit k ks (v ∷ vs) [] t h f = tt
@@ -44,7 +44,7 @@ columns-fit [] n (c ∷ cs) e t h = absurd (cc)
 columns-fit (k ∷ ks) n [] e t h = absurd (cc)
 columns-fit (k ∷ ks) n (c ∷ cs) e t h =
     let here : c.kind ≡ k.kind = cc in
-    beside-fit k ks c.values (rows_of n cs) (subst (λ (x : Kind). AreOf x c.values) here t.0) h.0 (columns-fit ks n cs (cc) t.1 h.1)
+    beside-fit k ks c.values (rows_of n cs) (subst (λ (x : Kind). AreOfKind x c.values) here t.0) h.0 (columns-fit ks n cs (cc) t.1 h.1)
 
 -- the rows fit, where each value of their columns is one
 pub rows-fit : (ks : List Column) (n : ℕ) (cs : List ColumnView) (rows : List (List Value)) → rows_of n cs ≡ rows → kinds_of cs ≡ kinds_in ks → AreTyped cs → AllByRecursion AreValues cs → All (λ row. fits ks row ≡ true) rows
@@ -82,7 +82,7 @@ fit-values ks n cs rows i c is e l h p q =
     element AreValues cs i c p q (columns-values ks n cs e l (recursion_from_All (λ row. fits ks row ≡ true) (rows_of n cs) (subst (All (λ row. fits ks row ≡ true)) (sym is) h)))
 
 -- numbers are values
-pub numbers-values : (k : Kind) (vs : List Value) → AreOf k vs → (k ≡ kinds.Text → ⊥) → AllByRecursion (λ v. is_value v ≡ true) vs
+pub numbers-values : (k : Kind) (vs : List Value) → AreOfKind k vs → (k ≡ kinds.Text → ⊥) → AllByRecursion (λ v. is_value v ≡ true) vs
 numbers-values k [] a h = tt
 numbers-values k (UInt n ∷ vs) a h = (refl, numbers-values k vs a.1 h)
 numbers-values k (Int z ∷ vs) a h = (refl, numbers-values k vs a.1 h)
@@ -93,7 +93,7 @@ number-kind k (inl e) t = cc
 number-kind k (inr e) t = cc
 
 -- the values of a column are of its type
-pub typed-at : (cs : List ColumnView) (i : ℕ) (c : ColumnView) → AreTyped cs → i < length cs → c ≡ get_or cs i c → AreOf c.kind c.values
+pub typed-at : (cs : List ColumnView) (i : ℕ) (c : ColumnView) → AreTyped cs → i < length cs → c ≡ get_or cs i c → AreOfKind c.kind c.values
 typed-at [] i c t h e = absurd (omega (arith, h))
-typed-at (x ∷ xs) zero c t h e = subst (λ (d : ColumnView). AreOf d.kind d.values) (sym e) t.0
+typed-at (x ∷ xs) zero c t h e = subst (λ (d : ColumnView). AreOfKind d.kind d.values) (sym e) t.0
 typed-at (x ∷ xs) (suc i) c t h e = typed-at xs i c t.1 (omega (arith, h)) e

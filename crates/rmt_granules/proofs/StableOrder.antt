@@ -15,7 +15,8 @@ use Rattle.std.specs.Cmp.{IsTotalOrder}
 use Rattle.std.specs.List.Sorted.{ties}
 use Rattle.rmt_values.specs.Order.{sink, in_order}
 use Rattle.rmt_values.proofs.Sorting.{Low, Up, Up-in_order, filter-in_order, same_from_ties}
-use Rattle.rmt_columns.proofs.OrderLemmas.{pulled, pulled-total}
+use Rattle.rmt_columns.specs.Leading.{pulled}
+use Rattle.rmt_columns.proofs.OrderLemmas.{pulled-total}
 
 module _ {X : Type 0} (cmp : X → X → Ordering) (o : IsTotalOrder cmp) where
   abbrev less : X → X → Bool

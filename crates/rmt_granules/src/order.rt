@@ -3,7 +3,7 @@ ghost use Rattle.std.specs.Prelude.{◌≡◌, ◌↔◌, IsTrue, true, IfOk};
 ghost use Rattle.std.specs.List.{All, AllByRecursion};
 ghost use Rattle.rmt_values.specs.Rows.{fits, in_key_order, is_value};
 ghost use Rattle.rmt_columns.specs.Columns.{value_of};
-ghost use Rattle.rmt_columns.specs.RowsByColumn.{AreOf, kinds_in};
+ghost use Rattle.rmt_columns.specs.RowsByColumn.{AreOfKind, kinds_in};
 ghost use Rattle.rmt_granules.specs.MadePart.{data_of};
 
 use crate::part_data::{PartData, from_rows};
@@ -27,7 +27,7 @@ pub fn all_fit(rows: &Rows, schema: &Schema) -> bool
 
 /// Whether each value of the column is one: a String may be too long.
 fn are_values(column: &ColumnValues) -> bool
-    requires { AreOf column.now.kind column.now.values }
+    requires { AreOfKind column.now.kind column.now.values }
     ensures { IsTrue result ↔ AllByRecursion (λ value. is_value value ≡ true) column.now.values }
 {
     match column.kind() {
