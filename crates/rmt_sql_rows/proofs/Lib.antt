@@ -1,3 +1,5 @@
+pub mod Consumed
+pub mod Digits
 pub mod Fields
 pub mod Steps
 pub mod Fitting

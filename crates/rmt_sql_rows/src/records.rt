@@ -54,13 +54,15 @@ pub fn rows_of_data(
         ⊎ IsBadCsvRow (row_in field_value_of columns.now places.now named) bytes.now e) }
 {
     let mut builder = RowsBuilder::new(alloc, columns)?;
-    let reader = ReaderBuilder::new()
+    let mut reader = ReaderBuilder::new()
         .has_headers(false)
         .flexible(true)
         .from_reader(alloc, bytes);
-    'rows: for record in reader.into_byte_records() {
-        let record = match record {
-            Ok(record) => record,
+    let mut record = ByteRecord::new(alloc);
+    // Each record has a byte at least, so there are no more records than bytes.
+    'records: for i in 0..bytes.len() {
+        let found = match reader.read_byte_record(&mut record) {
+            Ok(found) => found,
             Err(error) => match error.into_kind() {
                 ErrorKind::OutOfMemory | ErrorKind::Io(_) => return Err(RowsError::Memory),
                 // Each record may have its own length, and its fields are bytes.
@@ -70,9 +72,11 @@ pub fn rows_of_data(
                 | ErrorKind::Deserialize { .. } => unreachable!(),
             },
         };
-        let number = builder.len() as u64 + 1;
+        if !found {
+            return Ok(builder.into_rows());
+        }
         if !push_row(&mut builder, columns, places, named, &record)? {
-            return Err(RowsError::BadRow(number));
+            return Err(RowsError::BadRow(i as u64 + 1));
         }
     }
     Ok(builder.into_rows())

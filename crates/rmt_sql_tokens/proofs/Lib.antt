@@ -9,3 +9,4 @@ pub mod Gaps
 pub mod Texts
 pub mod Loops
 pub mod Falling
+pub mod DataEnds

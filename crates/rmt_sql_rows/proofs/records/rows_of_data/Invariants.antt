@@ -1,12 +1,12 @@
-use Rattle.std.proofs.Common.{◌≡◌, ℕ, List, [], ◌<◌, ◌+◌, ◌^◌, length, Ok}
+use Rattle.std.proofs.Common.{◌≡◌, ℕ, List, length, Ok, []}
 use Rattle.rmt_columns.specs.RowsByColumn.{kinds_in}
 use Rattle.rmt_sql_rows.specs.InsertedRows.{field_value, row_of, rows_from}
 use Rattle.rmt_sql_rows.proofs.Steps.{HasRead}
 use Rattle.rmt_sql_rows.proofs.records.rows_of_data.Given as goal
 
-abbrev pub invariant-rows : goal.invariant-rows
-invariant-rows l =
-    (0 < l.record-iterator.left) × (records : List (List (List ℕ))) × HasRead l.bytes records l.record-iterator.rdr
+abbrev pub invariant-records : goal.invariant-records
+invariant-records l =
+    (records : List (List (List ℕ))) × HasRead l.bytes records l.reader
     × (rows_from (row_of field_value l.columns l.places l.named) 1 records ≡ Ok l.builder.rows)
     × (l.builder.begun ≡ []) × (l.builder.kinds ≡ kinds_in l.columns)
-    × (length l.builder.rows + l.record-iterator.left < 2 ^ 64)
+    × (length records ≡ l.i) × (length l.builder.rows ≡ l.i)
