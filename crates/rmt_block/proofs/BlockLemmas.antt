@@ -8,7 +8,8 @@ use Rattle.rmt_values.specs.declared.value.Value.{Value}
 use Rattle.rmt_values.specs.declared.kind.Kind.{Kind}
 use Rattle.rmt_values.specs.declared.column.Column.{Column}
 use Rattle.rmt_values.specs.Rows.{fits, is_of, is_value, same_kind, kind_of}
-use Rattle.rmt_block.specs.Blocks.{RowsFit, row_fits, kinds_of, head_bytes, row_bytes, block_bytes}
+use Rattle.rmt_columns.specs.RowsByColumn.{kinds_in}
+use Rattle.rmt_block.specs.Blocks.{RowsFit, row_fits, head_bytes, row_bytes, block_bytes}
 
 -- the values of a row that fits are values
 pub All-is_value : (ks : List Kind) (vs : List Value) → row_fits ks vs ≡ true → All (λ v. is_value v ≡ true) vs
@@ -26,18 +27,18 @@ All-is_value-at ks rows i row h l e =
     let P : List Value → Type 0 = λ r. row_fits ks r ≡ true in All-is_value ks row (subst P (sym e) (h i row l))
 
 -- a row fits columns as it fits their types
-pub row_fits-kinds_of : (columns : List Column) (row : List Value) → row_fits (kinds_of columns) row ≡ fits columns row
-row_fits-kinds_of [] [] = refl
-row_fits-kinds_of [] (v ∷ vs) = refl
-row_fits-kinds_of (k ∷ ks) [] = refl
-row_fits-kinds_of (k ∷ ks) (v ∷ vs) = ap (λ b. is_of k.kind v && b) (row_fits-kinds_of ks vs)
+pub row_fits-kinds_in : (columns : List Column) (row : List Value) → row_fits (kinds_in columns) row ≡ fits columns row
+row_fits-kinds_in [] [] = refl
+row_fits-kinds_in [] (v ∷ vs) = refl
+row_fits-kinds_in (k ∷ ks) [] = refl
+row_fits-kinds_in (k ∷ ks) (v ∷ vs) = ap (λ b. is_of k.kind v && b) (row_fits-kinds_in ks vs)
 
 -- rows that fit columns fit their types
-pub RowsFit-kinds_of : (columns : List Column) (kinds : List Kind) (rows : List (List Value)) →
-    kinds ≡ kinds_of columns → All (λ row. fits columns row ≡ true) rows → RowsFit kinds rows
-RowsFit-kinds_of columns kinds rows e h k d l =
+pub RowsFit-kinds_in : (columns : List Column) (kinds : List Kind) (rows : List (List Value)) →
+    kinds ≡ kinds_in columns → All (λ row. fits columns row ≡ true) rows → RowsFit kinds rows
+RowsFit-kinds_in columns kinds rows e h k d l =
     let P : List Kind → Type 0 = λ ks. row_fits ks (get_or rows k d) ≡ true in
-    subst P (sym e) (row_fits-kinds_of columns (get_or rows k d) ∙ h k d l)
+    subst P (sym e) (row_fits-kinds_in columns (get_or rows k d) ∙ h k d l)
 
 -- the bytes after the last row are those of the block
 pub block_bytes-all : (kinds : List Kind) (rows all : List (List Value)) (i : ℕ) → rows ≡ all → length rows ≤ i →

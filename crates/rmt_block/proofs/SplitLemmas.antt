@@ -23,12 +23,13 @@ use Rattle.rmt_values.specs.declared.partition_rule.PartitionRule.{PartitionRule
 use Rattle.rmt_values.specs.Partitions.{partition_of}
 use Rattle.rmt_values.specs.Rows.{AllBelow, Shape, fits}
 use Rattle.rmt_names.specs.Names.{rank}
-use Rattle.rmt_block.specs.Blocks.{BlockView, RowsFit, block_of, kinds_of, row_fits}
+use Rattle.rmt_columns.specs.RowsByColumn.{kinds_in}
+use Rattle.rmt_block.specs.Blocks.{BlockView, RowsFit, block_of, row_fits}
 use Rattle.rmt_block.specs.Splits.{IsBlockOf, IsSplit, is_in}
 use Rattle.rmt_columns.specs.Places.{at_places}
 use Rattle.rmt_columns.proofs.RowsLemmas.{length-at}
 use Rattle.rmt_block.specs.Groups.{AreGroups, IsGroup, group_block, partition_cmp, places_in, some_places}
-use Rattle.rmt_block.proofs.BlockLemmas.{RowsFit-kinds_of}
+use Rattle.rmt_block.proofs.BlockLemmas.{RowsFit-kinds_in}
 use Rattle.rmt_block.proofs.GroupLemmas.{at-places_in-all, below-places_in-all, partition_cmp-rank, partition_cmp-is_eq, rank-inj}
 
 -- a partition and the places of its rows
@@ -101,10 +102,10 @@ IsGroup-rows rule kinds rows g fit few has = record {
 
 -- blocks can be made of all that was collected
 pub IsGroup-all : (columns : List Column) (rule : Option PartitionRule) (rows : List (List Value)) (groups : BTreeMap (Option ℕ) (Vec ℕ)) →
-    All (λ row. fits columns row ≡ true) rows → length rows < 2 ^ 32 → AreGroups rule rows groups → All (IsGroup (kinds_of columns) rows) groups.entries
+    All (λ row. fits columns row ≡ true) rows → length rows < 2 ^ 32 → AreGroups rule rows groups → All (IsGroup (kinds_in columns) rows) groups.entries
 IsGroup-all columns rule rows groups fit few are =
-    All-weaker (HasRowsOf rule rows) (IsGroup (kinds_of columns) rows)
-    (λ g. IsGroup-rows rule (kinds_of columns) rows g (RowsFit-kinds_of columns (kinds_of columns) rows refl fit) few)
+    All-weaker (HasRowsOf rule rows) (IsGroup (kinds_in columns) rows)
+    (λ g. IsGroup-rows rule (kinds_in columns) rows g (RowsFit-kinds_in columns (kinds_in columns) rows refl fit) few)
     groups.entries (HasRowsOf-all rule rows groups are)
 
 -- the ranks of blocks rise as their partitions do
@@ -160,18 +161,18 @@ row-block kinds rule rows groups are k d l =
 
 -- what was collected is split into blocks
 pub IsSplit-groups : (shape : Shape) (rows : List (List Value)) (groups : BTreeMap (Option ℕ) (Vec ℕ)) →
-    AreGroups shape.partition rows groups → IsSplit shape rows (map (group_block (kinds_of shape.columns) rows) groups.entries)
+    AreGroups shape.partition rows groups → IsSplit shape rows (map (group_block (kinds_in shape.columns) rows) groups.entries)
 IsSplit-groups shape rows groups are = record {
-  rising = rising (kinds_of shape.columns) rows groups.entries are.ordered;
-  each = All-map (IsBlockOf shape rows) (group_block (kinds_of shape.columns) rows) groups.entries
-      (All-weaker (HasRowsOf shape.partition rows) (λ g. IsBlockOf shape rows (group_block (kinds_of shape.columns) rows g)) one groups.entries
+  rising = rising (kinds_in shape.columns) rows groups.entries are.ordered;
+  each = All-map (IsBlockOf shape rows) (group_block (kinds_in shape.columns) rows) groups.entries
+      (All-weaker (HasRowsOf shape.partition rows) (λ g. IsBlockOf shape rows (group_block (kinds_in shape.columns) rows g)) one groups.entries
       (HasRowsOf-all shape.partition rows groups are));
-  all = row-block (kinds_of shape.columns) shape.partition rows groups are;
+  all = row-block (kinds_in shape.columns) shape.partition rows groups are;
 }
   where
-    one : (g : Group) → HasRowsOf shape.partition rows g → IsBlockOf shape rows (group_block (kinds_of shape.columns) rows g)
+    one : (g : Group) → HasRowsOf shape.partition rows g → IsBlockOf shape rows (group_block (kinds_in shape.columns) rows g)
     one g has = record {
-      whole = ap (block_of g.0 (kinds_of shape.columns)) (whole shape.partition rows g has);
+      whole = ap (block_of g.0 (kinds_in shape.columns)) (whole shape.partition rows g has);
       some = let n = length-at rows g.1.items (there shape.partition rows g has) in let s = has.some in omega (arith, n, s);
     }
 
@@ -188,17 +189,17 @@ filter-all test (row ∷ rows) pass =
 
 -- rows of one partition are one block
 pub IsSplit-whole : (shape : Shape) (rows : List (List Value)) (p : Option ℕ) → All (λ row. partition_of shape.partition row ≡ p) rows → 0 < length rows →
-    IsSplit shape rows (block_of p (kinds_of shape.columns) rows ∷ [])
+    IsSplit shape rows (block_of p (kinds_in shape.columns) rows ∷ [])
 unfolding IsStrictlySortedBy
 IsSplit-whole shape rows p of some = record {
   rising = (tt, tt);
-  each = All-cons (IsBlockOf shape rows) (block_of p (kinds_of shape.columns) rows) []
+  each = All-cons (IsBlockOf shape rows) (block_of p (kinds_in shape.columns) rows) []
       (record {
-        whole = ap (block_of p (kinds_of shape.columns)) (sym (filter-all (is_in shape.partition p) rows (all-in shape.partition p rows of)));
+        whole = ap (block_of p (kinds_in shape.columns)) (sym (filter-all (is_in shape.partition p) rows (all-in shape.partition p rows of)));
         some = some;
       })
       (All-nil (IsBlockOf shape rows));
-  all = All-weaker (λ row. is_in shape.partition p row ≡ true) (λ row. list_any (λ (b : BlockView). is_in shape.partition b.partition row) (block_of p (kinds_of shape.columns) rows ∷ []) ≡ true)
+  all = All-weaker (λ row. is_in shape.partition p row ≡ true) (λ row. list_any (λ (b : BlockView). is_in shape.partition b.partition row) (block_of p (kinds_in shape.columns) rows ∷ []) ≡ true)
       (λ row e. rw e refl) rows (all-in shape.partition p rows of);
 }
 

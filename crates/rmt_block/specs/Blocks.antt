@@ -24,10 +24,6 @@ pub record BlockView : Type 0 where
   pub rows : List (List Value)
   pub digest : List ℕ
 
--- the types of the columns
-abbrev pub kinds_of : List Column → List Kind
-kinds_of columns = map (λ column. column.kind) columns
-
 -- one value per type, each of its type
 abbrev pub row_fits : List Kind → List Value → Bool
 row_fits [] [] = true

@@ -11,7 +11,8 @@ use Rattle.rmt_values.specs.declared.partition_rule.PartitionRule.{PartitionRule
 use Rattle.rmt_values.specs.Rows.{Shape}
 use Rattle.rmt_values.specs.Partitions.{partition_of}
 use Rattle.rmt_names.specs.Names.{rank}
-use Rattle.rmt_block.specs.Blocks.{BlockView, block_of, kinds_of}
+use Rattle.rmt_columns.specs.RowsByColumn.{kinds_in}
+use Rattle.rmt_block.specs.Blocks.{BlockView, block_of}
 
 -- the row is of this partition
 abbrev pub is_in : Option PartitionRule → Option ℕ → List Value → Bool
@@ -19,7 +20,7 @@ is_in rule p row = nat_eq (rank (partition_of rule row)) (rank p)
 
 -- the block of all rows of one partition, in the order in which they were offered; there is at least one
 pub record IsBlockOf (shape : Shape) (rows : List (List Value)) (b : BlockView) : Type 0 where
-  pub whole : b ≡ block_of b.partition (kinds_of shape.columns) (filter (is_in shape.partition b.partition) rows)
+  pub whole : b ≡ block_of b.partition (kinds_in shape.columns) (filter (is_in shape.partition b.partition) rows)
   pub some : 0 < length b.rows
 
 -- the blocks of an INSERT: one for each partition that its rows are of, in the order of partitions

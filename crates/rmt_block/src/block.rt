@@ -1,7 +1,8 @@
 ghost use Rattle.std.specs.Prelude.{◌≡◌, ◌≤◌, ◌<◌, ◌^◌, length, true, IfOk};
 ghost use Rattle.std.specs.List.{All};
 ghost use Rattle.rmt_values.specs.Rows.{fits};
-ghost use Rattle.rmt_block.specs.Blocks.{AreOfOne, IsBlock, RowsFit, block_of, kinds_of as types_of};
+ghost use Rattle.rmt_columns.specs.RowsByColumn.{kinds_in as types_of};
+ghost use Rattle.rmt_block.specs.Blocks.{AreOfOne, IsBlock, RowsFit, block_of};
 
 use crate::spelling::digest_of;
 use rmt_columns::Rows;

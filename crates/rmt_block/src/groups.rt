@@ -5,7 +5,7 @@ ghost use Rattle.std.specs.BTreeMap.{IsOrdered};
 ghost use Rattle.std.specs.declared.option.Option.{Option};
 ghost use Rattle.rmt_values.specs.Rows.{fits};
 ghost use Rattle.rmt_values.specs.Partitions.{number_in, partition_of as partition_by};
-ghost use Rattle.rmt_block.specs.Blocks.{kinds_of as types_of};
+ghost use Rattle.rmt_columns.specs.RowsByColumn.{kinds_in as types_of};
 ghost use Rattle.rmt_block.specs.Groups.{AreGroups, IsGroup, group_block, partition_cmp, places_at, places_with};
 ghost use Rattle.rmt_block.specs.Splits.{IsSplit};
 

@@ -2,3 +2,4 @@ pub mod TokenOrder
 pub mod CommandLaws
 pub mod ChangeLaws
 pub mod PassLaws
+pub mod PendingLemmas

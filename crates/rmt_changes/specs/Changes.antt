@@ -1,11 +1,13 @@
 -- Which mutations of a log change a row.
 -- ClickHouse documentation: ALTER TABLE .. UPDATE and DELETE (mutations); `apply_mutations_on_fly`. In a partition a
 -- mutation changes the blocks of lower number; that it has one number a partition is as in `block_numbers`.
-use Rattle.std.specs.Prelude.{ℕ, ◌&&◌, nat_lt, nat_le, Bool, List, map, reverse}
+use Rattle.std.specs.Prelude.{ℕ, ◌&&◌, ◌||◌, nat_lt, nat_le, Bool, false, List, [], ◌∷◌, map, reverse}
 use Rattle.std.specs.declared.option.Option.{Option}
 use Rattle.std.specs.declared.option.Option.TheVariants.{Some, None}
 use Rattle.rmt_entries.specs.declared.entry.Entry.{Entry}
+use Rattle.rmt_entries.specs.declared.entry.Entry.TheVariants.{Get, Merge, Mutate, Mutation, DropRange}
 use Rattle.rmt_row.specs.Token.{Token}
+use Rattle.rmt_model.specs.Content.{chosen}
 
 -- the entries of tokens, the newest first, where the tokens are in the order of the log
 abbrev pub entries_of : List (Token Entry) → List Entry
@@ -19,3 +21,16 @@ between low high k = nat_lt low k && nat_le k high
 abbrev pub in_range : ℕ → Option ℕ → ℕ → Bool
 in_range low None k = nat_lt low k
 in_range low (Some high) k = between low high k
+
+-- the entry is a mutation that has a number of a partition which passes
+abbrev pub mutates : Option ℕ → (ℕ → Bool) → Entry → Bool
+mutates p passes (Mutation id numbers command) = chosen numbers p passes
+mutates p passes (Get q n digest source need) = false
+mutates p passes (Merge new sources count) = false
+mutates p passes (Mutate old new upto count mcount) = false
+mutates p passes (DropRange q n) = false
+
+-- one of the tokens' entries is such a mutation
+abbrev pub any_mutates : Option ℕ → (ℕ → Bool) → List (Token Entry) → Bool
+any_mutates p passes [] = false
+any_mutates p passes (t ∷ ts) = mutates p passes t.value || any_mutates p passes ts

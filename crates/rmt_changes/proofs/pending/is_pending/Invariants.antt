@@ -1,7 +1,10 @@
 use Rattle.std.proofs.Common.{◌≡◌, drop, nat_lt}
 use Rattle.rmt_model.specs.Content.{Row}
+use Rattle.rmt_changes.specs.Changes.{any_mutates}
 use Rattle.rmt_changes.proofs.TokenOrder.{forward}
 use Rattle.rmt_changes.proofs.pending.is_pending.Given as goal
 
 abbrev pub invariant-tokens : goal.invariant-tokens
-invariant-tokens l = (row : Row) → forward l.partition (nat_lt l.low) l.tokens row ≡ forward l.partition (nat_lt l.low) (drop l.token-index l.tokens) row
+invariant-tokens l =
+    (any_mutates l.partition (nat_lt l.low) l.tokens ≡ any_mutates l.partition (nat_lt l.low) (drop l.token-index l.tokens))
+    × ((row : Row) → forward l.partition (nat_lt l.low) l.tokens row ≡ forward l.partition (nat_lt l.low) (drop l.token-index l.tokens) row)
