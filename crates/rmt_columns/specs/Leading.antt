@@ -1,4 +1,5 @@
--- Rows ordered by the numbers of their first key column. No public clause cites this module.
+-- The numbers of a key's first column, by which rows are ordered first.
+-- ClickHouse documentation: A practical introduction to primary indexes in ClickHouse (rows are sorted by the columns of the key).
 use Rattle.std.specs.Prelude.{◌≡◌, ℕ, ◌<◌, List, [], length, slice_get, get_or, Option, Some, None}
 use Rattle.std.specs.Option.{option_map}
 use Rattle.std.specs.Ordering.{nat_cmp, ordering_then}
@@ -10,6 +11,8 @@ use Rattle.rmt_values.specs.declared.value.Value.TheVariants.{UInt}
 pub record AreLeading (key : List ℕ) (rows : List (List Value)) (numbers : List ℕ) : Type 0 where
   pub some : 0 < length key
   pub cells : (i : ℕ) → slice_get (get_or rows i []) (get_or key 0 0) ≡ option_map (λ n. UInt n) (slice_get numbers i)
+
+-- ---- what only private functions cite
 
 -- the order of two numbers, where they are there and differ, else another one
 abbrev pub led : Option ℕ → Option ℕ → Ordering → Ordering

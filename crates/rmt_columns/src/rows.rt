@@ -1,7 +1,8 @@
 ghost use Rattle.std.specs.Prelude.{◌≡◌, ◌<◌, ◌↔◌, [], true, length, slice_get, get_or, IfOk, IfSome, IsTrue};
 ghost use Rattle.std.specs.List.{All};
 ghost use Rattle.std.specs.Option.{option_map};
-ghost use Rattle.std.specs.declared.option.Option.TheVariants.{None};
+ghost use Rattle.std.specs.declared.option.Option.TheVariants.{None, Some};
+ghost use Rattle.rmt_values.specs.declared.kind.Kind.TheVariants.{UInt64};
 ghost use Rattle.rmt_values.specs.Order.{in_order};
 ghost use Rattle.rmt_values.specs.Rows.{AllBelow, fits, key_cmp};
 ghost use Rattle.rmt_columns.specs.Columns.{value_of};
@@ -126,6 +127,22 @@ impl Rows {
         }
     }
 
+    /// The numbers of the first of these columns, in the order of the rows, where there is one and its type is UInt64: rows are
+    /// ordered by them first.
+    pub fn leading_numbers(&self, key: &[u16]) -> Option<&[u64]>
+        ensures some { IfSome result (λ numbers. AreLeading key.now self.now.rows numbers.now) }
+        ensures none { result ≡ None → 0 < length key.now → slice_get self.now.kinds (get_or key.now 0 0) ≡ Some UInt64 → ⊥ }
+    {
+        if key.is_empty() {
+            return None;
+        }
+        let first = key[0] as usize;
+        if first >= self.columns.len() {
+            return None;
+        }
+        self.columns[first].unsigned()
+    }
+
     /// The places of the rows, counted from 0, in the order of the rows by their values in these columns; rows that are equal
     /// there keep their order.
     pub fn places_in_order(&self, alloc: Global, key: &[u16]) -> Result<Vec<usize>, AllocError>
@@ -150,20 +167,6 @@ impl Rows {
             columns,
             count: self.count,
         })
-    }
-
-    /// The numbers of the first of these columns, where there is one and its type is UInt64: rows are ordered by them first.
-    fn leading_numbers(&self, key: &[u16]) -> Option<&[u64]>
-        ensures { IfSome result (λ numbers. AreLeading key.now self.now.rows numbers.now) }
-    {
-        if key.is_empty() {
-            return None;
-        }
-        let first = key[0] as usize;
-        if first >= self.columns.len() {
-            return None;
-        }
-        self.columns[first].unsigned()
     }
 
     /// What `order` says, where the numbers of the first column are at hand: the other columns are read only where these are

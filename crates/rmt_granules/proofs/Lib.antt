@@ -5,3 +5,4 @@ pub mod MergeStep
 pub mod MergeLemmas
 pub mod ColumnLemmas
 pub mod FitLemmas
+pub mod LeadingLemmas

@@ -1,5 +1,6 @@
 -- Places of rows in several parts. No public clause cites this module.
-use Rattle.std.specs.Prelude.{ℕ, zero, suc, ◌+◌, ◌<◌, List, [], ◌∷◌, ◌++◌, length, slice_get, get_or}
+use Rattle.std.specs.Prelude.{◌≡◌, ◌⊎◌, ℕ, zero, suc, ◌+◌, ◌<◌, List, [], ◌∷◌, ◌++◌, length, slice_get, get_or}
+use Rattle.std.specs.Borrow.{Bor}
 use Rattle.std.specs.Option.{option_to_list}
 use Rattle.std.specs.declared.option.Option.{Option}
 use Rattle.std.specs.declared.option.Option.TheVariants.{Some, None}
@@ -8,6 +9,7 @@ use Rattle.rmt_values.specs.declared.value.Value.{Value}
 use Rattle.rmt_values.specs.declared.column.Column.{Column}
 use Rattle.rmt_values.specs.Rows.{key_cmp}
 use Rattle.rmt_columns.specs.Columns.{ColumnView}
+use Rattle.rmt_columns.specs.Leading.{AreLeading}
 use Rattle.rmt_granules.specs.Granules.{PartView}
 use Rattle.rmt_granules.specs.declared.place.Place.{Place}
 
@@ -38,6 +40,25 @@ all_places first (part ∷ parts) = places_from first 0 (length part.rows) ++ al
 abbrev pub AreOf : ℕ → List Place → Type 0
 AreOf n [] = Unit {0}
 AreOf n (p ∷ ps) = (p.part < n) × AreOf n ps
+
+-- ---- the numbers that lead
+
+-- these are the numbers of the rows in the first column of a key, or there are none
+abbrev pub Lead : List ℕ → List (List Value) → List ℕ → Type 0
+Lead key rows numbers = (numbers ≡ []) ⊎ AreLeading key rows numbers
+
+-- each part has such numbers
+abbrev pub LeadAll : List ℕ → List PartView → List (Bor (List ℕ)) → Type 0
+LeadAll key [] [] = Unit {0}
+LeadAll key [] (n ∷ ns) = ⊥
+LeadAll key (part ∷ parts) [] = ⊥
+LeadAll key (part ∷ parts) (n ∷ ns) = Lead key part.rows n.now × LeadAll key parts ns
+
+-- the numbers of one of several lists; none where there is no such list
+abbrev pub numbers_at : List (Bor (List ℕ)) → ℕ → List ℕ
+numbers_at [] i = []
+numbers_at (n ∷ ns) zero = n.now
+numbers_at (n ∷ ns) (suc i) = numbers_at ns i
 
 -- ---- the columns of some rows
 

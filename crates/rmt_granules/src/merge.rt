@@ -13,7 +13,7 @@ ghost use Rattle.rmt_granules.specs.Places.{row_in, AreOf, cells_of, columns_fro
 
 use crate::part_data::{PartData, from_rows};
 use crate::place::Place;
-use crate::places::merged_places;
+use crate::places::{leading_of, merged_places};
 use rmt_columns::{ColumnValues, Rows, ValueRef};
 use rmt_values::{Kind, Schema};
 use std::alloc::{AllocError, Global};
@@ -31,7 +31,8 @@ pub fn merged(
     ensures { IfOk result (λ part. part
         ≡ data_of schema.now (in_key_order schema.now (rows_joined (map arc_value parts.now)))) }
 {
-    let places = merged_places(alloc, parts, schema, 0, parts.len())?;
+    let leading = leading_of(alloc, parts, schema)?;
+    let places = merged_places(alloc, parts, &leading, schema, 0, parts.len())?;
     let rows = rows_in(alloc, parts, schema, &places)?;
     let part = from_rows(alloc, rows, schema)?;
     Ok(part)

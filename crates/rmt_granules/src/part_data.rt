@@ -5,6 +5,7 @@ ghost use Rattle.rmt_values.specs.Rows.{fits, key_cmp};
 ghost use Rattle.rmt_columns.specs.RowsByColumn.{rows_of, kinds_of, kinds_in, AreLong};
 ghost use Rattle.rmt_granules.specs.Granules.{IsPart, Rising, granule_of};
 ghost use Rattle.rmt_granules.specs.MadePart.{data_of};
+ghost use Rattle.rmt_granules.specs.Places.{Lead};
 
 use crate::index::marks_in;
 use rmt_columns::{ColumnValues, Rows};
@@ -124,6 +125,17 @@ impl PartData {
         ensures { result ≡ key_cmp self.now.key (get_or self.now.rows i []) (get_or other.now.rows j []) }
     {
         self.rows.order(&self.key, i, &other.rows, j)
+    }
+
+    // The numbers of the key's first column, in the order of the rows; none where there is no such column or it has another
+    // type.
+    pub(crate) fn leading_numbers(&self) -> &[u64]
+        ensures { Lead self.now.key self.now.rows result.now }
+    {
+        match self.rows.leading_numbers(&self.key) {
+            Some(numbers) => numbers,
+            None => &[],
+        }
     }
 
     /// The rows of granule `g`, from the first to past the last, all counted from 0; `None` where there is no such

@@ -1,9 +1,9 @@
 //! The places of the rows of several parts, in the order of the rows.
-ghost use Rattle.std.specs.Prelude.{◌≡◌, ◌+◌, ◌<◌, ◌≤◌, ◌++◌, IsTrue, length, map, take, drop, IfOk};
+ghost use Rattle.std.specs.Prelude.{◌≡◌, ◌+◌, ◌<◌, ◌≤◌, ◌++◌, IsTrue, length, map, slice_get, take, drop, IfOk};
 ghost use Rattle.std.specs.Arc.{arc_value};
 ghost use Rattle.rmt_values.specs.Order.{in_order};
 ghost use Rattle.rmt_granules.specs.MergedData.{AreDataOf};
-ghost use Rattle.rmt_granules.specs.Places.{place_cmp, places_from, all_places, AreOf};
+ghost use Rattle.rmt_granules.specs.Places.{place_cmp, places_from, all_places, AreOf, LeadAll, numbers_at};
 
 use crate::part_data::PartData;
 use crate::place::Place;
@@ -17,11 +17,13 @@ use std::sync::Arc;
 pub fn merged_places(
     alloc: Global,
     parts: &[Arc<PartData, Global>],
+    leading: &[&[u64]],
     schema: &Schema,
     first: usize,
     count: usize,
 ) -> Result<Vec<Place>, AllocError>
     requires parts { AreDataOf schema.now (map arc_value parts.now) }
+    requires leading { LeadAll schema.now.key (map arc_value parts.now) leading.now }
     requires there { first + count ≤ length parts.now }
     ensures order { IfOk result (λ places. places.items
         ≡ in_order (place_cmp schema.now.key (map arc_value parts.now))
@@ -36,10 +38,26 @@ pub fn merged_places(
         return Ok(places);
     }
     let half = count / 2;
-    let left = merged_places(alloc, parts, schema, first, half)?;
-    let right = merged_places(alloc, parts, schema, first + half, count - half)?;
-    let places = merged_two(alloc, parts, schema, left, &right)?;
+    let left = merged_places(alloc, parts, leading, schema, first, half)?;
+    let right = merged_places(alloc, parts, leading, schema, first + half, count - half)?;
+    let places = merged_two(alloc, parts, leading, schema, left, &right)?;
     Ok(places)
+}
+
+/// The numbers that lead the rows of each part.
+pub fn leading_of<'a>(
+    alloc: Global,
+    parts: &'a [Arc<PartData, Global>],
+    schema: &Schema,
+) -> Result<Vec<&'a [u64]>, AllocError>
+    requires { AreDataOf schema.now (map arc_value parts.now) }
+    ensures { IfOk result (λ leading. LeadAll schema.now.key (map arc_value parts.now) leading.items) }
+{
+    let mut leading = Vec::with_capacity(alloc, parts.len())?;
+    'parts: for part in parts {
+        leading.push(part.leading_numbers())?;
+    }
+    Ok(leading)
 }
 
 /// The places of the rows of one part.
@@ -58,11 +76,13 @@ fn places_of(alloc: Global, part: usize, rows: usize) -> Result<Vec<Place>, Allo
 fn merged_two(
     alloc: Global,
     parts: &[Arc<PartData, Global>],
+    leading: &[&[u64]],
     schema: &Schema,
     left: Vec<Place>,
     right: &[Place],
 ) -> Result<Vec<Place>, AllocError>
     requires parts { AreDataOf schema.now (map arc_value parts.now) }
+    requires leading { LeadAll schema.now.key (map arc_value parts.now) leading.now }
     requires left_there { AreOf (length parts.now) left.items }
     requires right_there { AreOf (length parts.now) right.now }
     requires left_ordered { in_order (place_cmp schema.now.key (map arc_value parts.now)) left.items ≡ left.items }
@@ -70,23 +90,25 @@ fn merged_two(
     ensures { IfOk result (λ places. places.items
         ≡ in_order (place_cmp schema.now.key (map arc_value parts.now)) (left.items ++ right.now)) }
 {
-    if follows(parts, schema, &left, right) {
+    if follows(parts, leading, schema, &left, right) {
         let mut places = left;
         places.extend_from_slice(right)?;
         return Ok(places);
     }
-    let places = interleaved(alloc, parts, schema, &left, right)?;
+    let places = interleaved(alloc, parts, leading, schema, &left, right)?;
     Ok(places)
 }
 
 /// Whether both lists have places, and the first's last row isn't above the second's first.
 fn follows(
     parts: &[Arc<PartData, Global>],
+    leading: &[&[u64]],
     schema: &Schema,
     left: &[Place],
     right: &[Place],
 ) -> bool
     requires parts { AreDataOf schema.now (map arc_value parts.now) }
+    requires leading { LeadAll schema.now.key (map arc_value parts.now) leading.now }
     requires left_there { AreOf (length parts.now) left.now }
     requires right_there { AreOf (length parts.now) right.now }
     requires left_ordered { in_order (place_cmp schema.now.key (map arc_value parts.now)) left.now ≡ left.now }
@@ -99,7 +121,7 @@ fn follows(
         return false;
     }
     let end = left.len() - 1;
-    let order = order_of_places(parts, schema, left[end], right[0]);
+    let order = order_of_places(parts, leading, schema, left[end], right[0]);
     !order.is_gt()
 }
 
@@ -107,11 +129,13 @@ fn follows(
 fn interleaved(
     alloc: Global,
     parts: &[Arc<PartData, Global>],
+    leading: &[&[u64]],
     schema: &Schema,
     left: &[Place],
     right: &[Place],
 ) -> Result<Vec<Place>, AllocError>
     requires parts { AreDataOf schema.now (map arc_value parts.now) }
+    requires leading { LeadAll schema.now.key (map arc_value parts.now) leading.now }
     requires left_there { AreOf (length parts.now) left.now }
     requires right_there { AreOf (length parts.now) right.now }
     requires left_ordered { in_order (place_cmp schema.now.key (map arc_value parts.now)) left.now ≡ left.now }
@@ -119,12 +143,12 @@ fn interleaved(
     ensures { IfOk result (λ places. places.items
         ≡ in_order (place_cmp schema.now.key (map arc_value parts.now)) (left.now ++ right.now)) }
 {
-    let mut merged = Vec::new(alloc);
+    let mut merged = Vec::with_capacity(alloc, left.len().saturating_add(right.len()))?;
     let mut i = 0;
     let mut j = 0;
     'heads: while i < left.len() && j < right.len() {
         let (a, b) = (left[i], right[j]);
-        let order = order_of_places(parts, schema, a, b);
+        let order = order_of_places(parts, leading, schema, a, b);
         if order.is_gt() {
             merged.push(b)?;
             j += 1;
@@ -138,8 +162,49 @@ fn interleaved(
     Ok(merged)
 }
 
-/// The order of the rows at two places.
-fn order_of_places(parts: &[Arc<PartData, Global>], schema: &Schema, a: Place, b: Place) -> Ordering
+/// The order of the rows at two places. The rows are read only where the numbers that lead them don't tell it.
+fn order_of_places(
+    parts: &[Arc<PartData, Global>],
+    leading: &[&[u64]],
+    schema: &Schema,
+    a: Place,
+    b: Place,
+) -> Ordering
+    requires parts { AreDataOf schema.now (map arc_value parts.now) }
+    requires leading { LeadAll schema.now.key (map arc_value parts.now) leading.now }
+    requires first { a.part < length parts.now }
+    requires second { b.part < length parts.now }
+    ensures { result ≡ place_cmp schema.now.key (map arc_value parts.now) a b }
+{
+    match (leading_number(leading, a), leading_number(leading, b)) {
+        (Some(m), Some(n)) => match m.cmp(&n) {
+            Ordering::Equal => order_of_rows(parts, schema, a, b),
+            unequal => unequal,
+        },
+        (Some(_), None) | (None, Some(_)) | (None, None) => order_of_rows(parts, schema, a, b),
+    }
+}
+
+/// The number that leads the row at a place, where there is one.
+fn leading_number(leading: &[&[u64]], place: Place) -> Option<u64>
+    requires { place.part < length leading.now }
+    ensures { result ≡ slice_get (numbers_at leading.now place.part) place.row }
+{
+    number_at(leading[place.part], place.row)
+}
+
+/// Number `i`, counted from 0, where there is one.
+fn number_at(numbers: &[u64], i: usize) -> Option<u64>
+    ensures { result ≡ slice_get numbers.now i }
+{
+    match numbers.get(i) {
+        Some(number) => Some(*number),
+        None => None,
+    }
+}
+
+/// The order of the rows at two places, value by value.
+fn order_of_rows(parts: &[Arc<PartData, Global>], schema: &Schema, a: Place, b: Place) -> Ordering
     requires parts { AreDataOf schema.now (map arc_value parts.now) }
     requires first { a.part < length parts.now }
     requires second { b.part < length parts.now }

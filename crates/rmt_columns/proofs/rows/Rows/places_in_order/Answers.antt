@@ -1,4 +1,4 @@
-use Rattle.std.proofs.Common.{◌≡◌, ◌∙◌, length, sym, ap, []}
+use Rattle.std.proofs.Common.{◌∙◌, length, sym, ap, []}
 use Rattle.rmt_values.specs.Rows.{key_cmp}
 use Rattle.rmt_columns.specs.RowsByColumn.{RowsView}
 use Rattle.rmt_columns.proofs.OrderLemmas.{InOrder, places-ordered}

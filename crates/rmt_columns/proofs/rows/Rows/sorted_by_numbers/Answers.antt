@@ -1,7 +1,6 @@
-use Rattle.std.proofs.Common.{rules, ◌≡◌, ◌∙◌, ℕ, [], Bool, is_lt, get_or, slice_get, sym}
+use Rattle.std.proofs.Common.{rules, ◌≡◌, ℕ, [], Bool, is_lt, get_or, slice_get, sym}
 use Rattle.std.proofs.lemmas.Fn.{always_returns_same}
 use Rattle.std.proofs.lemmas.List.Sorted.{ranks_by}
-use Rattle.std.specs.declared.cmp.Ordering.{Ordering}
 use Rattle.rmt_values.specs.Rows.{key_cmp}
 use Rattle.rmt_values.proofs.Sorting.{in_order-from_sort}
 use Rattle.rmt_values.proofs.Totals.{key_cmp_total}
