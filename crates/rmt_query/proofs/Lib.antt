@@ -7,3 +7,4 @@ pub mod RunLemmas
 pub mod MatchLemmas
 pub mod BagLaws
 pub mod Counting
+pub mod TotalLemmas

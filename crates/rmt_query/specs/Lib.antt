@@ -6,3 +6,4 @@ pub mod Laws
 pub mod Explained
 pub mod OverRows
 pub mod ReadRows
+pub mod Totals

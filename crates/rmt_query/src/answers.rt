@@ -8,6 +8,7 @@ ghost use Rattle.rmt_query.specs.ReadRows.{rows_read};
 ghost use Rattle.rmt_query.specs.Cells.{zero_of};
 ghost use Rattle.rmt_query.specs.Answers.{
   answer_of,
+  matching,
   group_tuples as tuples_of_groups,
   tuple_of as tuple_of_row,
   tuples_of,
@@ -20,10 +21,11 @@ ghost use Rattle.rmt_values.specs.Order.{in_order};
 use crate::cells::{one_cell, zero_cell};
 use crate::matches::matching_rows;
 use crate::runs::tuples_of_runs;
+use crate::totals::{are_settled, is_total, total_tuples};
 use crate::tuple::Tuple;
 use rmt_columns::RowRef;
 use rmt_entries::Entry;
-use rmt_partset::Snapshot;
+use rmt_partset::{NamedPart, Snapshot};
 use rmt_row::Seen;
 use rmt_values::{CheckedItem, CheckedQuery, Schema};
 use std::alloc::{AllocError, Global};
@@ -47,9 +49,33 @@ pub fn answer(
     ensures none_pending { pending.now ≡ [] → IfOk result (λ tuples. tuples.items
         ≡ answer_of schema.now query.now (all_rows (data_in snapshot.now))) }
 {
-    let rows = matching_rows(alloc, snapshot.parts(), &query.filter, schema, pending)?;
-    let mut tuples = tuples_over(alloc, rows, query, schema)?;
+    let mut tuples = tuples_read(alloc, snapshot.parts(), query, schema, pending)?;
     tuples.sort_by(|a, b| a.compare(b))?;
+    Ok(tuples)
+}
+
+/// The tuples of a query over the rows of parts, each after the mutations that are pending for its part. Aggregates over all
+/// rows make no list of these.
+fn tuples_read(
+    alloc: Global,
+    parts: &[NamedPart],
+    query: &CheckedQuery,
+    schema: &Schema,
+    pending: &[Seen<Entry>],
+) -> Result<Vec<Tuple>, AllocError>
+    requires parts { All (λ part. part.rows.key ≡ schema.now.key) parts.now }
+    requires pending { All (λ token. EntryFits schema.now token.value) pending.now }
+    ensures { IfOk result (λ tuples. tuples.items
+        ≡ tuples_of schema.now query.now (matching query.now.filter (rows_read (entries_of pending.now) parts.now))) }
+{
+    if is_total(query) && are_settled(parts, pending) {
+        let items = query.items.as_slice();
+        let tuples = total_tuples(alloc, parts, items)?;
+        let tuples = or_zeros(alloc, tuples, items, &[], schema)?;
+        return Ok(tuples);
+    }
+    let rows = matching_rows(alloc, parts, &query.filter, schema, pending)?;
+    let tuples = tuples_over(alloc, rows, query, schema)?;
     Ok(tuples)
 }
 
@@ -93,6 +119,9 @@ fn group_sorted<'a>(rows: Vec<RowRef<'a>>, group: &[u16]) -> Result<Vec<RowRef<'
     ensures order { IfOk result (λ sorted. sorted.items ≡ in_order (key_cmp group.now) rows.entry.items) }
     ensures sorted { IfOk result (λ sorted. IsSorted (key_cmp group.now) sorted.items) }
 {
+    if group.is_empty() {
+        return Ok(rows);
+    }
     let mut rows = rows;
     rows.sort_by(|a, b| a.compare_by(group, b))?;
     Ok(rows)

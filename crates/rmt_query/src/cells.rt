@@ -1,7 +1,9 @@
 //! Single cells of an answer.
-ghost use Rattle.std.specs.Prelude.{◌≡◌, ◌^◌, pos, ◌+ℤ◌, ◌≤ℤ◌, slice_get, IfOk};
+ghost use Rattle.std.specs.Prelude.{◌≡◌, IfOk};
 ghost use Rattle.rmt_query.specs.Cells.{cell_order, cell_of, number_of, one, zero_of};
+ghost use Rattle.std.specs.Option.{option_map};
 ghost use Rattle.rmt_values.specs.Rows.{kind_at};
+ghost use Rattle.rmt_columns.specs.Columns.{value_of};
 
 use rmt_columns::{RowRef, ValueRef};
 use rmt_values::{Blob, Cell, CheckedItem, Kind, Schema};
@@ -26,11 +28,11 @@ pub fn compare_cells(a: &Cell, b: &Cell) -> Ordering
     }
 }
 
-/// What a row shows in a column.
-pub fn cell_at(alloc: Global, row: &RowRef<'_>, column: u16) -> Result<Cell, AllocError>
-    ensures { IfOk result (λ cell. cell ≡ cell_of (slice_get row.now column)) }
+/// What is shown of a value that a row has in a column.
+pub fn shown(alloc: Global, value: Option<ValueRef<'_>>) -> Result<Cell, AllocError>
+    ensures { IfOk result (λ cell. cell ≡ cell_of (option_map value_of value.entry)) }
 {
-    match row.value(column) {
+    match value {
         Some(ValueRef::UInt(number)) => Ok(Cell::UInt(number)),
         Some(ValueRef::Int(number)) => Ok(Cell::Int(number)),
         Some(ValueRef::Text(text)) => Ok(Cell::Text(Blob::new(Vec::from_slice(alloc, text)?))),
@@ -38,24 +40,22 @@ pub fn cell_at(alloc: Global, row: &RowRef<'_>, column: u16) -> Result<Cell, All
     }
 }
 
-/// The number that a row has in a column, and 0 where it has none.
-pub fn number_at(row: &RowRef<'_>, column: u16) -> i128
-    ensures value { result ≡ number_of (slice_get row.now column) }
-    ensures least { pos 0 ≤ℤ (result +ℤ pos (2 ^ 64)) }
-    ensures greatest { result ≤ℤ pos (2 ^ 64) }
+/// The number that a value is, and 0 for what is none.
+pub fn number(value: Option<ValueRef<'_>>) -> i128
+    ensures { result ≡ number_of (option_map value_of value.entry) }
 {
-    match row.value(column) {
+    match value {
         Some(ValueRef::UInt(number)) => number as i128,
         Some(ValueRef::Int(number)) => number as i128,
         Some(ValueRef::Text(_)) | None => 0,
     }
 }
 
-/// The order of what two rows show in a column.
-pub fn compare_at(a: &RowRef<'_>, b: &RowRef<'_>, column: u16) -> Ordering
-    ensures { result ≡ cell_order (cell_of (slice_get a.now column)) (cell_of (slice_get b.now column)) }
+/// The order of what two rows show of the values that they have in a column.
+pub fn compare_values(a: Option<ValueRef<'_>>, b: Option<ValueRef<'_>>) -> Ordering
+    ensures { result ≡ cell_order (cell_of (option_map value_of a.entry)) (cell_of (option_map value_of b.entry)) }
 {
-    match (a.value(column), b.value(column)) {
+    match (a, b) {
         (Some(a), Some(b)) => a.order(b),
         (Some(_), None) => Ordering::Less,
         (None, Some(_)) => Ordering::Greater,
@@ -69,11 +69,11 @@ pub fn one_cell(alloc: Global, item: CheckedItem, row: &RowRef<'_>) -> Result<Ce
 {
     match item {
         CheckedItem::Column(column) | CheckedItem::Min(column) | CheckedItem::Max(column) => {
-            let cell = cell_at(alloc, row, column)?;
+            let cell = shown(alloc, row.value(column))?;
             Ok(cell)
         }
         CheckedItem::Count => Ok(Cell::UInt(1)),
-        CheckedItem::Sum(column) => Ok(Cell::Sum(number_at(row, column))),
+        CheckedItem::Sum(column) => Ok(Cell::Sum(number(row.value(column)))),
     }
 }
 

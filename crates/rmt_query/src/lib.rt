@@ -4,9 +4,12 @@
 mod answers;
 mod cells;
 mod granule_counts;
+mod joined_cells;
 mod laws;
 mod matches;
+mod row_values;
 mod runs;
+mod totals;
 mod tuple;
 
 pub use answers::answer;

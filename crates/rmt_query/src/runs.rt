@@ -1,5 +1,5 @@
 //! Sorted rows in groups, each group a run of them.
-ghost use Rattle.std.specs.Prelude.{◌≡◌, ◌<◌, ◌≤◌, ◌+◌, ◌⊎◌, ℕ, [], map, length, slice_index_or, IfOk};
+ghost use Rattle.std.specs.Prelude.{◌≡◌, ◌<◌, ◌≤◌, ◌+◌, ◌⊎◌, ℕ, [], map, length, get_or, slice_index_or, IfOk};
 ghost use Rattle.std.specs.List.{AllWithin};
 ghost use Rattle.std.specs.List.Sorted.{IsSorted};
 ghost use Rattle.std.specs.declared.cmp.Ordering.TheVariants.{Equal};
@@ -8,7 +8,8 @@ ghost use Rattle.rmt_query.specs.Cells.{one};
 ghost use Rattle.rmt_query.specs.Answers.{groups_of};
 ghost use Rattle.rmt_query.specs.OverRows.{over, total};
 
-use crate::cells::{cell_at, compare_at, number_at};
+use crate::cells::{compare_values, number, shown};
+use crate::row_values::{Listed, RowValues};
 use crate::tuple::Tuple;
 use rmt_columns::RowRef;
 use rmt_values::{Cell, CheckedItem};
@@ -31,7 +32,7 @@ pub fn tuples_of_runs(
         let (_, rest) = rows.split_at(first);
         let end = run_end(rest, group);
         let (run, _) = rest.split_at(end);
-        let tuple = tuple_over(alloc, run, items)?;
+        let tuple = tuple_over(alloc, &Listed(run), items)?;
         tuples.push(tuple)?;
         first += end;
     }
@@ -47,6 +48,9 @@ fn run_end(rows: &[RowRef<'_>], group: &[u16]) -> usize
     ensures apart { result < length rows.now
         → key_cmp group.now (slice_index_or rows.now 0 []) (slice_index_or rows.now result []) ≡ Equal → ⊥ }
 {
+    if group.is_empty() {
+        return rows.len();
+    }
     let first = &rows[0];
     'rows: for i in 1..rows.len() {
         match first.compare_by(group, &rows[i]) {
@@ -58,13 +62,13 @@ fn run_end(rows: &[RowRef<'_>], group: &[u16]) -> usize
 }
 
 /// The tuple of a group of these rows.
-fn tuple_over(
+fn tuple_over<R: RowValues>(
     alloc: Global,
-    rows: &[RowRef<'_>],
+    rows: &R,
     items: &[CheckedItem],
 ) -> Result<Tuple, AllocError>
-    requires { 0 < length rows.now }
-    ensures { IfOk result (λ tuple. tuple ≡ map (λ i. over i rows.now) items.now) }
+    requires { 0 < length (R.rows rows.now) }
+    ensures { IfOk result (λ tuple. tuple ≡ map (λ i. over i (R.rows rows.now)) items.now) }
 {
     let mut cells = Vec::with_capacity(alloc, items.len())?;
     'items: for item in items {
@@ -74,46 +78,59 @@ fn tuple_over(
     Ok(Tuple::new(cells))
 }
 
-/// What an item is over these rows.
-fn cell_over(alloc: Global, item: CheckedItem, rows: &[RowRef<'_>]) -> Result<Cell, AllocError>
-    requires { 0 < length rows.now }
-    ensures { IfOk result (λ cell. cell ≡ over item rows.now) }
+/// What an item is over these rows. A sum that 128 bits don't hold is out of memory: no memory has so many rows.
+pub fn cell_over<R: RowValues>(
+    alloc: Global,
+    item: CheckedItem,
+    rows: &R,
+) -> Result<Cell, AllocError>
+    requires { 0 < length (R.rows rows.now) }
+    ensures { IfOk result (λ cell. cell ≡ over item (R.rows rows.now)) }
 {
     match item {
         CheckedItem::Count => Ok(Cell::UInt(rows.len() as u64)),
-        CheckedItem::Sum(column) => Ok(Cell::Sum(sum_over(column, rows))),
+        CheckedItem::Sum(column) => Ok(Cell::Sum(sum_over(column, rows)?)),
         CheckedItem::Column(column) | CheckedItem::Min(column) => {
-            let cell = cell_at(alloc, &rows[least_row(column, rows)], column)?;
+            let cell = shown(alloc, rows.value(least_row(column, rows), column))?;
             Ok(cell)
         }
         CheckedItem::Max(column) => {
-            let cell = cell_at(alloc, &rows[greatest_row(column, rows)], column)?;
+            let cell = shown(alloc, rows.value(greatest_row(column, rows), column))?;
             Ok(cell)
         }
     }
 }
 
 /// The numbers of a column, added up.
-fn sum_over(column: u16, rows: &[RowRef<'_>]) -> i128
-    ensures { result ≡ total column rows.now }
+fn sum_over<R: RowValues>(column: u16, rows: &R) -> Result<i128, AllocError>
+    ensures { IfOk result (λ sum. sum ≡ total column (R.rows rows.now)) }
 {
-    let mut sum = 0;
-    'rows: for row in rows {
-        sum += number_at(row, column);
+    let mut sum: i128 = 0;
+    'rows: for i in 0..rows.len() {
+        match sum.checked_add(number(rows.value(i, column))) {
+            Some(more) => sum = more,
+            None => return Err(AllocError),
+        }
     }
-    sum
+    Ok(sum)
 }
 
 /// The place of a row that shows the least cell of a column.
-fn least_row(column: u16, rows: &[RowRef<'_>]) -> usize
-    requires { 0 < length rows.now }
-    ensures there { result < length rows.now }
-    ensures is { one (CheckedItem.Min column) (slice_index_or rows.now result []) ≡ over (CheckedItem.Min column) rows.now }
+fn least_row<R: RowValues>(column: u16, rows: &R) -> usize
+    requires { 0 < length (R.rows rows.now) }
+    ensures there { result < length (R.rows rows.now) }
+    ensures is { one (CheckedItem.Min column) (get_or (R.rows rows.now) result [])
+        ≡ over (CheckedItem.Min column) (R.rows rows.now) }
 {
     let mut best = 0;
+    let mut least = rows.value(0, column);
     'rows: for i in 1..rows.len() {
-        match compare_at(&rows[best], &rows[i], column) {
-            Ordering::Greater => best = i,
+        let value = rows.value(i, column);
+        match compare_values(least, value) {
+            Ordering::Greater => {
+                best = i;
+                least = value;
+            }
             _ => {}
         }
     }
@@ -121,15 +138,21 @@ fn least_row(column: u16, rows: &[RowRef<'_>]) -> usize
 }
 
 /// The place of a row that shows the greatest cell of a column.
-fn greatest_row(column: u16, rows: &[RowRef<'_>]) -> usize
-    requires { 0 < length rows.now }
-    ensures there { result < length rows.now }
-    ensures is { one (CheckedItem.Max column) (slice_index_or rows.now result []) ≡ over (CheckedItem.Max column) rows.now }
+fn greatest_row<R: RowValues>(column: u16, rows: &R) -> usize
+    requires { 0 < length (R.rows rows.now) }
+    ensures there { result < length (R.rows rows.now) }
+    ensures is { one (CheckedItem.Max column) (get_or (R.rows rows.now) result [])
+        ≡ over (CheckedItem.Max column) (R.rows rows.now) }
 {
     let mut best = 0;
+    let mut greatest = rows.value(0, column);
     'rows: for i in 1..rows.len() {
-        match compare_at(&rows[i], &rows[best], column) {
-            Ordering::Greater => best = i,
+        let value = rows.value(i, column);
+        match compare_values(value, greatest) {
+            Ordering::Greater => {
+                best = i;
+                greatest = value;
+            }
             _ => {}
         }
     }

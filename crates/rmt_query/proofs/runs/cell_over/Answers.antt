@@ -1,4 +1,4 @@
-use Rattle.std.proofs.Common.{rules, ◌≡◌, sym, ap, ◌∙◌}
+use Rattle.std.proofs.Common.{rules, ◌≡◌, ℕ, sym, ap, ◌∙◌}
 use mir.Val.{to_z, of_z}
 use mir.Syntax.{w128}
 use Rattle.std.specs.Prelude.{ℤ}
@@ -9,10 +9,13 @@ use Rattle.rmt_query.proofs.Over.{over-count-of, over-sum-of}
 use Rattle.rmt_query.proofs.runs.cell_over.Goals as goal
 
 pub returns-in-Count : goal.returns-in-Count
-returns-in-Count c = sym (ap (λ (i : CheckedItem). over i c.args.rows.now) c.in-Count.is ∙ over-count-of c.args.rows.now c.requires)
+returns-in-Count g c =
+    let rows = g.R.RowValues.rows c.args.rows.now in
+    ap (λ (n : ℕ). cells.UInt n) c.len.ensures.len ∙ sym (ap (λ (i : CheckedItem). over i rows) c.in-Count.is ∙ over-count-of rows c.requires)
 
-pub returns-in-Sum : goal.returns-in-Sum
-returns-in-Sum c =
-    let back : to_z w128 (of_z w128 c.sum_over.result) ≡ c.sum_over.result = search rules in
-    ap (λ (z : ℤ). cells.Sum z) (back ∙ c.sum_over.ensures)
-    ∙ sym (ap (λ (i : CheckedItem). over i c.args.rows.now) c.in-Sum.is ∙ over-sum-of c.in-Sum.column c.args.rows.now c.requires)
+pub returns-in_ok-sum_over-in-Sum : goal.returns-in_ok-sum_over-in-Sum
+returns-in_ok-sum_over-in-Sum g c =
+    let rows = g.R.RowValues.rows c.args.rows.now in
+    let back : to_z w128 (of_z w128 c.in_ok-sum_over-in-Sum.field-0) ≡ c.in_ok-sum_over-in-Sum.field-0 = search rules in
+    ap (λ (z : ℤ). cells.Sum z) (back ∙ c.in_ok-sum_over-in-Sum.ensures)
+    ∙ sym (ap (λ (i : CheckedItem). over i rows) c.in-Sum.is ∙ over-sum-of c.in-Sum.column rows c.requires)
