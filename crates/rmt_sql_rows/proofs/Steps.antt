@@ -1,5 +1,5 @@
 -- What a loop over the records of a text keeps.
-use Rattle.std.proofs.Common.{◌≡◌, ◌∙◌, ℕ, ◌≤◌, List, [], ◌∷◌, ◌++◌, length, Bool, Bor, Some, None, true, false, refl, sym, subst, inl, Option, arith}
+use Rattle.std.proofs.Common.{◌≡◌, ◌∙◌, ℕ, ◌≤◌, List, [], ◌∷◌, ◌++◌, length, Bool, Bor, Some, true, false, refl, sym, subst, inl, Option, arith}
 use Rattle.csv.specs.Reading.{default_config, strip_bom, source_of, Reached, ReadRecord, Ready, reader_state, reader_config, reader_trim, took_first, is_flexible, AreRecords}
 use Rattle.csv.specs.Records.{Row, fields_of}
 use Rattle.csv.specs.declared.parser.State.TheVariants as st

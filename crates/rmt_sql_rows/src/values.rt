@@ -1,5 +1,6 @@
 //! Fields of data as values of columns.
-ghost use Rattle.std.specs.Prelude.{◌≡◌, ◌+◌, ◌-◌, ◌*◌, ◌&&◌, true, nat_le, nat_lt, IfSome};
+ghost use Rattle.std.specs.Prelude.{◌≡◌, ◌≤◌, ◌+◌, ◌-◌, ◌*◌, ◌&&◌, true, nat_le, nat_lt, length, IfSome};
+ghost use Rattle.std.specs.List.{prefix_len};
 ghost use Rattle.std.specs.Char.{is_ascii_digit};
 ghost use Rattle.std.specs.Option.{option_map};
 ghost use Rattle.rmt_values.specs.Literals.{number_value as number_value_of, text_value as text_value_of};
@@ -10,6 +11,9 @@ ghost use Rattle.rmt_sql_rows.specs.InsertedRows.{is_number as number_test, digi
 use rmt_columns::ValueRef;
 use rmt_sql_tokens::{decimal_value, digits_len};
 use rmt_values::{Kind, LONGEST_TEXT, MOST_DIGITS, Value, number_value};
+
+/// The most digits whose number 64 bits hold, whichever digits they are.
+const SHORT_DIGITS: usize = 19;
 
 /// Whether a number may have so many digits: 1 to 39.
 fn is_number_len(len: usize) -> bool
@@ -52,20 +56,29 @@ pub fn text_ref(kind: Kind, bytes: &[u8]) -> Option<ValueRef<'_>>
     }
 }
 
-/// The value of 1 to 39 digits where it is below 2^64; none elsewhere. It passes over the bytes once, and counts in 64 bits:
+/// The value of 1 to 20 digits where it is below 2^64; none elsewhere. It passes over the bytes once, and counts in 64 bits:
 /// nearly all numbers are so short.
 fn short_number(bytes: &[u8]) -> Option<u64>
     ensures { IfSome result (λ size. (number_test bytes.now ≡ true) × (size ≡ decimal_of bytes.now)) }
 {
-    if !is_number_len(bytes.len()) {
+    let (last, first) = bytes.split_last()?;
+    if first.len() > SHORT_DIGITS {
         return None;
     }
+    with_digit(few_digits(first)?, *last)
+}
+
+/// The number of at most 19 digits, 0 where there are none; none where one of the bytes is no digit.
+fn few_digits(bytes: &[u8]) -> Option<u64>
+    requires { length bytes.now ≤ 19 }
+    ensures { IfSome result (λ size. (prefix_len is_ascii_digit bytes.now ≡ length bytes.now) × (size ≡ decimal_of bytes.now)) }
+{
     let mut size: u64 = 0;
     'digits: for byte in bytes {
-        match with_digit(size, *byte) {
-            Some(more) => size = more,
-            None => return None,
+        if !byte.is_ascii_digit() {
+            return None;
         }
+        size = size * 10 + u64::from(*byte - b'0');
     }
     Some(size)
 }

@@ -1,7 +1,0 @@
-use Rattle.std.proofs.Common.{◌≡◌, ◌≤◌, take, length}
-use Rattle.rmt_sql_tokens.specs.Tokens.{value_of}
-use Rattle.rmt_sql_rows.proofs.Digits.{DigitsTo}
-use Rattle.rmt_sql_rows.proofs.values.short_number.Given as goal
-
-abbrev pub invariant-digits : goal.invariant-digits
-invariant-digits l = DigitsTo l.bytes l.byte-index × (l.size ≡ value_of (take l.byte-index l.bytes))
