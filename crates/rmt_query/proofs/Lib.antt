@@ -8,3 +8,4 @@ pub mod MatchLemmas
 pub mod BagLaws
 pub mod Counting
 pub mod TotalLemmas
+pub mod SumLemmas

@@ -1,5 +1,5 @@
 //! Single cells of an answer.
-ghost use Rattle.std.specs.Prelude.{◌≡◌, IfOk};
+ghost use Rattle.std.specs.Prelude.{◌≡◌, ◌^◌, pos, ◌+ℤ◌, ◌≤ℤ◌, IfOk};
 ghost use Rattle.rmt_query.specs.Cells.{cell_order, cell_of, number_of, one, zero_of};
 ghost use Rattle.std.specs.Option.{option_map};
 ghost use Rattle.rmt_values.specs.Rows.{kind_at};
@@ -42,7 +42,9 @@ pub fn shown(alloc: Global, value: Option<ValueRef<'_>>) -> Result<Cell, AllocEr
 
 /// The number that a value is, and 0 for what is none.
 pub fn number(value: Option<ValueRef<'_>>) -> i128
-    ensures { result ≡ number_of (option_map value_of value.entry) }
+    ensures value { result ≡ number_of (option_map value_of value.entry) }
+    ensures least { pos 0 ≤ℤ (result +ℤ pos (2 ^ 64)) }
+    ensures greatest { result ≤ℤ pos (2 ^ 64) }
 {
     match value {
         Some(ValueRef::UInt(number)) => number as i128,

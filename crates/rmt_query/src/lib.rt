@@ -9,6 +9,7 @@ mod laws;
 mod matches;
 mod row_values;
 mod runs;
+mod sums;
 mod totals;
 mod tuple;
 

@@ -6,9 +6,9 @@ ghost use Rattle.std.specs.declared.cmp.Ordering.TheVariants.{Equal};
 ghost use Rattle.rmt_values.specs.Rows.{key_cmp};
 ghost use Rattle.rmt_query.specs.Cells.{one};
 ghost use Rattle.rmt_query.specs.Answers.{groups_of};
-ghost use Rattle.rmt_query.specs.OverRows.{over, total};
+ghost use Rattle.rmt_query.specs.OverRows.{over};
 
-use crate::cells::{compare_values, number, shown};
+use crate::cells::{compare_values, shown};
 use crate::row_values::{Listed, RowValues};
 use crate::tuple::Tuple;
 use rmt_columns::RowRef;
@@ -78,7 +78,7 @@ fn tuple_over<R: RowValues>(
     Ok(Tuple::new(cells))
 }
 
-/// What an item is over these rows. A sum that 128 bits don't hold is out of memory: no memory has so many rows.
+/// What an item is over these rows.
 pub fn cell_over<R: RowValues>(
     alloc: Global,
     item: CheckedItem,
@@ -89,7 +89,7 @@ pub fn cell_over<R: RowValues>(
 {
     match item {
         CheckedItem::Count => Ok(Cell::UInt(rows.len() as u64)),
-        CheckedItem::Sum(column) => Ok(Cell::Sum(sum_over(column, rows)?)),
+        CheckedItem::Sum(column) => Ok(Cell::Sum(rows.sum(column))),
         CheckedItem::Column(column) | CheckedItem::Min(column) => {
             let cell = shown(alloc, rows.value(least_row(column, rows), column))?;
             Ok(cell)
@@ -99,20 +99,6 @@ pub fn cell_over<R: RowValues>(
             Ok(cell)
         }
     }
-}
-
-/// The numbers of a column, added up.
-fn sum_over<R: RowValues>(column: u16, rows: &R) -> Result<i128, AllocError>
-    ensures { IfOk result (λ sum. sum ≡ total column (R.rows rows.now)) }
-{
-    let mut sum: i128 = 0;
-    'rows: for i in 0..rows.len() {
-        match sum.checked_add(number(rows.value(i, column))) {
-            Some(more) => sum = more,
-            None => return Err(AllocError),
-        }
-    }
-    Ok(sum)
 }
 
 /// The place of a row that shows the least cell of a column.

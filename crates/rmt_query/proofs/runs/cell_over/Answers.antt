@@ -13,9 +13,9 @@ returns-in-Count g c =
     let rows = g.R.RowValues.rows c.args.rows.now in
     ap (λ (n : ℕ). cells.UInt n) c.len.ensures.len ∙ sym (ap (λ (i : CheckedItem). over i rows) c.in-Count.is ∙ over-count-of rows c.requires)
 
-pub returns-in_ok-sum_over-in-Sum : goal.returns-in_ok-sum_over-in-Sum
-returns-in_ok-sum_over-in-Sum g c =
+pub returns-in-Sum : goal.returns-in-Sum
+returns-in-Sum g c =
     let rows = g.R.RowValues.rows c.args.rows.now in
-    let back : to_z w128 (of_z w128 c.in_ok-sum_over-in-Sum.field-0) ≡ c.in_ok-sum_over-in-Sum.field-0 = search rules in
-    ap (λ (z : ℤ). cells.Sum z) (back ∙ c.in_ok-sum_over-in-Sum.ensures)
+    let back : to_z w128 (of_z w128 c.sum.result) ≡ c.sum.result = search rules in
+    ap (λ (z : ℤ). cells.Sum z) (back ∙ c.sum.ensures.sum)
     ∙ sym (ap (λ (i : CheckedItem). over i rows) c.in-Sum.is ∙ over-sum-of c.in-Sum.column rows c.requires)
