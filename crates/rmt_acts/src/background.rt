@@ -22,7 +22,7 @@ pub fn run_turns(
     requires seed { seed < 2 ^ 31 }
     requires free { HoldsNone cluster.old }
     ensures runs { OnOk result (RunsAll cluster.old seed turns cluster.new) }
-    ensures works { OnOk result ((t : TableState) → Shows cluster.old t → Leads cluster.new (Works t)) }
+    ensures works { OnOk result ((t : TableState) → Shows cluster.old t → Leads cluster.new (Works turns t)) }
     ensures free { OnOk result (HoldsNone cluster.new) }
     ensures ups { OnOk result (ups cluster.new ≡ ups cluster.old) }
     ensures schema { cluster.new.table.schema ≡ cluster.old.table.schema }

@@ -171,5 +171,5 @@ restarts-in s u r table f = λ t h. acts-in u (ups s) r (acts.RestartReplica tab
 
 -- ---- RUN
 
-pub works-in : (s u : Cluster) (turns : ℕ) → ((t : TableState) → Shows s t → Leads u (λ v. Works t v)) → RunsCluster turns (lines.Ran turns) s u
+pub works-in : (s u : Cluster) (turns : ℕ) → ((t : TableState) → Shows s t → Leads u (λ v. Works turns t v)) → RunsCluster turns (lines.Ran turns) s u
 works-in s u turns f t h = let l = f t h in record { state = l.state; holds = record { works = l.holds; reply = refl }; shows = l.shows }

@@ -18,9 +18,9 @@ use Rattle.rmt_play.specs.declared.script_end.ScriptEnd.{ScriptEnd}
 use Rattle.rmt_play.specs.declared.script_end.ScriptEnd.TheVariants as ends
 use Rattle.rmt_model.specs.Words.{Each}
 use Rattle.rmt_events.specs.Clusters.{Cluster}
-use Rattle.rmt_play.specs.Shown.{AreShown, Agrees}
+use Rattle.rmt_play.specs.Shown.{AreShown, HasReplicas}
 use Rattle.rmt_play.specs.PlayerSteps.{PlayerView, is_up, IsIn, IsEmptyPlayer}
-use Rattle.rmt_play.specs.ScriptEnds.{is_refusal, AdvancesScript, CutsReply, IsScriptEnd, IsEndOf}
+use Rattle.rmt_play.specs.ScriptEnds.{is_refusal, AdvancesScript, CutsReply, AreOfPlayer, IsScriptEnd, IsEndOf}
 use Rattle.rmt_play.proofs.TableLemmas.{shown-clusters}
 
 -- the statements up to a place were played, their replies written and the refused ones counted
@@ -79,8 +79,8 @@ so_far_on script at old new before now after refused end count outcome so on c =
     }
 
 pub so_far_whole : (script : List ℕ) (at : ℕ) (player : PlayerView) (before now after : Option (List ℕ)) (refused : ℕ) (clusters : List Cluster) → SoFar script at player before now refused → ReadsAt script at parsed.End → Keeps now after
-    → clusters ≡ map (λ t. t.cluster) player.tables → Each Agrees clusters → PlayedWhole script before after refused clusters
-so_far_whole script at player before now after refused clusters so ended keeps e agree = record {
+    → AreOfPlayer player clusters → PlayedWhole script before after refused clusters
+so_far_whole script at player before now after refused clusters so ended keeps o = record {
   lines = so.lines;
   at = at;
   world = so.world;
@@ -88,8 +88,10 @@ so_far_whole script at player before now after refused clusters so ended keeps e
   ended = ended;
   written = Appends-kept before now after (output so.lines) so.written keeps;
   counted = so.counted;
-  shown = subst (λ (cs : List Cluster). AreShown cs so.world.tables) (sym e) (shown-clusters player.tables so.world.tables so.is_in.tables);
-  agree = agree;
+  shown = subst (λ (cs : List Cluster). AreShown cs so.world.tables) (sym o.all) (shown-clusters player.tables so.world.tables so.is_in.tables);
+  replicas = subst (λ (n : ℕ). Each (HasReplicas n so.world.up) clusters) (sym so.is_in.replicas)
+      (subst (λ (up : ℕ → Bool). Each (HasReplicas player.replicas up) clusters) (sym so.is_in.up) o.replicas);
+  agree = o.agree;
 }
 
 pub so_far_in_part : (script : List ℕ) (at : ℕ) (player : PlayerView) (before now after : Option (List ℕ)) (refused : ℕ) → SoFar script at player before now refused → Keeps now after → PlayedInPart before after script
@@ -112,7 +114,7 @@ so_far_short script at player before now after refused so short =
 pub ends-whole : (script : List ℕ) (at : ℕ) (player : PlayerView) (before now after : Option (List ℕ)) (refused : ℕ) (end : ScriptEnd) → SoFar script at player before now refused → ReadsAt script at parsed.End → Keeps now after
     → IsEndOf player refused end → IsScriptEnd script before after end
 ends-whole script at player before now after refused (ends.Whole count clusters) so ended keeps e =
-    subst (λ n. PlayedWhole script before after n clusters) (sym e.0) (so_far_whole script at player before now after refused clusters so ended keeps e.1 e.2)
+    subst (λ n. PlayedWhole script before after n clusters) (sym e.0) (so_far_whole script at player before now after refused clusters so ended keeps e.1)
 ends-whole script at player before now after refused ends.WriteFault so ended keeps e = absurd e
 ends-whole script at player before now after refused ends.Memory so ended keeps e = so_far_in_part script at player before now after refused so keeps
 

@@ -11,8 +11,8 @@ use Rattle.rmt_statement_model.specs.Shows.{Shows}
 use Rattle.rmt_play.specs.World.{Table}
 use Rattle.rmt_play.specs.Checks.{table_of}
 use Rattle.rmt_play.specs.Plays.{with_table}
-use Rattle.rmt_play.specs.Shown.{AreShown}
-use Rattle.rmt_play.specs.PlayerSteps.{NamedCluster, ShowTables, HasNone}
+use Rattle.rmt_play.specs.Shown.{AreShown, HasReplicas}
+use Rattle.rmt_play.specs.PlayerSteps.{NamedCluster, is_up, IsAtAll, ShowTables, HasNone}
 
 -- ---- lists
 
@@ -50,6 +50,11 @@ shown-clusters [] [] s = tt
 shown-clusters [] (t ∷ ts) s = absurd s
 shown-clusters (c ∷ cs) [] s = absurd s
 shown-clusters (c ∷ cs) (t ∷ ts) s = (s.1, shown-clusters cs ts s.2)
+
+-- the clusters of a player's tables have its replicas
+pub at-all-clusters : (count : ℕ) (up : List Bool) (ts : List NamedCluster) → Each (IsAtAll count up) ts → Each (HasReplicas count (is_up count up)) (map (λ t. t.cluster) ts)
+at-all-clusters count up [] e = tt
+at-all-clusters count up (t ∷ ts) e = (record { counted = e.0.0; are_up = e.0.1; free = e.0.2 }, at-all-clusters count up ts e.1)
 
 -- ---- the table of a name
 

@@ -12,7 +12,7 @@ use Rattle.rmt_model.specs.Words.{Each}
 use Rattle.rmt_events.specs.Clusters.{Cluster}
 use Rattle.rmt_play.specs.World.{World}
 use Rattle.rmt_play.specs.Plays.{Played, is_refused}
-use Rattle.rmt_play.specs.Shown.{AreShown, Agrees, HandsBack}
+use Rattle.rmt_play.specs.Shown.{AreShown, HasReplicas, Agrees, HandsBack}
 use Rattle.rmt_play.specs.declared.end.End.{End}
 
 -- the words are exactly `play`
@@ -36,7 +36,7 @@ abbrev pub GivesScriptWithin : ℕ → Option (List ℕ) → (List ℕ → Type 
 GivesScriptWithin limit left P = GivesScript left (λ script. (length script ≤ limit) × P script)
 
 -- The whole script was played, its replies were written, so many of its statements were refused, and these clusters show
--- its tables; in each the replicas agree that have done the same log.
+-- its tables: in each the replicas are up and down as the script left them, and those agree that have done the same log.
 pub record PlayedWhole (script : List ℕ) (before after : Option (List ℕ)) (refused : ℕ) (clusters : List Cluster) : Type 0 where
   pub lines : List Line
   pub at : ℕ
@@ -46,6 +46,7 @@ pub record PlayedWhole (script : List ℕ) (before after : Option (List ℕ)) (r
   pub written : Appends before after (output lines)
   pub counted : refused ≡ count_by is_refused lines
   pub shown : AreShown clusters world.tables
+  pub replicas : Each (HasReplicas world.replicas world.up) clusters
   pub agree : Each Agrees clusters
 
 -- Some first statements of the script were played, and their replies were written.

@@ -16,11 +16,11 @@ use Rattle.rmt_play.specs.declared.script_end.ScriptEnd.TheVariants as ends
 use Rattle.rmt_play.specs.declared.status.Status.{Status}
 use Rattle.rmt_model.specs.Words.{Each}
 use Rattle.rmt_events.specs.Clusters.{Cluster}
-use Rattle.rmt_play.specs.Shown.{Agrees}
+use Rattle.rmt_play.specs.Shown.{Agrees, HasReplicas}
 use Rattle.rmt_play.specs.declared.end.End.{End}
 use Rattle.rmt_play.specs.declared.end.End.TheVariants as handed
 use Rattle.rmt_play.specs.Plays.{is_refused}
-use Rattle.rmt_play.specs.PlayerSteps.{PlayerView, Moves, Steps}
+use Rattle.rmt_play.specs.PlayerSteps.{PlayerView, is_up, Moves, Steps}
 use Rattle.rmt_play.specs.Runs.{PlayedWhole, PlayedInPart, CutShort}
 
 -- the outcome of a statement that was refused
@@ -59,9 +59,15 @@ IsScriptEnd script before after (ends.Whole refused clusters) = PlayedWhole scri
 IsScriptEnd script before after ends.WriteFault = CutShort before after script
 IsScriptEnd script before after ends.Memory = PlayedInPart before after script
 
+-- these clusters are handed back by a player
+pub record AreOfPlayer (p : PlayerView) (clusters : List Cluster) : Type 0 where
+  pub all : clusters ≡ map (λ t. t.cluster) p.tables
+  pub replicas : Each (HasReplicas p.replicas (is_up p.replicas p.up)) clusters
+  pub agree : Each Agrees clusters
+
 -- the end of a script that was played to its end by a player
 abbrev pub IsEndOf : PlayerView → ℕ → ScriptEnd → Type 0
-IsEndOf p count (ends.Whole refused clusters) = (refused ≡ count) × (clusters ≡ map (λ t. t.cluster) p.tables) × Each Agrees clusters
+IsEndOf p count (ends.Whole refused clusters) = (refused ≡ count) × AreOfPlayer p clusters
 IsEndOf p count ends.WriteFault = ⊥
 IsEndOf p count ends.Memory = Unit {0}
 

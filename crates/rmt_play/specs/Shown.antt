@@ -1,6 +1,6 @@
 -- Clusters that show the tables of a world, as they are handed back at the end of a run.
 -- No public source: this program's own.
-use Rattle.std.specs.Prelude.{◌≡◌, List, [], ◌∷◌, length}
+use Rattle.std.specs.Prelude.{◌≡◌, ℕ, Bool, List, [], ◌∷◌, length}
 use Rattle.rmt_values.specs.Order.{SameBag}
 use Rattle.rmt_model.specs.Words.{Has}
 use Rattle.rmt_model.specs.Content.{rows}
@@ -8,7 +8,7 @@ use Rattle.rmt_events.specs.Views.{Replica}
 use Rattle.rmt_events.specs.Clusters.{Cluster, accepted, rows_at}
 use Rattle.rmt_events.specs.ReplicaCalls.{IsDrained}
 use Rattle.rmt_events.specs.Shown.{names_and_rows, read_rows}
-use Rattle.rmt_statement_model.specs.Shows.{Shows}
+use Rattle.rmt_statement_model.specs.Shows.{HoldsNone, Shows, ups}
 use Rattle.rmt_play.specs.World.{Table}
 use Rattle.rmt_play.specs.declared.end.End.{End}
 use Rattle.rmt_play.specs.declared.end.End.TheVariants as ends
@@ -19,6 +19,12 @@ abbrev pub AreShown : List Cluster → List Table → Type 0
 AreShown [] [] = Unit {0}
 AreShown (c ∷ clusters) (t ∷ tables) = Shows c t.state × AreShown clusters tables
 AreShown clusters tables = ⊥
+
+-- the cluster has so many replicas, of which these are up, and no insert holds a block number
+pub record HasReplicas (count : ℕ) (up : ℕ → Bool) (c : Cluster) : Type 0 where
+  pub counted : length c.replicas ≡ count
+  pub are_up : ups c ≡ up
+  pub free : HoldsNone c
 
 -- the promise of replication: replicas that are drained to one length of the log have parts of equal names and equal rows, and what
 -- is read of a drained replica is the plain rows of the accepted blocks

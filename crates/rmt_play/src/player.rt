@@ -14,7 +14,7 @@ ghost use Rattle.rmt_play.specs.Checks.{
   unknown_replica,
 };
 ghost use Rattle.rmt_play.specs.Plays.{Counts, Creates};
-ghost use Rattle.rmt_play.specs.Shown.{Agrees};
+ghost use Rattle.rmt_play.specs.Shown.{Agrees, HasReplicas};
 ghost use Rattle.rmt_play.specs.PlayerSteps.{
   ActsAt,
   ChangesAt,
@@ -438,14 +438,24 @@ impl Player {
     /// The clusters of the tables, in their order. At an error no memory was left.
     pub(crate) fn into_clusters(self, alloc: Global) -> Result<List<Cluster>, AllocError>
         ensures clusters { IfOk result (λ clusters. clusters ≡ map (λ t. t.cluster) self.tables) }
+        ensures replicas { IfOk result (Each (HasReplicas self.replicas (up_test self.replicas self.up))) }
         ensures agree { IfOk result (Each Agrees) }
     {
-        let mut clusters = Vec::with_capacity(alloc, self.tables.len())?;
-        'tables: for table in self.tables {
-            // What always holds of a cluster is known here.
-            table.cluster.drained_replicas_agree();
-            clusters.push(table.cluster)?;
-        }
-        Ok(List::new(clusters))
+        let clusters = clusters_of(alloc, self.tables)?;
+        Ok(clusters)
     }
+}
+
+/// The clusters of these tables, in their order.
+fn clusters_of(alloc: Global, tables: Vec<NamedTable>) -> Result<List<Cluster>, AllocError>
+    ensures clusters { IfOk result (λ clusters. clusters ≡ map (λ t. t.cluster) tables.items) }
+    ensures agree { IfOk result (Each Agrees) }
+{
+    let mut clusters = Vec::with_capacity(alloc, tables.len())?;
+    'tables: for table in tables {
+        // What always holds of a cluster is known here.
+        table.cluster.drained_replicas_agree();
+        clusters.push(table.cluster)?;
+    }
+    Ok(List::new(clusters))
 }

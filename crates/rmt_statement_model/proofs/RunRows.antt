@@ -1,5 +1,5 @@
 -- RUN: its turns leave a table as it is, but for entries of background work.
-use Rattle.std.proofs.Common.{◌≡◌, ℕ, zero, suc, inl, inr, List, [], ◌∷◌, ◌++◌, refl, sym, ap, subst, ◌∙◌}
+use Rattle.std.proofs.Common.{◌≡◌, ◌≤◌, ◌+◌, ℕ, zero, suc, inl, inr, List, [], ◌∷◌, ◌++◌, length, length-append, refl, sym, ap, subst, ◌∙◌, arith}
 use Rattle.rmt_values.specs.Rows.{Shape}
 use Rattle.rmt_names.specs.Names.{Name}
 use Rattle.rmt_entries.specs.declared.entry.Entry.{Entry}
@@ -36,8 +36,8 @@ shown-lawful : (s : Cluster) (t : TableState) → IsWhole s → Shows s t → La
 shown-lawful s t w h = subst (λ (c : Shape). Lawful c t.log) (sym h.schema) (subst (λ (l : List Entry). Lawful s.table.schema l) (sym h.log) (IsSoundTable.lawful w.table))
 
 -- no work leaves the table
-pub works-none : (t : TableState) → Lawful t.schema t.log → Works t t
-works-none t l = record { gained = []; workers = tt; lawful = l; change = refl }
+pub works-none : (t : TableState) (n : ℕ) → Lawful t.schema t.log → Works n t t
+works-none t n l = record { gained = []; workers = tt; within = omega arith; lawful = l; change = refl }
 
 -- the entries of both are of workers
 each-both : (xs ys : List Entry) → Each IsOfWorker xs → Each IsOfWorker ys → Each IsOfWorker (xs ++ ys)
@@ -49,27 +49,31 @@ joined-log : (xs ys zs : List Entry) → (xs ++ ys) ++ zs ≡ xs ++ (ys ++ zs)
 joined-log [] ys zs = refl
 joined-log (x ∷ xs) ys zs = ap (λ (l : List Entry). x ∷ l) (joined-log xs ys zs)
 
--- work after work is work
-pub works-then : (t u v : TableState) → Works t u → Works u v → Works t v
-works-then t u v f g =
+-- work in some turns and then in more is work in all of them
+pub works-then : (t u v : TableState) (m n : ℕ) → Works m t u → Works n u v → Works (n + m) t v
+works-then t u v m n f g =
     record {
       gained = g.gained ++ f.gained;
       workers = each-both g.gained f.gained g.workers f.workers;
+      within = few;
       lawful = subst (λ (l : List Entry). Lawful t.schema l) (sym long) (subst (λ (c : Shape). Lawful c (g.gained ++ u.log)) (ap (λ (x : TableState). x.schema) f.change) g.lawful);
       change = g.change ∙ (ap (λ (x : TableState). record x { log = g.gained ++ u.log }) f.change ∙ ap (λ (l : List Entry). record t { log = l }) (sym long));
     }
   where
+    few : length (g.gained ++ f.gained) ≤ n + m
+    few = omega (arith, length-append g.gained f.gained, f.within, g.within)
+
     long : (g.gained ++ f.gained) ++ t.log ≡ g.gained ++ u.log
     long = joined-log g.gained f.gained t.log ∙ ap (λ (l : List Entry). g.gained ++ l) (sym (ap (λ (x : TableState). x.log) f.change))
 
 -- ---- one event
 
 -- the cluster shows the table as it was
-still : (s u : Cluster) (t : TableState) → IsWhole s → Shows s t → Shows u t → Leads u (Works t)
-still s u t w h k = record { state = t; holds = works-none t (shown-lawful s t w h); shows = k }
+still : (s u : Cluster) (t : TableState) → IsWhole s → Shows s t → Shows u t → Leads u (Works 1 t)
+still s u t w h k = record { state = t; holds = works-none t 1 (shown-lawful s t w h); shows = k }
 
 -- a refused event leaves the table
-declined-move : (s u : Cluster) (e : Event) (reply : Reply) (Cause : StepRefused → Type 0) → IsWhole s → (k : Step s e reply u) → Declines s Cause reply k.after → TellsNoCommit e reply → (t : TableState) → Shows s t → Leads u (Works t)
+declined-move : (s u : Cluster) (e : Event) (reply : Reply) (Cause : StepRefused → Type 0) → IsWhole s → (k : Step s e reply u) → Declines s Cause reply k.after → TellsNoCommit e reply → (t : TableState) → Shows s t → Leads u (Works 1 t)
 declined-move s u e reply Cause w k d n t h = still s u t w h (shows-quiet s u e reply t w k (ap (λ (x : Cluster). x.table) d.unchanged) (ap (λ (x : Cluster). x.events) d.unchanged) n h)
 
 -- an entry of a worker is no block's
@@ -81,20 +85,20 @@ worker-no-block (Mutation id numbers command) q = absurd q
 worker-no-block (DropRange p n) q = absurd q
 
 -- an entry of a worker enters the log
-gained-move : (s u : Cluster) (e : Event) (reply : Reply) (x : Entry) → IsWhole s → Step s e reply u → GainsEntry s u x → IsOfWorker x → u.table.next ≡ s.table.next → (t : TableState) → Shows s t → Leads u (Works t)
+gained-move : (s u : Cluster) (e : Event) (reply : Reply) (x : Entry) → IsWhole s → Step s e reply u → GainsEntry s u x → IsOfWorker x → u.table.next ≡ s.table.next → (t : TableState) → Shows s t → Leads u (Works 1 t)
 gained-move s u e reply x w k g q n t h =
     let shows : Shows u (record t { log = x ∷ t.log; next = t.next }) = gained-shows s u e reply x t t.next w k g (worker-no-block x q) (h.next ∙ sym n) h in
     record {
       state = record t { log = x ∷ t.log };
-      holds = record { gained = x ∷ []; workers = (q, tt); lawful = shown-lawful u (record t { log = x ∷ t.log }) (whole-step s u e reply w k) shows; change = refl };
+      holds = record { gained = x ∷ []; workers = (q, tt); within = omega arith; lawful = shown-lawful u (record t { log = x ∷ t.log }) (whole-step s u e reply w k) shows; change = refl };
       shows = shows;
     }
 
 -- a merge
-pub merge-move : (s u : Cluster) (k : ℕ) (names : List Name) (reply : Reply) → IsWhole s → Step s (ev.Merge k names) reply u → (t : TableState) → Shows s t → Leads u (Works t)
+pub merge-move : (s u : Cluster) (k : ℕ) (names : List Name) (reply : Reply) → IsWhole s → Step s (ev.Merge k names) reply u → (t : TableState) → Shows s t → Leads u (Works 1 t)
 merge-move s u k names reply w st t h = go st.does
   where
-    go : Does s (ev.Merge k names) reply st.after → Leads u (Works t)
+    go : Does s (ev.Merge k names) reply st.after → Leads u (Works 1 t)
     go (inl d) =
         let q : st.after.table ≡ d.appends.at.new = ap (λ (x : Cluster). x.table) d.appends.at.change in
         gained-move s u (ev.Merge k names) reply (Merge d.name names d.count) w st
@@ -107,10 +111,10 @@ merge-move s u k names reply w st t h = go st.does
     go (inr d) = declined-move s u (ev.Merge k names) reply _ w st d (λ xs i. refl) t h
 
 -- a mutate
-pub mutate-move : (s u : Cluster) (k : ℕ) (part : Name) (upto : ℕ) (reply : Reply) → IsWhole s → Step s (ev.Mutate k part upto) reply u → (t : TableState) → Shows s t → Leads u (Works t)
+pub mutate-move : (s u : Cluster) (k : ℕ) (part : Name) (upto : ℕ) (reply : Reply) → IsWhole s → Step s (ev.Mutate k part upto) reply u → (t : TableState) → Shows s t → Leads u (Works 1 t)
 mutate-move s u k part upto reply w st t h = go st.does
   where
-    go : Does s (ev.Mutate k part upto) reply st.after → Leads u (Works t)
+    go : Does s (ev.Mutate k part upto) reply st.after → Leads u (Works 1 t)
     go (inl d) =
         let q : st.after.table ≡ d.appends.at.new = ap (λ (x : Cluster). x.table) d.appends.at.change in
         gained-move s u (ev.Mutate k part upto) reply (Mutate part d.name upto d.count d.mcount) w st
@@ -123,7 +127,7 @@ mutate-move s u k part upto reply w st t h = go st.does
     go (inr d) = declined-move s u (ev.Mutate k part upto) reply _ w st d (λ xs i. refl) t h
 
 -- what such an event does to the table
-turn-move : (s u : Cluster) (e : Event) (reply : Reply) → IsWhole s → IsOfTurn (ups s) e → Step s e reply u → (t : TableState) → Shows s t → Leads u (Works t)
+turn-move : (s u : Cluster) (e : Event) (reply : Reply) → IsWhole s → IsOfTurn (ups s) e → Step s e reply u → (t : TableState) → Shows s t → Leads u (Works 1 t)
 turn-move s u (ev.Pull k) reply w q st t h = still s u t w h (quiet-shows s u (ev.Pull k) reply w tt st t h)
 turn-move s u (ev.Apply k i) reply w q st t h = still s u t w h (quiet-shows s u (ev.Apply k i) reply w tt st t h)
 turn-move s u (ev.Merge k names) reply w q st t h = merge-move s u k names reply w st t h
@@ -138,13 +142,15 @@ run-whole : (s u : Cluster) (seed n x : ℕ) → IsWhole s → Runs s seed n u x
 run-whole s u seed zero x w r = subst IsWhole (sym r.0) w
 run-whole s u seed (suc n) x w r = whole-step r.0 u (turn r.0 r.1).event r.2 (run-whole s r.0 seed n r.1 w r.3) r.4
 
--- the log gains entries of background work alone
-pub run-row : (s u : Cluster) (seed n x : ℕ) → IsWhole s → Runs s seed n u x → (t : TableState) → Shows s t → Leads u (Works t)
-run-row s u seed zero x w r t h = still s u t w h (subst (λ (y : Cluster). Shows y t) (sym r.0) h)
+-- the log gains entries of background work alone, one a turn at most
+pub run-row : (s u : Cluster) (seed n x : ℕ) → IsWhole s → Runs s seed n u x → (t : TableState) → Shows s t → Leads u (Works n t)
+run-row s u seed zero x w r t h =
+    record { state = t; holds = works-none t 0 (shown-lawful s t w h); shows = subst (λ (y : Cluster). Shows y t) (sym r.0) h }
 run-row s u seed (suc n) x w r t h =
     let f = run-row s r.0 seed n r.1 w r.3 t h in
     let g = turn-move r.0 u (turn r.0 r.1).event r.2 (run-whole s r.0 seed n r.1 w r.3) (turn-is r.0 r.1 (run-whole s r.0 seed n r.1 w r.3)) r.4 f.state f.shows in
-    record { state = g.state; holds = works-then t f.state g.state f.holds g.holds; shows = g.shows }
+    let all : 1 + n ≡ suc n = omega arith in
+    record { state = g.state; holds = subst (λ (k : ℕ). Works k t g.state) all (works-then t f.state g.state n 1 f.holds g.holds); shows = g.shows }
 
 -- no insert gets under way
 pub run-free : (s u : Cluster) (seed n x : ℕ) → IsWhole s → Runs s seed n u x → HoldsNone s → HoldsNone u

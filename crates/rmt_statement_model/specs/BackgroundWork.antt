@@ -1,7 +1,7 @@
 -- Background work: what RUN does to a table.
 -- ClickHouse documentation, MergeTree, "Data storage": parts are merged in the background; ALTER, "Mutations": parts are mutated
 -- in the background.
-use Rattle.std.specs.Prelude.{◌≡◌, List, ◌++◌}
+use Rattle.std.specs.Prelude.{◌≡◌, ◌≤◌, ℕ, List, ◌++◌, length}
 use Rattle.rmt_entries.specs.declared.entry.Entry.{Entry}
 use Rattle.rmt_entries.specs.declared.entry.Entry.TheVariants.{Get, Merge, Mutate, Mutation, DropRange}
 use Rattle.rmt_model.specs.Words.{Each}
@@ -16,9 +16,10 @@ IsOfWorker (Get p n digest source need) = ⊥
 IsOfWorker (Mutation id numbers command) = ⊥
 IsOfWorker (DropRange p n) = ⊥
 
--- the log gains such entries alone, and is lawful still; nothing else changes
-pub record Works (t u : TableState) : Type 0 where
+-- in so many turns the log gains such entries alone, one a turn at most, and is lawful still; nothing else changes
+pub record Works (turns : ℕ) (t u : TableState) : Type 0 where
   pub gained : List Entry
   pub workers : Each IsOfWorker gained
+  pub within : length gained ≤ turns
   pub lawful : Lawful t.schema (gained ++ t.log)
   pub change : u ≡ record t { log = gained ++ t.log }
