@@ -16,7 +16,7 @@ IsOfWorker (Get p n digest source need) = ⊥
 IsOfWorker (Mutation id numbers command) = ⊥
 IsOfWorker (DropRange p n) = ⊥
 
--- in so many turns the log gains such entries alone, one a turn at most, and is lawful still; nothing else changes
+-- in so many turns the log gains such entries alone, at most as many as turns, and is lawful still; nothing else changes
 pub record Works (turns : ℕ) (t u : TableState) : Type 0 where
   pub gained : List Entry
   pub workers : Each IsOfWorker gained
