@@ -1,6 +1,4 @@
 pub mod ToldParts
-pub mod TwoChanges
-pub mod MergedBlocks
 pub mod MergeLaws
 pub mod MutateLaws
 pub mod GatheredLemmas

@@ -1,5 +1,5 @@
 -- A merge of sorted parts is the content of the merged name.
-use Rattle.std.proofs.Common.{◌≡◌, ℕ, ◌<◌, ◌≤◌, ◌⊎◌, inl, inr, ◌&&◌, Bool, true, false, cond, max, List, [], ◌∷◌, ◌++◌, length, refl, sym, ap, subst, arith, ◌∙◌, nat_eq, nat_lt, nat_le, append_assoc, length-append}
+use Rattle.std.proofs.Common.{◌≡◌, ℕ, ◌<◌, ◌≤◌, ◌⊎◌, inl, inr, ◌&&◌, Bool, true, false, cond, List, [], ◌∷◌, ◌++◌, length, refl, sym, ap, subst, arith, ◌∙◌, nat_eq, nat_lt, nat_le, append_assoc, length-append}
 use Rattle.std.proofs.lemmas.Bool.Decides.{nat_tests}
 use Rattle.std.specs.declared.option.Option.{Option}
 use Rattle.std.specs.declared.option.Option.TheVariants.{Some}
@@ -13,43 +13,17 @@ use Rattle.rmt_entries.specs.declared.entry.Entry.TheVariants.{Get, Merge, Mutat
 use Rattle.rmt_model.specs.Words.{Has, Each, Pairwise}
 use Rattle.rmt_model.specs.Live.{Before}
 use Rattle.rmt_model.specs.Laws.{MutatedAt}
-use Rattle.rmt_model.specs.Lawful.{Used, Uses, AboveUsed, Meets, is_mutation, version_among, version_below, IsMutation, IsMutationWith, mutation_count, block_count, Merges, ver, Lawful}
+use Rattle.rmt_model.specs.Lawful.{Used, Uses, AboveUsed, Meets, is_mutation, version_below, IsMutation, IsMutationWith, mutation_count, block_count, Merges, ver, Lawful}
 use Rattle.rmt_model.specs.Content.{Row, changed}
 use Rattle.rmt_model.specs.Parts.{NumberedBlock, PartView, mutated_rows, lineage_rows, AreNumbered, EndAt, IsLineage, ComesFrom, IsPartOf}
 use Rattle.rmt_model.proofs.Lists.{Each-at, Each-all, Has-append}
-use Rattle.rmt_model.proofs.LiveLaws.{Tight, tight, source-fits, sources-lined, merged-sized, highest-above, merged-covers, at-below}
-use Rattle.rmt_model.proofs.VersionLaws.{highest-reached}
-use Rattle.rmt_laws.proofs.PlainRows.{of_name, tally-same}
+use Rattle.rmt_model.proofs.LiveLaws.{Tight, tight, source-fits, sources-lined, merged-sized, highest-above, merged-covers}
+use Rattle.rmt_model.proofs.VersionLaws.{highest-reached, below-limit, mutated-below}
+use Rattle.rmt_laws.proofs.PlainRows.{of_name, tally-same, merged-total}
+use Rattle.rmt_laws.proofs.TwoChanges.{changed-same, alone}
 use Rattle.rmt_part.proofs.RowChanges.{filter_map-same}
 use Rattle.rmt_part.proofs.LineageLaws.{id_told, id-below, told-mutations, told-count, count-passing, has-used}
 use Rattle.rmt_compact.proofs.ToldParts.{told_names, blocks_in, most_mutations, merged_lineage, rows_in, Makes}
-use Rattle.rmt_compact.proofs.TwoChanges.{changed-same, alone}
-use Rattle.rmt_compact.proofs.MergedBlocks.{merged-total}
-
--- ---- versions
-
--- the version isn't above the limit
-among-limit : (numbers : List (Option ℕ × ℕ)) (p : Option ℕ) (limit : ℕ) → version_among numbers p limit ≤ limit
-among-limit [] p limit = omega arith
-among-limit (x ∷ xs) p limit = let q = among-limit xs p limit in first (nat_eq (rank x.0) (rank p)) x.1 limit (version_among xs p limit) q
-  where
-    first : (b : Bool) (m l rest : ℕ) → rest ≤ l → max (cond (b && nat_le m l) m 0) rest ≤ l
-    first true m l rest h = grind (arith, nat_tests)
-    first false m l rest h = omega arith
-
-below-limit : (log : List Entry) (p : Option ℕ) (limit : ℕ) → version_below log p limit ≤ limit
-below-limit [] p limit = omega arith
-below-limit (Mutation id numbers command ∷ log) p limit = omega (arith, among-limit numbers p limit, below-limit log p limit)
-below-limit (Get q n digest source need ∷ log) p limit = omega (arith, below-limit log p limit)
-below-limit (Merge new sources count ∷ log) p limit = omega (arith, below-limit log p limit)
-below-limit (Mutate old new upto count mcount ∷ log) p limit = omega (arith, below-limit log p limit)
-below-limit (DropRange q n ∷ log) p limit = omega (arith, below-limit log p limit)
-
--- a mutation's number that isn't above the limit isn't above the version
-mutated-below : (log : List Entry) (p : Option ℕ) (m limit : ℕ) → MutatedAt log p m → m ≤ limit → m ≤ version_below log p limit
-mutated-below [] p m limit k h = absurd k
-mutated-below (e ∷ log) p m limit (inl k) h = omega (arith, at-below e p m limit k h)
-mutated-below (e ∷ log) p m limit (inr k) h = omega (arith, mutated-below log p m limit k h)
 
 -- ---- the order of joined parts
 

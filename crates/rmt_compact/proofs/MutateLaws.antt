@@ -24,13 +24,12 @@ use Rattle.rmt_model.proofs.Lists.{Each-at, Each-all}
 use Rattle.rmt_model.proofs.LiveLaws.{pending-above, later-covers}
 use Rattle.rmt_model.proofs.Drops.{made-more, entry-older, entry-below, entry-cases, entry-has}
 use Rattle.rmt_model.proofs.VersionLaws.{live-made, made-sized, pending-above-max}
-use Rattle.rmt_laws.proofs.Headline.{PartsAt}
+use Rattle.rmt_laws.proofs.TwoChanges.{PartsAt, in-two, filter_map-joins, filter_map-twice}
 use Rattle.rmt_changes.specs.Changes.{between}
 use Rattle.rmt_changes.specs.Laws.{EntryFits}
 use Rattle.rmt_changes.proofs.ChangeLaws.{keys-stay, rows-stay-fit}
 use Rattle.rmt_part.proofs.LineageLaws.{told-mutations, told-count, count-passing}
 use Rattle.rmt_compact.proofs.ToldParts.{Makes}
-use Rattle.rmt_compact.proofs.TwoChanges.{in-two, filter_map-joins, filter_map-twice}
 
 -- ---- what a mutation of the log leaves of a row
 

@@ -1,4 +1,4 @@
-//! Parts made of a block, of other parts, and of a part and its pending mutations.
+//! Parts made of a block, of other parts, of a part and its pending mutations, and of the bytes that another replica sent.
 #![tactic(auto)]
 
 mod block_part;

@@ -1,3 +1,4 @@
 pub mod ContentLaws
 pub mod PlainRows
+pub mod TwoChanges
 pub mod Headline

@@ -290,6 +290,47 @@ get-case p n digest source need log w t f ih =
         let at : present (Get p n digest source need ∷ log) w p n ≡ w p n = ap (λ b. cond (b || has_block log p n) (w p n) 0) (block-here p n) in
         omega (arith, z, here, at)
 
+-- a merged name has the blocks of its sources
+pub merged-total : (schema : Shape) (new : Name) (a b : Name) (rest : List Name) (count : ℕ) (log : List Entry) (w : Weight) → Lawful schema log → (m : Merges log a b rest new count) → of_name log w (merged_name a (b ∷ rest)) ≡ tally (of_name log w) (a ∷ b ∷ rest)
+merged-total schema new a b rest count log w l m =
+    let s = span-total (present log w a.partition) a (b ∷ rest) lined fits gap in
+    let u = tally-same (λ c. total (present log w a.partition) c.min (c.max + 1 - c.min)) F (a ∷ b ∷ rest) at-partition in
+    omega (arith, s, u)
+  where
+    t : Tight log
+    t = tight schema log l
+
+    F : Name → ℕ
+    F = of_name log w
+
+    lined : Pairwise Before (a ∷ b ∷ rest)
+    lined = sources-lined log t a b rest new count m
+
+    fits : (c : Name) → Has (a ∷ b ∷ rest) c → (c.partition ≡ a.partition) × (c.min ≤ c.max)
+    fits = source-fits log t a b rest new count m
+
+    each-live : (c : Name) → Has (a ∷ b ∷ rest) c → Has (live log) c
+    each-live = source-live log t a b rest new count m
+
+    -- between them the log has no block
+    gap : (n : ℕ) → ((c : Name) → Has (a ∷ b ∷ rest) c → c.min ≤ n → n ≤ c.max → ⊥) → a.min ≤ n → n ≤ (last a (b ∷ rest)).max → present log w a.partition n ≡ 0
+    gap n none i j = go (has_block log a.partition n) refl
+      where
+        found : LiesInOne log a.partition n → ⊥
+        found o =
+            let u = o.spans.low in let v = o.spans.high in
+            none o.name (is-source log t a b rest new count m o.name o.is_live (record { partition = sym o.spans.partition; low = omega arith; high = omega arith })) u v
+
+        above : AboveDrops log a.partition n
+        above k d = let u = t.above a (each-live a (inl refl)) k d in omega (arith, u)
+
+        go : (v : Bool) → has_block log a.partition n ≡ v → cond (has_block log a.partition n) (w a.partition n) 0 ≡ 0
+        go true e = absurd (found (blocks-live-once schema log l a.partition n (has-committed log a.partition n e) above))
+        go false e = rw e refl
+
+    at-partition : (c : Name) → Has (a ∷ b ∷ rest) c → total (present log w a.partition) c.min (c.max + 1 - c.min) ≡ F c
+    at-partition c h = ap (λ (p : Option ℕ). total (present log w p) c.min (c.max + 1 - c.min)) (sym (fits c h).0)
+
 -- the step of a merge
 merge-case : (schema : Shape) (new : Name) (a b : Name) (rest : List Name) (count : ℕ) (log : List Entry) (w : Weight) → Lawful schema log → (m : Merges log a b rest new count) → tally (of_name log w) (placed new (live log)) ≡ tally (of_name log w) (live log)
 merge-case schema new a b rest count log w l m =
@@ -324,31 +365,11 @@ merge-case schema new a b rest count log w l m =
         inside : (x : Name) → Has (live log) x × (covers merged x ≡ true) → Has (a ∷ b ∷ rest) x
         inside x h = is-source log t a b rest new count m x h.0 (cover-overlap merged x (covers-true merged x h.1) (t.sized x h.0))
 
-    -- between them the log has no block
-    gap : (n : ℕ) → ((c : Name) → Has (a ∷ b ∷ rest) c → c.min ≤ n → n ≤ c.max → ⊥) → a.min ≤ n → n ≤ (last a (b ∷ rest)).max → present log w a.partition n ≡ 0
-    gap n none i j = go (has_block log a.partition n) refl
-      where
-        found : LiesInOne log a.partition n → ⊥
-        found o =
-            let u = o.spans.low in let v = o.spans.high in
-            none o.name (is-source log t a b rest new count m o.name o.is_live (record { partition = sym o.spans.partition; low = omega arith; high = omega arith })) u v
-
-        above : AboveDrops log a.partition n
-        above k d = let u = t.above a (each-live a (inl refl)) k d in omega (arith, u)
-
-        go : (v : Bool) → has_block log a.partition n ≡ v → cond (has_block log a.partition n) (w a.partition n) 0 ≡ 0
-        go true e = absurd (found (blocks-live-once schema log l a.partition n (has-committed log a.partition n e) above))
-        go false e = rw e refl
-
-    at-partition : (c : Name) → Has (a ∷ b ∷ rest) c → total (present log w a.partition) c.min (c.max + 1 - c.min) ≡ F c
-    at-partition c h = ap (λ (p : Option ℕ). total (present log w p) c.min (c.max + 1 - c.min)) (sym (fits c h).0)
-
     own : F merged ≡ tally F (filter (covers merged) (live log)) + 0
     own =
-        let s = span-total (present log w a.partition) a (b ∷ rest) lined fits gap in
-        let u = tally-same (λ c. total (present log w a.partition) c.min (c.max + 1 - c.min)) F (a ∷ b ∷ rest) at-partition in
+        let s = merged-total schema new a b rest count log w l m in
         let v = ap (tally F) covered in
-        omega (arith, s, u, v)
+        omega (arith, s, v)
 
 -- the step of a mutation of a part
 mutate-case : (schema : Shape) (old new : Name) (upto count mcount : ℕ) (log : List Entry) (w : Weight) → Lawful schema log → (m : IsMutate log old new upto count mcount) → tally (of_name log w) (placed new (live log)) ≡ tally (of_name log w) (live log)

@@ -32,7 +32,7 @@ among-limit (x ∷ xs) p limit = let q = among-limit xs p limit in first (nat_eq
     first true m l rest h = grind (arith, nat_tests)
     first false m l rest h = omega arith
 
-below-limit : (log : List Entry) (p : Option ℕ) (limit : ℕ) → version_below log p limit ≤ limit
+pub below-limit : (log : List Entry) (p : Option ℕ) (limit : ℕ) → version_below log p limit ≤ limit
 below-limit [] p limit = omega arith
 below-limit (Mutation id numbers command ∷ log) p limit = omega (arith, among-limit numbers p limit, below-limit log p limit)
 below-limit (Get q n digest source need ∷ log) p limit = omega (arith, below-limit log p limit)
@@ -41,7 +41,7 @@ below-limit (Mutate old new upto count mcount ∷ log) p limit = omega (arith, b
 below-limit (DropRange q n ∷ log) p limit = omega (arith, below-limit log p limit)
 
 -- a mutation's number that isn't above the limit isn't above the version
-mutated-below : (log : List Entry) (p : Option ℕ) (m limit : ℕ) → MutatedAt log p m → m ≤ limit → m ≤ version_below log p limit
+pub mutated-below : (log : List Entry) (p : Option ℕ) (m limit : ℕ) → MutatedAt log p m → m ≤ limit → m ≤ version_below log p limit
 mutated-below [] p m limit k h = absurd k
 mutated-below (e ∷ log) p m limit (inl k) h = omega (arith, at-below e p m limit k h)
 mutated-below (e ∷ log) p m limit (inr k) h = omega (arith, mutated-below log p m limit k h)

@@ -22,7 +22,8 @@ use Rattle.rmt_model.proofs.LiveLaws.{tight}
 use Rattle.rmt_model.proofs.VersionLaws.{made-sized}
 use Rattle.rmt_laws.proofs.ContentLaws.{outside-made}
 use Rattle.rmt_laws.proofs.PlainRows.{total}
-use Rattle.rmt_part.proofs.RowChanges.{none-chosen, filter_map-same, then-some, skips}
+use Rattle.rmt_laws.proofs.TwoChanges.{then-some, skips}
+use Rattle.rmt_part.proofs.RowChanges.{none-chosen, filter_map-same}
 
 -- ---- mutations
 

@@ -1,17 +1,11 @@
 -- What the mutations of a list of entries change of a row.
-use Rattle.std.proofs.Common.{◌≡◌, ℕ, ◌<◌, ◌&&◌, ◌||◌, Bool, true, false, cond, List, [], ◌∷◌, inl, inr, refl, ap, arith, ◌∙◌, nat_eq, nat_lt, nat_le}
+use Rattle.std.proofs.Common.{◌≡◌, ℕ, ◌<◌, ◌&&◌, ◌||◌, Bool, true, false, List, [], ◌∷◌, inl, inr, refl, ap, arith, ◌∙◌, nat_eq, nat_lt, nat_le}
 use Rattle.std.proofs.lemmas.Bool.Decides.{nat_tests}
 use Rattle.std.specs.List.{filter_map, cons_option}
-use Rattle.std.specs.Option.{option_and_then}
 use Rattle.std.specs.declared.option.Option.{Option}
-use Rattle.std.specs.declared.option.Option.TheVariants.{Some, None}
-use Rattle.rmt_values.specs.declared.checked_mutation.CheckedMutation.{CheckedMutation}
-use Rattle.rmt_values.specs.Commands.{applied}
 use Rattle.rmt_names.specs.Names.{rank}
-use Rattle.rmt_entries.specs.declared.entry.Entry.{Entry}
-use Rattle.rmt_entries.specs.declared.entry.Entry.TheVariants.{Mutation}
 use Rattle.rmt_model.specs.Words.{Has}
-use Rattle.rmt_model.specs.Content.{Row, chosen, changed}
+use Rattle.rmt_model.specs.Content.{Row, chosen}
 use Rattle.rmt_model.proofs.Lists.{rank-injective}
 
 -- two functions of rows that agree leave equal rows
@@ -33,13 +27,3 @@ none-chosen (x ∷ xs) p n limit h = go (nat_eq (rank x.0) (rank p)) refl (none-
       where
         past : (n m l : ℕ) → l < m → ((nat_lt n m && nat_le m l) || false) ≡ false
         past n m l g = grind (arith, nat_tests)
-
--- one that leaves each row leaves it
-pub then-some : (o : Option Row) → option_and_then (λ row. Some row) o ≡ o
-then-some None = refl
-then-some (Some r) = refl
-
--- a mutation that has no number that passes is passed over
-pub skips : (id : ℕ) (numbers : List (Option ℕ × ℕ)) (command : CheckedMutation) (log : List Entry) (p : Option ℕ) (t : ℕ → Bool) (r : Row) → chosen numbers p t ≡ false → changed (Mutation id numbers command ∷ log) p t r ≡ changed log p t r
-skips id numbers command log p t r e =
-    ap (λ (b : Bool). option_and_then (λ row. cond b (applied command row) (Some row)) (changed log p t r)) e ∙ then-some (changed log p t r)

@@ -1,9 +1,10 @@
-ghost use Rattle.std.specs.Prelude.{◌≡◌, ◌≢◌, ◌+◌, ◌%◌, ◌∷◌, ◌++◌, [], IfOk, IfErr};
+ghost use Rattle.std.specs.Prelude.{◌≡◌, ◌≢◌, ◌∷◌, ◌++◌, [], IfOk, IfErr};
 ghost use Rattle.rmt_paths.specs.declared.path_error.PathError.TheVariants as PathError;
 ghost use Rattle.rmt_paths.specs.PathReading.{EndsName, ReadsByte};
-ghost use Rattle.rmt_paths.specs.Paths.{Names, path_text, IsPath, IsName, last_name, child, numbered, digits};
+ghost use Rattle.rmt_paths.specs.Paths.{Names, path_text, IsPath, IsName, last_name, child, numbered};
 ghost use Rattle.rmt_paths.specs.ChildRange.{children_start};
 
+use crate::digits::ten_digits;
 use crate::path_error::PathError;
 use crate::place::Place;
 use crate::segment::Segment;
@@ -35,40 +36,6 @@ fn path_at(alloc: Global, place: Place) -> Result<Path, AllocError>
 {
     let start = place.children_start(alloc)?;
     Ok(Path { place, start })
-}
-
-/// The last decimal digit.
-fn digit(number: u32) -> u8
-    ensures { result ≡ 48 + number % 10 }
-{
-    b'0' + (number % 10) as u8
-}
-
-/// The ten decimal digits of a number, with leading zeros.
-fn ten_digits(number: u32) -> [u8; 10]
-    ensures { result ≡ digits 10 number }
-{
-    let n1 = number / 10;
-    let n2 = n1 / 10;
-    let n3 = n2 / 10;
-    let n4 = n3 / 10;
-    let n5 = n4 / 10;
-    let n6 = n5 / 10;
-    let n7 = n6 / 10;
-    let n8 = n7 / 10;
-    let n9 = n8 / 10;
-    [
-        digit(n9),
-        digit(n8),
-        digit(n7),
-        digit(n6),
-        digit(n5),
-        digit(n4),
-        digit(n3),
-        digit(n2),
-        digit(n1),
-        digit(number),
-    ]
 }
 
 /// What was read of a text: whole names, and the bytes of the unfinished one.

@@ -27,7 +27,7 @@ use Rattle.rmt_table_model.proofs.NumberLemmas.{number-is}
 use Rattle.std.proofs.lemmas.List.{append_assoc}
 use Rattle.rmt_znodes.proofs.ZnodeStateLemmas.{has_znodes-as, Does, creates, with_counted, makes-none, makes-more}
 use Rattle.rmt_model.proofs.Lists.{Each-all}
-use Rattle.rmt_table_model.proofs.NodeLemmas.{does-as, makes-one, not-locked}
+use Rattle.rmt_table_model.proofs.NodeLemmas.{does-as, makes-one, not-locked, limits-rise}
 use Rattle.rmt_table_model.proofs.StepNodes.{appends, appended, no-entry}
 use Rattle.rmt_table_model.proofs.KeptLemmas.{gets-next}
 use Rattle.rmt_table_model.proofs.KeptNodes.{makes-append}
@@ -215,30 +215,10 @@ module _ (bytes : Entry → List ℕ) (t : TreeView) (v : TableView) (of : IsTre
   mutation-each (LogPointer r) h = refl
   mutation-each (IsActive r) h = refl
 
-  mutation-bound : (y : Znode) → version_limits v y ≤ version_limits (after_mutation command v) y
-  mutation-bound Log = omega arith
-  mutation-bound (LogEntry i) = omega arith
-  mutation-bound Blocks = omega arith
-  mutation-bound (Block q d) = omega arith
-  mutation-bound Order = omega arith
-  mutation-bound (OrderOf i) = omega arith
-  mutation-bound Numbers = omega arith
-  mutation-bound (Partition q) = omega arith
-  mutation-bound (Lock q k) = omega arith
-  mutation-bound Mutations = omega arith
-  mutation-bound (MutationNode i) = omega arith
-  mutation-bound Quorum = omega arith
-  mutation-bound Status = omega arith
-  mutation-bound LastPart = omega arith
-  mutation-bound Replicas = omega arith
-  mutation-bound (Replica r) = omega arith
-  mutation-bound (LogPointer r) = omega arith
-  mutation-bound (IsActive r) = omega arith
-
   made-third : HasZnodes mutation_tree with_mutation (version_limits v) → Does mutation_tree (op.Create entry_path (bytes made) true None) (expected bytes (after_mutation command v)) (version_limits (after_mutation command v))
   made-third has_znodes = does-as mutation_tree (op.Create entry_path (bytes made) true None) (with_state (LogEntry (length v.log)) (plain (bytes made)) (with_counted Log (counting (length v.log)) with_mutation)) (expected bytes (after_mutation command v)) (version_limits v) (version_limits (after_mutation command v))
       (appends mutation_tree with_mutation (version_limits v) (length v.log) (bytes made) has_znodes refl (ap (option_map (λ x. plain (bytes x))) (no-entry v.log)) short)
-      mutation-each (λ y h. mutation-bound y)
+      mutation-each (λ y h. limits-rise v (after_mutation command v) (λ s. omega arith) (omega arith) (omega arith) y)
 
   -- the multi of create_mutation
   pub mutation-makes : Makes t (mutation_ops bytes command v) (expected bytes (after_mutation command v)) (version_limits (after_mutation command v))

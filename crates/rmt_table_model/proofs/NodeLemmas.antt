@@ -18,10 +18,11 @@ use Rattle.rmt_znodes.specs.declared.znode.Znode.TheVariants.{Log, LogEntry, Blo
 use Rattle.rmt_znodes.specs.Znodes.{znode_path, IsZnode}
 use Rattle.rmt_znodes.specs.ZnodeStates.{ZnodeStates, with_state, Limits, Makes}
 use Rattle.rmt_znodes.proofs.ZnodeStateLemmas.{znode-itself, has_znodes-as, Does, creates, with_counted, creates-numbered, makes-none, makes-more}
+use Rattle.rmt_quorums.specs.Quorum.{quorum_blocks}
 use Rattle.rmt_table_model.specs.Numbers.{Nexts, AreNexts, next_of, taken, locked}
 use Rattle.rmt_table_model.specs.Tables.{TableView, IsSound}
 use Rattle.rmt_table_model.specs.Changes.{after_allocate, MayAllocate}
-use Rattle.rmt_table_model.specs.Nodes.{plain, counting, owned, expected, version_limits, IsTreeOf, partition_ops, allocate_ops}
+use Rattle.rmt_table_model.specs.Nodes.{plain, counting, owned, slot, expected, or_zero, noted_count, met_count, version_limits, IsTreeOf, partition_ops, allocate_ops}
 use Rattle.rmt_table_model.proofs.NumberLemmas.{number-is, next-is, next-has, next-none, taken-has, taken-from, taken-more, taken-nexts}
 use Rattle.rmt_table_model.proofs.SoundLemmas.{above-all}
 
@@ -32,6 +33,27 @@ does-as t o states states' limits limits' d f l = record { not_refused = d.not_r
 -- one op is all
 pub makes-one : (t : TreeView) (o : Op) (states : ZnodeStates) (limits : Limits) → Does t o states limits → Makes t (o ∷ []) states limits
 makes-one t o states limits d = makes-more t o [] states states limits limits d (makes-none (after t o) states limits d.nodes)
+
+-- no bound falls where no log pointer, and neither the notes nor the quorums met, fall
+pub limits-rise : (v w : TableView) → ((s : ℕ) → or_zero (slot v.pulled s) ≤ or_zero (slot w.pulled s)) → noted_count v.quorum.pending ≤ noted_count w.quorum.pending → met_count v.quorum.pending (quorum_blocks v.log) ≤ met_count w.quorum.pending (quorum_blocks w.log) → (y : Znode) → version_limits v y ≤ version_limits w y
+limits-rise v w pulled noted met Log = omega arith
+limits-rise v w pulled noted met (LogEntry i) = omega arith
+limits-rise v w pulled noted met Blocks = omega arith
+limits-rise v w pulled noted met (Block q d) = omega arith
+limits-rise v w pulled noted met Order = omega arith
+limits-rise v w pulled noted met (OrderOf i) = omega arith
+limits-rise v w pulled noted met Numbers = omega arith
+limits-rise v w pulled noted met (Partition q) = omega arith
+limits-rise v w pulled noted met (Lock q k) = omega arith
+limits-rise v w pulled noted met Mutations = omega arith
+limits-rise v w pulled noted met (MutationNode i) = omega arith
+limits-rise v w pulled noted met Quorum = omega arith
+limits-rise v w pulled noted met Status = noted
+limits-rise v w pulled noted met LastPart = met
+limits-rise v w pulled noted met Replicas = omega arith
+limits-rise v w pulled noted met (Replica r) = omega arith
+limits-rise v w pulled noted met (LogPointer r) = pulled r
+limits-rise v w pulled noted met (IsActive r) = omega arith
 
 -- ---- numbers
 
@@ -76,7 +98,7 @@ allocate-known bytes t v p s n of sound m here = makes-one t (op.Create (lock_pa
     (does-as t (op.Create (lock_path p) [] true (Some s)) (with_state (Lock p n) (owned s) (with_counted (Partition p) (counting n) (expected bytes v))) (expected bytes (after_allocate p s v)) (version_limits v) (version_limits (after_allocate p s v))
     (creates-numbered t (expected bytes v) (version_limits v) of.nodes (lock_path p) (Lock p n) (Partition p) (counting n) (m.is_partition, let w = number in let u = m.numbers in omega (arith, w, u)) m.is_partition [] (Some s) ((of.sessions s).1 m.is_open)
     refl (ap (option_map counting) here) refl refl (let w = number in let u = m.numbers in let l : last_counter ≡ 4294967295 = refl in omega (arith, w, u)) (ap (option_map owned) absent))
-    each (λ y h. bound y))
+    each (λ y h. limits-rise v (after_allocate p s v) (λ s. omega arith) (omega arith) (omega arith) y))
   where
     number : next_number v.next p ≡ n
     number = number-is v.next p n sound.nexts (next-has v.next p n here)
@@ -118,26 +140,6 @@ allocate-known bytes t v p s n of sound m here = makes-one t (op.Create (lock_pa
     each (LogPointer r) h = refl
     each (IsActive r) h = refl
 
-    bound : (y : Znode) → version_limits v y ≤ version_limits (after_allocate p s v) y
-    bound Log = omega arith
-    bound (LogEntry i) = omega arith
-    bound Blocks = omega arith
-    bound (Block q d) = omega arith
-    bound Order = omega arith
-    bound (OrderOf i) = omega arith
-    bound Numbers = omega arith
-    bound (Partition q) = omega arith
-    bound (Lock q k) = omega arith
-    bound Mutations = omega arith
-    bound (MutationNode i) = omega arith
-    bound Quorum = omega arith
-    bound Status = omega arith
-    bound LastPart = omega arith
-    bound Replicas = omega arith
-    bound (Replica r) = omega arith
-    bound (LogPointer r) = omega arith
-    bound (IsActive r) = omega arith
-
 -- the first number of a partition that is made for it
 allocate-new : (bytes : Entry → List ℕ) (t : TreeView) (v : TableView) (p : Option ℕ) (s : ℕ) → IsTreeOf bytes t v → IsSound v → MayAllocate p s v → next_of v.next p ≡ None
     → Makes t (op.Create (znode_path (Partition p)) [] false None ∷ op.Create (lock_path p) [] true (Some s) ∷ []) (expected bytes (after_allocate p s v)) (version_limits (after_allocate p s v))
@@ -148,7 +150,7 @@ allocate-new bytes t v p s of sound m here =
     (does-as (after t (op.Create (znode_path (Partition p)) [] false None)) (op.Create (lock_path p) [] true (Some s)) (with_state (Lock p 0) (owned s) (with_counted (Partition p) (counting 0) (with_state (Partition p) (counting 0) (expected bytes v)))) (expected bytes (after_allocate p s v)) (version_limits v) (version_limits (after_allocate p s v))
     (creates-numbered (after t (op.Create (znode_path (Partition p)) [] false None)) (with_state (Partition p) (counting 0) (expected bytes v)) (version_limits v) (Does.nodes first) (lock_path p) (Lock p 0) (Partition p) (counting 0) (m.is_partition, omega arith) m.is_partition [] (Some s) ((of.sessions s).1 m.is_open)
     refl (ap (λ (b : Bool). cond b (Some (counting 0)) (option_map counting (next_of v.next p))) (znode-itself (Partition p))) refl refl (omega arith) (ap (option_map owned) absent))
-    each (λ y h. bound y)))
+    each (λ y h. limits-rise v (after_allocate p s v) (λ s. omega arith) (omega arith) (omega arith) y)))
   where
     number : next_number v.next p ≡ 0
     number = next-none v.next p here
@@ -192,26 +194,6 @@ allocate-new bytes t v p s of sound m here =
     each (Replica r) h = refl
     each (LogPointer r) h = refl
     each (IsActive r) h = refl
-
-    bound : (y : Znode) → version_limits v y ≤ version_limits (after_allocate p s v) y
-    bound Log = omega arith
-    bound (LogEntry i) = omega arith
-    bound Blocks = omega arith
-    bound (Block q d) = omega arith
-    bound Order = omega arith
-    bound (OrderOf i) = omega arith
-    bound Numbers = omega arith
-    bound (Partition q) = omega arith
-    bound (Lock q k) = omega arith
-    bound Mutations = omega arith
-    bound (MutationNode i) = omega arith
-    bound Quorum = omega arith
-    bound Status = omega arith
-    bound LastPart = omega arith
-    bound Replicas = omega arith
-    bound (Replica r) = omega arith
-    bound (LogPointer r) = omega arith
-    bound (IsActive r) = omega arith
 
 -- the multi of allocate
 pub allocate-makes : (bytes : Entry → List ℕ) (t : TreeView) (v : TableView) (p : Option ℕ) (s : ℕ) → IsTreeOf bytes t v → IsSound v → MayAllocate p s v

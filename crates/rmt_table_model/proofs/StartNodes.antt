@@ -105,8 +105,11 @@ fixed =
     let d7 = top (after (after (after (after (after (after (empty_tree) (op.Create (znode_path Log) [] false None)) (op.Create (znode_path Blocks) [] false None)) (op.Create (znode_path Order) [] false None)) (op.Create (znode_path Numbers) [] false None)) (op.Create (znode_path Mutations) [] false None)) (op.Create (znode_path Quorum) [] false None)) states6 (Does.nodes d6) Replicas tt refl refl in
     makes-more (empty_tree) (op.Create (znode_path Log) [] false None) (op.Create (znode_path Blocks) [] false None ∷ op.Create (znode_path Order) [] false None ∷ op.Create (znode_path Numbers) [] false None ∷ op.Create (znode_path Mutations) [] false None ∷ op.Create (znode_path Quorum) [] false None ∷ op.Create (znode_path Replicas) [] false None ∷ []) states1 states7 no_limits no_limits d1 (makes-more (after (empty_tree) (op.Create (znode_path Log) [] false None)) (op.Create (znode_path Blocks) [] false None) (op.Create (znode_path Order) [] false None ∷ op.Create (znode_path Numbers) [] false None ∷ op.Create (znode_path Mutations) [] false None ∷ op.Create (znode_path Quorum) [] false None ∷ op.Create (znode_path Replicas) [] false None ∷ []) states2 states7 no_limits no_limits d2 (makes-more (after (after (empty_tree) (op.Create (znode_path Log) [] false None)) (op.Create (znode_path Blocks) [] false None)) (op.Create (znode_path Order) [] false None) (op.Create (znode_path Numbers) [] false None ∷ op.Create (znode_path Mutations) [] false None ∷ op.Create (znode_path Quorum) [] false None ∷ op.Create (znode_path Replicas) [] false None ∷ []) states3 states7 no_limits no_limits d3 (makes-more (after (after (after (empty_tree) (op.Create (znode_path Log) [] false None)) (op.Create (znode_path Blocks) [] false None)) (op.Create (znode_path Order) [] false None)) (op.Create (znode_path Numbers) [] false None) (op.Create (znode_path Mutations) [] false None ∷ op.Create (znode_path Quorum) [] false None ∷ op.Create (znode_path Replicas) [] false None ∷ []) states4 states7 no_limits no_limits d4 (makes-more (after (after (after (after (empty_tree) (op.Create (znode_path Log) [] false None)) (op.Create (znode_path Blocks) [] false None)) (op.Create (znode_path Order) [] false None)) (op.Create (znode_path Numbers) [] false None)) (op.Create (znode_path Mutations) [] false None) (op.Create (znode_path Quorum) [] false None ∷ op.Create (znode_path Replicas) [] false None ∷ []) states5 states7 no_limits no_limits d5 (makes-more (after (after (after (after (after (empty_tree) (op.Create (znode_path Log) [] false None)) (op.Create (znode_path Blocks) [] false None)) (op.Create (znode_path Order) [] false None)) (op.Create (znode_path Numbers) [] false None)) (op.Create (znode_path Mutations) [] false None)) (op.Create (znode_path Quorum) [] false None) (op.Create (znode_path Replicas) [] false None ∷ []) states6 states7 no_limits no_limits d6 (makes-more (after (after (after (after (after (after (empty_tree) (op.Create (znode_path Log) [] false None)) (op.Create (znode_path Blocks) [] false None)) (op.Create (znode_path Order) [] false None)) (op.Create (znode_path Numbers) [] false None)) (op.Create (znode_path Mutations) [] false None)) (op.Create (znode_path Quorum) [] false None)) (op.Create (znode_path Replicas) [] false None) ([]) states7 states7 no_limits no_limits d7 (makes-none (after (after (after (after (after (after (after (empty_tree) (op.Create (znode_path Log) [] false None)) (op.Create (znode_path Blocks) [] false None)) (op.Create (znode_path Order) [] false None)) (op.Create (znode_path Numbers) [] false None)) (op.Create (znode_path Mutations) [] false None)) (op.Create (znode_path Quorum) [] false None)) (op.Create (znode_path Replicas) [] false None)) states7 no_limits (Does.nodes d7))))))))
 
+least : (n : ℕ) → 0 ≤ n
+least n = omega arith
+
 pub fixed-makes : (bytes : Entry → List ℕ) (schema : Shape) → Makes empty_tree fixed_ops (expected bytes (new_table schema 0)) (version_limits (new_table schema 0))
-fixed-makes bytes schema = makes-as empty_tree fixed_ops states7 (expected bytes (new_table schema 0)) no_limits (version_limits (new_table schema 0)) fixed each (λ y h. inl (bound y))
+fixed-makes bytes schema = makes-as empty_tree fixed_ops states7 (expected bytes (new_table schema 0)) no_limits (version_limits (new_table schema 0)) fixed each (λ y h. inl (least (version_limits (new_table schema 0) y)))
   where
     order : (w : ℕ) → Some (plain []) ≡ Some (counting (numbered_of w 0))
     order zero = refl
@@ -139,26 +142,6 @@ fixed-makes bytes schema = makes-as empty_tree fixed_ops states7 (expected bytes
     each (Replica r) h = maps (λ s. plain []) r
     each (LogPointer r) h = maps (λ m. plain (decimal m)) r
     each (IsActive r) h = slots (λ s. option_map owned s) r
-
-    bound : (y : Znode) → 0 ≤ version_limits (new_table schema 0) y
-    bound Log = omega arith
-    bound (LogEntry i) = omega arith
-    bound Blocks = omega arith
-    bound (Block q d) = omega arith
-    bound Order = omega arith
-    bound (OrderOf i) = omega arith
-    bound Numbers = omega arith
-    bound (Partition q) = omega arith
-    bound (Lock q k) = omega arith
-    bound Mutations = omega arith
-    bound (MutationNode i) = omega arith
-    bound Quorum = omega arith
-    bound Status = omega arith
-    bound LastPart = omega arith
-    bound Replicas = omega arith
-    bound (Replica r) = omega arith
-    bound (LogPointer r) = omega arith
-    bound (IsActive r) = omega arith
 
 -- ---- one replica more
 

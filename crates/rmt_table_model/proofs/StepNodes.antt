@@ -26,7 +26,7 @@ use Rattle.rmt_table_model.specs.Tables.{TableView, IsSound, session_of}
 use Rattle.rmt_table_model.specs.Changes.{after_abandon, after_open, after_close, after_pull}
 use Rattle.rmt_table_model.specs.Nodes.{plain, counting, owned, slot, mutation_place, status_text, expected, or_zero, version_limits, IsTreeOf}
 use Rattle.rmt_tree.specs.Trees.{ended}
-use Rattle.rmt_table_model.proofs.NodeLemmas.{does-as, makes-one}
+use Rattle.rmt_table_model.proofs.NodeLemmas.{does-as, makes-one, limits-rise}
 
 -- ---- one lock goes
 
@@ -47,7 +47,7 @@ pub abandon-makes : (bytes : Entry → List ℕ) (t : TreeView) (v : TableView) 
 abandon-makes bytes t v p n of sound h = makes-one t (op.Delete (znode_path (Lock p n)) None) (expected bytes (after_abandon p n v)) (version_limits (after_abandon p n v))
     (does-as t (op.Delete (znode_path (Lock p n)) None) (without_state (Lock p n) (expected bytes v)) (expected bytes (after_abandon p n v)) (version_limits v) (version_limits (after_abandon p n v))
     (deletes t (expected bytes v) (version_limits v) of.nodes (Lock p n) (owned h.0) (lock-znode v sound p n h) refl (ap (option_map owned) h.1))
-    each (λ y k. bound y))
+    each (λ y k. limits-rise v (after_abandon p n v) (λ s. omega arith) (omega arith) (omega arith) y))
   where
     each : (y : Znode) → IsZnode y → without_state (Lock p n) (expected bytes v) y ≡ expected bytes (after_abandon p n v) y
     each Log h = refl
@@ -68,26 +68,6 @@ abandon-makes bytes t v p n of sound h = makes-one t (op.Delete (znode_path (Loc
     each (Replica r) h = refl
     each (LogPointer r) h = refl
     each (IsActive r) h = refl
-
-    bound : (y : Znode) → version_limits v y ≤ version_limits (after_abandon p n v) y
-    bound Log = omega arith
-    bound (LogEntry i) = omega arith
-    bound Blocks = omega arith
-    bound (Block q d) = omega arith
-    bound Order = omega arith
-    bound (OrderOf i) = omega arith
-    bound Numbers = omega arith
-    bound (Partition q) = omega arith
-    bound (Lock q k) = omega arith
-    bound Mutations = omega arith
-    bound (MutationNode i) = omega arith
-    bound Quorum = omega arith
-    bound Status = omega arith
-    bound LastPart = omega arith
-    bound Replicas = omega arith
-    bound (Replica r) = omega arith
-    bound (LogPointer r) = omega arith
-    bound (IsActive r) = omega arith
 
 -- ---- one entry more
 
@@ -117,7 +97,7 @@ pub merge-makes : (bytes : Entry → List ℕ) (t : TreeView) (v : TableView) (n
 merge-makes bytes t v new sources count of room = makes-one t (op.Create entry_path (bytes (Merge new sources count)) true None) (expected bytes (record v { log = Merge new sources count ∷ v.log })) (version_limits (record v { log = Merge new sources count ∷ v.log }))
     (does-as t (op.Create entry_path (bytes (Merge new sources count)) true None) (with_state (LogEntry (length v.log)) (plain (bytes (Merge new sources count))) (with_counted Log (counting (length v.log)) (expected bytes v))) (expected bytes (record v { log = Merge new sources count ∷ v.log })) (version_limits v) (version_limits (record v { log = Merge new sources count ∷ v.log }))
     (appends t (expected bytes v) (version_limits v) (length v.log) (bytes (Merge new sources count)) of.nodes refl (ap (option_map (λ x. plain (bytes x))) (no-entry v.log)) room)
-    each (λ y k. bound y))
+    each (λ y k. limits-rise v (record v { log = Merge new sources count ∷ v.log }) (λ s. omega arith) (omega arith) (omega arith) y))
   where
     each : (y : Znode) → IsZnode y → with_state (LogEntry (length v.log)) (plain (bytes (Merge new sources count))) (with_counted Log (counting (length v.log)) (expected bytes v)) y ≡ expected bytes (record v { log = Merge new sources count ∷ v.log }) y
     each Log h = refl
@@ -139,33 +119,13 @@ merge-makes bytes t v new sources count of room = makes-one t (op.Create entry_p
     each (LogPointer r) h = refl
     each (IsActive r) h = refl
 
-    bound : (y : Znode) → version_limits v y ≤ version_limits (record v { log = Merge new sources count ∷ v.log }) y
-    bound Log = omega arith
-    bound (LogEntry i) = omega arith
-    bound Blocks = omega arith
-    bound (Block q d) = omega arith
-    bound Order = omega arith
-    bound (OrderOf i) = omega arith
-    bound Numbers = omega arith
-    bound (Partition q) = omega arith
-    bound (Lock q k) = omega arith
-    bound Mutations = omega arith
-    bound (MutationNode i) = omega arith
-    bound Quorum = omega arith
-    bound Status = omega arith
-    bound LastPart = omega arith
-    bound Replicas = omega arith
-    bound (Replica r) = omega arith
-    bound (LogPointer r) = omega arith
-    bound (IsActive r) = omega arith
-
 -- the multi of assign_mutate
 pub mutate-makes : (bytes : Entry → List ℕ) (t : TreeView) (v : TableView) (old new : Name) (upto count mcount : ℕ) → IsTreeOf bytes t v → length v.log < 4294967295
     → Makes t (op.Create entry_path (bytes (Mutate old new upto count mcount)) true None ∷ []) (expected bytes (record v { log = Mutate old new upto count mcount ∷ v.log })) (version_limits (record v { log = Mutate old new upto count mcount ∷ v.log }))
 mutate-makes bytes t v old new upto count mcount of room = makes-one t (op.Create entry_path (bytes (Mutate old new upto count mcount)) true None) (expected bytes (record v { log = Mutate old new upto count mcount ∷ v.log })) (version_limits (record v { log = Mutate old new upto count mcount ∷ v.log }))
     (does-as t (op.Create entry_path (bytes (Mutate old new upto count mcount)) true None) (with_state (LogEntry (length v.log)) (plain (bytes (Mutate old new upto count mcount))) (with_counted Log (counting (length v.log)) (expected bytes v))) (expected bytes (record v { log = Mutate old new upto count mcount ∷ v.log })) (version_limits v) (version_limits (record v { log = Mutate old new upto count mcount ∷ v.log }))
     (appends t (expected bytes v) (version_limits v) (length v.log) (bytes (Mutate old new upto count mcount)) of.nodes refl (ap (option_map (λ x. plain (bytes x))) (no-entry v.log)) room)
-    each (λ y k. bound y))
+    each (λ y k. limits-rise v (record v { log = Mutate old new upto count mcount ∷ v.log }) (λ s. omega arith) (omega arith) (omega arith) y))
   where
     each : (y : Znode) → IsZnode y → with_state (LogEntry (length v.log)) (plain (bytes (Mutate old new upto count mcount))) (with_counted Log (counting (length v.log)) (expected bytes v)) y ≡ expected bytes (record v { log = Mutate old new upto count mcount ∷ v.log }) y
     each Log h = refl
@@ -186,26 +146,6 @@ mutate-makes bytes t v old new upto count mcount of room = makes-one t (op.Creat
     each (Replica r) h = refl
     each (LogPointer r) h = refl
     each (IsActive r) h = refl
-
-    bound : (y : Znode) → version_limits v y ≤ version_limits (record v { log = Mutate old new upto count mcount ∷ v.log }) y
-    bound Log = omega arith
-    bound (LogEntry i) = omega arith
-    bound Blocks = omega arith
-    bound (Block q d) = omega arith
-    bound Order = omega arith
-    bound (OrderOf i) = omega arith
-    bound Numbers = omega arith
-    bound (Partition q) = omega arith
-    bound (Lock q k) = omega arith
-    bound Mutations = omega arith
-    bound (MutationNode i) = omega arith
-    bound Quorum = omega arith
-    bound Status = omega arith
-    bound LastPart = omega arith
-    bound Replicas = omega arith
-    bound (Replica r) = omega arith
-    bound (LogPointer r) = omega arith
-    bound (IsActive r) = omega arith
 
 -- ---- what replicas have
 
@@ -300,7 +240,7 @@ pub open-makes : (bytes : Entry → List ℕ) (t : TreeView) (v : TableView) (r 
 open-makes bytes t v r n has_znodes fine here few none = makes-one t (op.Create (znode_path (IsActive (suc r))) [] false (Some n)) (expected bytes (after_open r n v)) (version_limits (after_open r n v))
     (does-as t (op.Create (znode_path (IsActive (suc r))) [] false (Some n)) (with_state (IsActive (suc r)) (owned n) (expected bytes v)) (expected bytes (after_open r n v)) (version_limits v) (version_limits (after_open r n v))
     (creates t (expected bytes v) (version_limits v) has_znodes (IsActive (suc r)) (omega arith) [] (Some n) fine (omega arith, (plain [], ap (option_map (λ s. plain [])) was, refl)) (ap (option_and_then (λ s. option_map owned s)) was))
-    each (λ y k. bound y))
+    each (λ y k. limits-rise v (after_open r n v) (λ s. omega arith) (omega arith) (omega arith) y))
   where
     was : slot v.sessions (suc r) ≡ Some None
     was = slot-at v.sessions r None here ∙ ap Some none
@@ -339,30 +279,10 @@ open-makes bytes t v r n has_znodes fine here few none = makes-one t (op.Create 
     each (LogPointer r) h = refl
     each (IsActive s) h = active s
 
-    bound : (y : Znode) → version_limits v y ≤ version_limits (after_open r n v) y
-    bound Log = omega arith
-    bound (LogEntry i) = omega arith
-    bound Blocks = omega arith
-    bound (Block q d) = omega arith
-    bound Order = omega arith
-    bound (OrderOf i) = omega arith
-    bound Numbers = omega arith
-    bound (Partition q) = omega arith
-    bound (Lock q k) = omega arith
-    bound Mutations = omega arith
-    bound (MutationNode i) = omega arith
-    bound Quorum = omega arith
-    bound Status = omega arith
-    bound LastPart = omega arith
-    bound Replicas = omega arith
-    bound (Replica r) = omega arith
-    bound (LogPointer r) = omega arith
-    bound (IsActive r) = omega arith
-
 -- the end of a session in close
 pub close-makes : (bytes : Entry → List ℕ) (t : TreeView) (v : TableView) (r n : ℕ) → HasZnodes t (expected bytes v) (version_limits v) → IsSound v → r < length v.sessions → session_of v.sessions r ≡ Some n
     → HasZnodes (ended t n) (expected bytes (after_close r n v)) (version_limits (after_close r n v))
-close-makes bytes t v r n has_znodes sound here is = has_znodes-as (ended t n) (without_held n (expected bytes v)) (expected bytes (after_close r n v)) (version_limits v) (version_limits (after_close r n v)) (ends t (expected bytes v) (version_limits v) n has_znodes) each (λ y k. bound y)
+close-makes bytes t v r n has_znodes sound here is = has_znodes-as (ended t n) (without_held n (expected bytes v)) (expected bytes (after_close r n v)) (version_limits v) (version_limits (after_close r n v)) (ends t (expected bytes v) (version_limits v) n has_znodes) each (λ y k. limits-rise v (after_close r n v) (λ s. omega arith) (omega arith) (omega arith) y)
   where
     was : slot v.sessions (suc r) ≡ Some (Some n)
     was = slot-at v.sessions r None here ∙ ap Some is
@@ -437,23 +357,3 @@ close-makes bytes t v r n has_znodes sound here is = has_znodes-as (ended t n) (
     each (Replica s) h = replica s
     each (LogPointer s) h = stays (λ m. plain (decimal m)) (slot v.pulled s) (λ a. refl)
     each (IsActive s) h = active s
-
-    bound : (y : Znode) → version_limits v y ≤ version_limits (after_close r n v) y
-    bound Log = omega arith
-    bound (LogEntry i) = omega arith
-    bound Blocks = omega arith
-    bound (Block q d) = omega arith
-    bound Order = omega arith
-    bound (OrderOf i) = omega arith
-    bound Numbers = omega arith
-    bound (Partition q) = omega arith
-    bound (Lock q k) = omega arith
-    bound Mutations = omega arith
-    bound (MutationNode i) = omega arith
-    bound Quorum = omega arith
-    bound Status = omega arith
-    bound LastPart = omega arith
-    bound Replicas = omega arith
-    bound (Replica r) = omega arith
-    bound (LogPointer r) = omega arith
-    bound (IsActive r) = omega arith

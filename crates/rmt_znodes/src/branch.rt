@@ -1,6 +1,6 @@
 //! Paths that begin with a text and go on with numbers and ids.
-ghost use Rattle.std.specs.Prelude.{◌≡◌, ◌+◌, ◌%◌, List, ℕ, [], ◌∷◌, IfOk};
-ghost use Rattle.rmt_paths.specs.Paths.{IsName, path_text, digits};
+ghost use Rattle.std.specs.Prelude.{◌≡◌, List, ℕ, [], ◌∷◌, IfOk};
+ghost use Rattle.rmt_paths.specs.Paths.{IsName, path_text};
 ghost use Rattle.rmt_znodes.specs.declared.znode.Znode.TheVariants.{Block, Partition, Replica, MutationNode};
 ghost use Rattle.rmt_znodes.specs.Znodes.{znode_path};
 
@@ -8,6 +8,7 @@ use crate::ranges::{is_id, is_partition};
 use rmt_block::{BlockId, id_text};
 use rmt_names::{PartitionId, partition_text};
 use rmt_paths::laws::one_spelling;
+use rmt_paths::ten_digits;
 use rmt_tree::Path;
 use rmt_values::ReplicaId;
 use std::alloc::{AllocError, Global};
@@ -60,38 +61,4 @@ pub(crate) fn mutation_path(alloc: Global, id: u32) -> Result<Path, AllocError>
 {
     let digits = ten_digits(id);
     top_path(alloc, "/mutations")?.child(alloc, &digits)
-}
-
-/// The last decimal digit.
-fn digit(number: u32) -> u8
-    ensures { result ≡ 48 + number % 10 }
-{
-    b'0' + (number % 10) as u8
-}
-
-/// The ten decimal digits of a number, with leading zeros.
-fn ten_digits(number: u32) -> [u8; 10]
-    ensures { result ≡ digits 10 number }
-{
-    let n1 = number / 10;
-    let n2 = n1 / 10;
-    let n3 = n2 / 10;
-    let n4 = n3 / 10;
-    let n5 = n4 / 10;
-    let n6 = n5 / 10;
-    let n7 = n6 / 10;
-    let n8 = n7 / 10;
-    let n9 = n8 / 10;
-    [
-        digit(n9),
-        digit(n8),
-        digit(n7),
-        digit(n6),
-        digit(n5),
-        digit(n4),
-        digit(n3),
-        digit(n2),
-        digit(n1),
-        digit(number),
-    ]
 }

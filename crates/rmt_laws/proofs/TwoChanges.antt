@@ -5,6 +5,7 @@ use Rattle.std.specs.List.{filter_map, cons_option}
 use Rattle.std.specs.Option.{option_and_then}
 use Rattle.std.specs.declared.option.Option.{Option}
 use Rattle.std.specs.declared.option.Option.TheVariants.{Some, None}
+use Rattle.rmt_values.specs.declared.checked_mutation.CheckedMutation.{CheckedMutation}
 use Rattle.rmt_values.specs.Commands.{applied}
 use Rattle.rmt_values.specs.Rows.{Shape}
 use Rattle.rmt_names.specs.Names.{rank}
@@ -16,8 +17,6 @@ use Rattle.rmt_model.specs.Laws.{MutatedAt}
 use Rattle.rmt_model.specs.Content.{Row, chosen, changed}
 use Rattle.rmt_model.proofs.Lists.{Each-at, rank-injective}
 use Rattle.rmt_model.proofs.LiveLaws.{Pairwise-cases}
-use Rattle.rmt_laws.proofs.Headline.{PartsAt}
-use Rattle.rmt_part.proofs.RowChanges.{then-some, skips}
 
 -- an entry's number in a partition, of which there is one at most
 one-number : (numbers : List (Option ℕ × ℕ)) (p : Option ℕ) → Pairwise (λ x y. rank x.0 < rank y.0) numbers → ((t : ℕ → Bool) → chosen numbers p t ≡ false) ⊎ ((k : ℕ) × Has numbers (p, k) × ((t : ℕ → Bool) → chosen numbers p t ≡ t k))
@@ -47,6 +46,11 @@ one-number (x ∷ xs) p r = go (nat_eq (rank x.0) (rank p)) refl (one-number xs 
         )
     go false e (inl f) = inl f
     go false e (inr f) = inr (f.0, inr f.1, f.2)
+
+-- one that leaves each row leaves it
+pub then-some : (o : Option Row) → option_and_then (λ row. Some row) o ≡ o
+then-some None = refl
+then-some (Some r) = refl
 
 then-then : (f g : Row → Option Row) (o : Option Row) → option_and_then (λ row. option_and_then f (g row)) o ≡ option_and_then f (option_and_then g o)
 then-then f g None = refl
@@ -101,6 +105,16 @@ mutated-used (Merge new sources count ∷ log) p k (inl h) = absurd h
 mutated-used (Mutate old new upto count mcount ∷ log) p k (inl h) = absurd h
 mutated-used (DropRange q n ∷ log) p k (inl h) = absurd h
 mutated-used (e ∷ log) p k (inr h) = inr (mutated-used log p k h)
+
+-- how three tests part the numbers at a version: up to it the first is the whole test, past it the second
+pub record PartsAt (first second whole : ℕ → Bool) (version k : ℕ) : Type 0 where
+  pub low : k ≤ version → (first k ≡ whole k) × (second k ≡ false)
+  pub high : version < k → (first k ≡ false) × (second k ≡ whole k)
+
+-- a mutation that has no number that passes is passed over
+pub skips : (id : ℕ) (numbers : List (Option ℕ × ℕ)) (command : CheckedMutation) (log : List Entry) (p : Option ℕ) (t : ℕ → Bool) (r : Row) → chosen numbers p t ≡ false → changed (Mutation id numbers command ∷ log) p t r ≡ changed log p t r
+skips id numbers command log p t r e =
+    ap (λ (b : Bool). option_and_then (λ row. cond b (applied command row) (Some row)) (changed log p t r)) e ∙ then-some (changed log p t r)
 
 -- the mutations up to a version, then those past it, over an entry that is passed over
 passed : (f f' : Row → Option Row) (o o' w w' : Option Row) → ((r : Row) → f r ≡ f' r) → o ≡ o' → w ≡ w' → option_and_then f' o' ≡ w' → option_and_then f o ≡ w
