@@ -34,10 +34,11 @@ use Rattle.rmt_events.proofs.FairSteps.{fair-behind}
 use Rattle.rmt_events.proofs.Converge.{part-content}
 use Rattle.rmt_events.proofs.WholeReplica.{follower}
 use Rattle.rmt_cluster.specs.Readings.{parts_read}
-use Rattle.rmt_statement_model.specs.TableStates.{TableState, data_at, plain_rows}
+use Rattle.rmt_statement_model.specs.TableStates.{TableState, data_at, plain_rows, shown_at}
 use Rattle.rmt_statement_model.specs.Reads.{IsReading, KnowsAll}
 use Rattle.rmt_statement_model.specs.Shows.{Knows, Shows}
 use Rattle.rmt_statement_model.proofs.ReadLaws.{all-mutations-read, entries-fit, plain-read}
+use Rattle.rmt_statement_model.proofs.ShownParts.{shown-shows}
 
 -- the names of what is read
 names-read : (schema : Shape) (parts : List Copied) → names_in (parts_read schema parts) ≡ names_of parts
@@ -85,6 +86,12 @@ numbered s k h = record { is_in = h.is_in; number = h.numbered }
 
 pub snapshot-reads : (s : Cluster) (k : ℕ) (parts : List NamedData) → IsWhole s → HasReplica s.replicas k → IsSnapshot s k parts → (t : TableState) → Shows s t → IsReading t k parts
 snapshot-reads s k parts w h f t v = reading s k h.replica parts w (numbered s k h) (f h.replica (numbered s k h)) t v
+
+-- and known there then
+pub snapshot-known : (s : Cluster) (k : ℕ) (parts : List NamedData) → IsWhole s → HasReplica s.replicas k → IsSnapshot s k parts → (t : TableState) → Shows s t → Shows s (shown_at k (names_in parts) t)
+snapshot-known s k parts w h f t v =
+    subst (λ (names : List Name). Shows s (shown_at k names t)) (sym (ap names_in (f h.replica (numbered s k h)) ∙ names-read s.table.schema h.replica.parts))
+    (shown-shows s k h.replica t w (numbered s k h) v)
 
 pub snapshot-keys : (s : Cluster) (k : ℕ) (parts : List NamedData) → HasReplica s.replicas k → IsSnapshot s k parts → All (λ part. part.rows.key ≡ s.table.schema.key) parts
 snapshot-keys s k parts h f = subst (λ (ps : List NamedData). All (λ part. part.rows.key ≡ s.table.schema.key) ps) (sym (f h.replica (numbered s k h))) (keys-read s.table.schema h.replica.parts)

@@ -47,6 +47,7 @@ becomes-mutated s u w r old upto place h st e d f =
       count = m.count;
       mcount = m.mcount;
       log = ap (λ (x : Table). x.log) e ∙ m.log;
+      room = m.within;
       lawful = subst (λ (x : Table). Lawful x.schema x.log) (sym e) (IsSoundTable.lawful (IsWhole.table (whole-step s u (ev.Mutate r old upto) (rp.Entry place) h st)));
       whole = d;
       shows = λ t v. f (record t { log = Mutate old m.name upto m.count m.mcount ∷ t.log }) (mutate-shows s u r old upto place h st m t v);
@@ -121,7 +122,7 @@ waiting-goes-on s u w r id place part parts h m k up c n g = go (last_pending u.
           placed = (g.placed.0, g.placed.1, placed-still u w (Mutate part b.name i b.count b.mcount) place _ b.log g.placed.2);
           to_come = subst (λ (x : List Entry). AreToCome x (place + 1) parts) (sym b.log)
               (one-mutated w.table.schema u.table.log (place + 1) part b.name parts i b.count b.mcount g.to_come e (subst (Lawful w.table.schema) b.log b.lawful));
-          waits = λ t v. wait-goes-on t u w r id place i b.count b.mcount part b.name g.placed.0 g.placed.1 b.lawful g.placed.2 (omega (arith, l)) b.shows (g.waits t v);
+          waits = λ t v. wait-goes-on t u w r id place i b.count b.mcount part b.name g.placed.0 g.placed.1 b.lawful g.placed.2 e (omega (arith, l)) b.room b.shows (g.waits t v);
         }
 
 -- the next of the parts

@@ -7,13 +7,15 @@ use Rattle.rmt_names.specs.Names.{Name}
 use Rattle.rmt_format.specs.PartBytes.{part_bytes}
 use Rattle.rmt_model.specs.Fair.{AreFair}
 use Rattle.rmt_partset.specs.Snapshots.{NamedData}
-use Rattle.rmt_statement_model.specs.TableStates.{TableState, data_at}
+use Rattle.rmt_statement_model.specs.TableStates.{TableState, data_at, shown_at}
 
--- names that are fair for the places known at the replica, each with the SHA-256 of the bytes of a part of that name
-pub record AreDigests (t : TableState) (r : ℕ) (all : List (Name × List ℕ)) : Type 0 where
+-- names that are fair for the places known at the replica, each with the SHA-256 of the bytes of a part of that name; what they
+-- hold is known there then
+pub record AreDigests (t : TableState) (r : ℕ) (all : List (Name × List ℕ)) (u : TableState) : Type 0 where
   pub names : List Name
   pub fair : AreFair t.log (t.known r) names
   pub are : all ≡ map (λ a. (a, sha256 (part_bytes t.schema (data_at t a)))) names
+  pub change : u ≡ shown_at r names t
 
 -- ---- what only private functions cite
 

@@ -32,12 +32,13 @@ WaitsTo s r id (Some refusal) u = (t : TableState) → Shows s t → Leads u (Re
 abbrev pub IsPlaceOf : List Entry → ℕ → ℕ → Type 0
 IsPlaceOf log id place = (numbers : List (Option ℕ × ℕ)) × (command : CheckedMutation) × (entry_at log place ≡ Some (Mutation id numbers command))
 
--- a part is mutated up to the mutation at a place, and the replica is up to date
+-- a part is mutated up to the mutation at a place, within the limit of worker entries, and the replica is up to date
 pub record BecomesMutated (s : Cluster) (r : ℕ) (old : Name) (upto : ℕ) (u : Cluster) : Type 0 where
   pub name : Name
   pub count : ℕ
   pub mcount : ℕ
   pub log : u.table.log ≡ Mutate old name upto count mcount ∷ s.table.log
+  pub room : worker_limit s.table.log ≡ None
   pub lawful : Lawful u.table.schema u.table.log
   pub whole : IsUpToDate u r
   pub shows : (t : TableState) → Shows s t → Shows u (synced r (record t { log = Mutate old name upto count mcount ∷ t.log }))

@@ -4,7 +4,7 @@ ghost use Rattle.std.specs.List.{All};
 ghost use Rattle.rmt_format.specs.PartBytes.{HasPartBytes};
 ghost use Rattle.rmt_cluster.specs.Clusters.{IsNumber};
 ghost use Rattle.rmt_statement_model.specs.TableStates.{TableState};
-ghost use Rattle.rmt_statement_model.specs.Shows.{Shows, ups};
+ghost use Rattle.rmt_statement_model.specs.Shows.{Shows, Leads, ups};
 ghost use Rattle.rmt_acts.specs.Checking.{AreDigests, digest_in};
 
 use crate::reading::{read_parts, schema_of};
@@ -50,7 +50,8 @@ pub fn part_digests(
 ) -> Result<Vec<(PartName, [u8; 32])>, AllocError>
     requires here { IsNumber replica (length cluster.now.replicas) }
     requires up { ups cluster.now replica ≡ true }
-    ensures { IfOk result (λ all. (t : TableState) → Shows cluster.now t → AreDigests t replica all.items) }
+    ensures { IfOk result (λ all. (t : TableState) → Shows cluster.now t
+        → Leads cluster.now (AreDigests t replica all.items)) }
 {
     let snapshot = read_parts(alloc, cluster, replica)?;
     digests_of(alloc, snapshot.parts(), schema_of(cluster))

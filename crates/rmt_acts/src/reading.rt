@@ -9,7 +9,8 @@ ghost use Rattle.rmt_changes.specs.Changes.{entries_of};
 ghost use Rattle.rmt_changes.specs.Laws.{EntryFits};
 ghost use Rattle.rmt_format.specs.PartBytes.{HasPartBytes};
 ghost use Rattle.rmt_query.specs.Answers.{answer_of};
-ghost use Rattle.rmt_statement_model.specs.TableStates.{TableState, plain_rows};
+ghost use Rattle.rmt_partset.specs.Snapshots.{names_in};
+ghost use Rattle.rmt_statement_model.specs.TableStates.{TableState, plain_rows, shown_at};
 ghost use Rattle.rmt_statement_model.specs.Reads.{IsReading, KnowsAll};
 ghost use Rattle.rmt_statement_model.specs.Shows.{Shows, ups};
 ghost use Rattle.rmt_acts.specs.Waiting.{IsPlaceOf};
@@ -41,6 +42,8 @@ pub fn read_parts(
     requires up { ups cluster.now replica ≡ true }
     ensures reading { IfOk result (λ parts. (t : TableState) → Shows cluster.now t
         → IsReading t replica parts) }
+    ensures known { IfOk result (λ parts. (t : TableState) → Shows cluster.now t
+        → Shows cluster.now (shown_at replica (names_in parts) t)) }
     ensures keys { IfOk result (All (λ part. part.rows.key ≡ cluster.now.table.schema.key)) }
     ensures bytes { IfOk result (All (λ part. HasPartBytes cluster.now.table.schema part.rows)) }
 {

@@ -22,7 +22,7 @@ use Rattle.rmt_partset.specs.Snapshots.{names_in, data_in, all_rows}
 use Rattle.rmt_query.specs.Answers.{answer_of}
 use Rattle.rmt_query.specs.Explained.{AreExplained}
 use Rattle.rmt_events.specs.Clusters.{Cluster, without_kinds}
-use Rattle.rmt_statement_model.specs.TableStates.{TableState, data_at, plain_rows, synced}
+use Rattle.rmt_statement_model.specs.TableStates.{TableState, data_at, plain_rows, synced, shown_at}
 use Rattle.rmt_statement_model.specs.Inserts.{InsertsAll}
 use Rattle.rmt_statement_model.specs.Reads.{KnowsAll}
 use Rattle.rmt_statement_model.specs.Shows.{Shows, Leads, ups}
@@ -105,14 +105,15 @@ pub reads-in : (s : Cluster) (r : ℕ) (query : Query) (checked : CheckedQuery) 
 reads-in s r query checked names cells q is a = λ t h.
     let reading = a.reading t h in
     let held = reading.holds ∙ ap (map (data_at t)) (sym a.named) in
-    answered s s t t query (λ t. Reads t r query) (lines.Read names cells) q h h (record {
+    let shown = subst (λ (ns : List Name). Shows s (shown_at r ns t)) (sym a.named) (a.known t h) in
+    answered s s t (shown_at r names t) query (λ t. Reads t r query) (lines.Read names cells) q h shown (record {
       checked = checked;
       is = checked-in s t query checked h is;
       names = names;
       fair = subst (AreFair t.log (t.known r)) (sym a.named) reading.fair;
       reply = ap (λ (x : List (List Cell)). lines.Read names x) (a.answered
           ∙ (ap (λ (c : Shape). answer_of c checked (all_rows (data_in a.parts))) (sym h.schema) ∙ ap (λ (x : List PartView). answer_of t.schema checked (all_rows x)) held));
-      unchanged = refl;
+      change = refl;
     })
 
 -- EXPLAIN
@@ -120,7 +121,7 @@ pub explains-in : (s : Cluster) (r : ℕ) (query : Query) (checked : CheckedQuer
     → IsExplained s r checked all → ExecutesQuery s query (λ t. Explains t r query) (lines.Granules all) s
 explains-in s r query checked all q is a = λ t h.
     let reading = a.reading t h in
-    answered s s t t query (λ t. Explains t r query) (lines.Granules all) q h h (record {
+    answered s s t (shown_at r (names_in a.parts) t) query (λ t. Explains t r query) (lines.Granules all) q h (a.known t h) (record {
       checked = checked;
       is = checked-in s t query checked h is;
       names = names_in a.parts;
@@ -128,7 +129,7 @@ explains-in s r query checked all q is a = λ t h.
       counts = all;
       counted = subst (λ (x : List PartView). AreExplained checked.filter (names_in a.parts) x all) reading.holds a.counted;
       reply = refl;
-      unchanged = refl;
+      change = refl;
     })
 
 -- a query that is refused

@@ -21,7 +21,7 @@ use Rattle.rmt_statements.specs.declared.act.Act.{Act}
 use Rattle.rmt_statements.specs.declared.act.Act.TheVariants as acts
 use Rattle.rmt_statements.specs.declared.partition_word.PartitionWord.{PartitionWord}
 use Rattle.rmt_partition_words.specs.Words.{partition_named}
-use Rattle.rmt_statement_model.specs.TableStates.{TableState, synced}
+use Rattle.rmt_statement_model.specs.TableStates.{TableState, synced, shown_at}
 use Rattle.rmt_statement_model.specs.BackgroundWork.{Works}
 use Rattle.rmt_statement_model.specs.Optimizes.{OptimizesTable}
 use Rattle.rmt_statement_model.specs.Shows.{Shows, Leads, ups}
@@ -36,7 +36,7 @@ use Rattle.rmt_play.specs.MutationStatement.{Alters}
 use Rattle.rmt_play.specs.DropStatement.{DropsPartition}
 use Rattle.rmt_play.specs.OptimizeStatement.{IsAsked}
 use Rattle.rmt_play.specs.Acts.{Acts}
-use Rattle.rmt_play.specs.QueryAnswers.{IsReadingOf}
+use Rattle.rmt_play.specs.QueryAnswers.{IsReadingOf, IsKnownOf}
 use Rattle.rmt_play.specs.PlayerSteps.{Declines, refusal_there, ExecutesAct, ExecutesIn, RunsCluster}
 use Rattle.rmt_acts.specs.Checking.{AreDigests}
 use Rattle.rmt_acts.specs.Syncing.{SyncsReplica}
@@ -122,18 +122,20 @@ optimize-refused s r table word why q = act-refused s r (acts.Optimize table wor
 -- ---- SHOW PARTS
 
 -- the names of parts that are read
-pub shows-in : (s : Cluster) (r : ℕ) (table : List ℕ) (parts : List NamedData) (names : List Name) → IsReadingOf s r parts → names ≡ names_in parts → ExecutesIn s r (acts.ShowParts table) (lines.Parts names) s
-shows-in s r table parts names f e = λ t h.
+pub shows-in : (s : Cluster) (r : ℕ) (table : List ℕ) (parts : List NamedData) (names : List Name) → IsReadingOf s r parts → IsKnownOf s r parts → names ≡ names_in parts → ExecutesIn s r (acts.ShowParts table) (lines.Parts names) s
+shows-in s r table parts names f k e = λ t h.
     let reading = f t h in
-    acts-in s (ups s) r (acts.ShowParts table) t t (lines.Parts names) refl h (record { names = names; fair = subst (AreFair t.log (t.known r)) (sym e) reading.fair; reply = refl; unchanged = refl })
+    let shown = subst (λ (ns : List Name). Shows s (shown_at r ns t)) (sym e) (k t h) in
+    acts-in s (ups s) r (acts.ShowParts table) t (shown_at r names t) (lines.Parts names) refl shown (record { names = names; fair = subst (AreFair t.log (t.known r)) (sym e) reading.fair; reply = refl; change = refl })
 
 -- ---- CHECK TABLE
 
 -- the digests of parts that are read
-pub checks-in : (s : Cluster) (r : ℕ) (table : List ℕ) (all : List (Name × List ℕ)) → ((t : TableState) → Shows s t → AreDigests t r all) → ExecutesIn s r (acts.CheckTable table) (lines.Digests all) s
+pub checks-in : (s : Cluster) (r : ℕ) (table : List ℕ) (all : List (Name × List ℕ)) → ((t : TableState) → Shows s t → Leads s (AreDigests t r all)) → ExecutesIn s r (acts.CheckTable table) (lines.Digests all) s
 checks-in s r table all f = λ t h.
-    let d = f t h in
-    acts-in s (ups s) r (acts.CheckTable table) t t (lines.Digests all) refl h (record { names = d.names; fair = d.fair; reply = ap (λ (l : List (Name × List ℕ)). lines.Digests l) d.are; unchanged = refl })
+    let l = f t h in
+    let d = l.holds in
+    acts-in s (ups s) r (acts.CheckTable table) t l.state (lines.Digests all) refl l.shows (record { names = d.names; fair = d.fair; reply = ap (λ (x : List (Name × List ℕ)). lines.Digests x) d.are; change = d.change })
 
 -- ---- WAIT MUTATION
 

@@ -6,7 +6,7 @@ use Rattle.sha2.specs.Sha256.{sha256}
 use Rattle.rmt_names.specs.Names.{Name}
 use Rattle.rmt_format.specs.PartBytes.{part_bytes}
 use Rattle.rmt_model.specs.Fair.{AreFair}
-use Rattle.rmt_statement_model.specs.TableStates.{TableState, data_at}
+use Rattle.rmt_statement_model.specs.TableStates.{TableState, data_at, shown_at}
 use Rattle.rmt_reply.specs.declared.line.Line.{Line}
 use Rattle.rmt_reply.specs.declared.line.Line.TheVariants as lines
 
@@ -14,9 +14,10 @@ use Rattle.rmt_reply.specs.declared.line.Line.TheVariants as lines
 abbrev pub digest_at : TableState → Name → List ℕ
 digest_at t a = sha256 (part_bytes t.schema (data_at t a))
 
--- parts whose names are fair for the places known at the replica, each with the digest of its bytes
+-- parts whose names are fair for the places known at the replica, each with the digest of its bytes; what they hold is known
+-- there then
 pub record ChecksTable (t : TableState) (r : ℕ) (line : Line) (u : TableState) : Type 0 where
   pub names : List Name
   pub fair : AreFair t.log (t.known r) names
   pub reply : line ≡ lines.Digests (map (λ a. (a, digest_at t a)) names)
-  pub unchanged : u ≡ t
+  pub change : u ≡ shown_at r names t

@@ -7,7 +7,7 @@ use Rattle.rmt_partset.specs.Snapshots.{NamedData, names_in, data_in, all_rows}
 use Rattle.rmt_query.specs.Answers.{answer_of}
 use Rattle.rmt_query.specs.Explained.{AreExplained}
 use Rattle.rmt_events.specs.Clusters.{Cluster}
-use Rattle.rmt_statement_model.specs.TableStates.{TableState}
+use Rattle.rmt_statement_model.specs.TableStates.{TableState, shown_at}
 use Rattle.rmt_statement_model.specs.Reads.{IsReading}
 use Rattle.rmt_statement_model.specs.Shows.{Shows}
 
@@ -15,10 +15,15 @@ use Rattle.rmt_statement_model.specs.Shows.{Shows}
 abbrev pub IsReadingOf : Cluster → ℕ → List NamedData → Type 0
 IsReadingOf s r parts = (t : TableState) → Shows s t → IsReading t r parts
 
+-- the cluster shows that what the parts hold is known at the replica
+abbrev pub IsKnownOf : Cluster → ℕ → List NamedData → Type 0
+IsKnownOf s r parts = (t : TableState) → Shows s t → Shows s (shown_at r (names_in parts) t)
+
 -- the names of parts that are read at the replica, and the answer over their rows
 pub record IsSelection (s : Cluster) (r : ℕ) (query : CheckedQuery) (names : List Name) (rows : List (List Cell)) : Type 0 where
   pub parts : List NamedData
   pub reading : IsReadingOf s r parts
+  pub known : IsKnownOf s r parts
   pub named : names ≡ names_in parts
   pub answered : rows ≡ answer_of s.table.schema query (all_rows (data_in parts))
 
@@ -26,4 +31,5 @@ pub record IsSelection (s : Cluster) (r : ℕ) (query : CheckedQuery) (names : L
 pub record IsExplained (s : Cluster) (r : ℕ) (query : CheckedQuery) (all : List (Name × ℕ × ℕ)) : Type 0 where
   pub parts : List NamedData
   pub reading : IsReadingOf s r parts
+  pub known : IsKnownOf s r parts
   pub counted : AreExplained query.filter (names_in parts) (data_in parts) all

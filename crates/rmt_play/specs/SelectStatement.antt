@@ -8,7 +8,7 @@ use Rattle.rmt_names.specs.Names.{Name}
 use Rattle.rmt_model.specs.Fair.{AreFair}
 use Rattle.rmt_partset.specs.Snapshots.{all_rows}
 use Rattle.rmt_query.specs.Answers.{answer_of}
-use Rattle.rmt_statement_model.specs.TableStates.{TableState, data_at, plain_rows, synced}
+use Rattle.rmt_statement_model.specs.TableStates.{TableState, data_at, plain_rows, synced, shown_at}
 use Rattle.rmt_play.specs.LostParts.{LacksSome}
 use Rattle.rmt_reply.specs.declared.line.Line.{Line}
 use Rattle.rmt_reply.specs.declared.line.Line.TheVariants as lines
@@ -25,11 +25,12 @@ pub record ReadsAll (t : TableState) (r : ℕ) (query : Query) (line : Line) (u 
 abbrev pub Syncs : (ℕ → Bool) → TableState → ℕ → Query → Line → TableState → Type 0
 Syncs up t r query line u = ReadsAll t r query line u ⊎ LacksSome up t r line u
 
--- SELECT: the answer is the query over what parts hold whose names are fair for the places known at the replica
+-- SELECT: the answer is the query over what parts hold whose names are fair for the places known at the replica; what they hold is
+-- known there then
 pub record Reads (t : TableState) (r : ℕ) (query : Query) (line : Line) (u : TableState) : Type 0 where
   pub checked : CheckedQuery
   pub is : IsCheckedQuery t.schema query checked
   pub names : List Name
   pub fair : AreFair t.log (t.known r) names
   pub reply : line ≡ lines.Read names (answer_of t.schema checked (all_rows (map (data_at t) names)))
-  pub unchanged : u ≡ t
+  pub change : u ≡ shown_at r names t

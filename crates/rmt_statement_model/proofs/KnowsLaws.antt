@@ -124,11 +124,45 @@ learns-step s t k i comes known w d f = subst (λ (u : Cluster). EachKnows u (le
     looked (inl a) = applies-known s d.after k i (rp.Applied comes) known w a f
     looked (inr a) = let e = a.answer in absurd (cc)
 
+-- ---- one replica knows more
+
+-- it knows these places besides, and each other one what it knew
+pub known-more : (s : Cluster) (x : Replica) (known : ℕ → ℕ → Bool) (more : ℕ → Bool) → IsWhole s → Has s.replicas x → Knows x (λ j. more j || known x.number j) → EachKnows s known → EachKnows s (λ k j. (nat_eq k x.number && more j) || known k j)
+known-more s x known more w h here f z i = go (nat-same z.number x.number)
+  where
+    drops-left : (a b : Bool) (c : Bool) → a ≡ true → ((a && b) || c) ≡ true → (b || c) ≡ true
+    drops-left true b c q r = r
+    drops-left false b c q r = absurd (cc)
+
+    drops-all : (a b : Bool) (c : Bool) → a ≡ false → ((a && b) || c) ≡ true → c ≡ true
+    drops-all true b c q r = absurd (cc)
+    drops-all false b c q r = r
+
+    go : (z.number ≡ x.number) ⊎ (z.number ≡ x.number → ⊥) → Knows z (λ j. (nat_eq z.number x.number && more j) || known z.number j)
+    go (inl q) =
+        let t : x ≡ z = one-replica s x z w h i (sym q) in
+        let n : nat_eq z.number x.number ≡ true = grind (arith, nat_tests) in
+        knows-fewer z (λ j. more j || known z.number j) (λ j. (nat_eq z.number x.number && more j) || known z.number j) (λ j r. drops-left (nat_eq z.number x.number) (more j) (known z.number j) n r)
+        (subst (λ (v : Replica). Knows v (λ j. more j || known v.number j)) t here)
+    go (inr q) =
+        let n : nat_eq z.number x.number ≡ false = other (nat_eq z.number x.number) refl q in
+        knows-fewer z (known z.number) (λ j. (nat_eq z.number x.number && more j) || known z.number j) (λ j r. drops-all (nat_eq z.number x.number) (more j) (known z.number j) n r) (f z i)
+      where
+        other : (b : Bool) → nat_eq z.number x.number ≡ b → (z.number ≡ x.number → ⊥) → b ≡ false
+        other false e n = refl
+        other true e n = absurd (n (let u : z.number ≡ x.number = grind (arith, nat_tests) in u))
+
+-- what is marked by neither is by none
+pub neither : (a b : Bool) → a ≡ false → b ≡ false → (a || b) ≡ false
+neither false false p q = refl
+neither true b p q = absurd (cc)
+neither false true p q = absurd (cc)
+
 -- ---- a replica that has done its first entries
 
 -- these are known there
 pub done-known : (s : Cluster) (x : Replica) (known : ℕ → ℕ → Bool) (len : ℕ) → IsWhole s → Has s.replicas x → len ≤ length x.log → ((j : ℕ) → j < len → done_at x.done j ≡ true) → EachKnows s known → EachKnows s (learned_to known x.number len)
-done-known s x known len w h b d f z i = go (nat-same z.number x.number)
+done-known s x known len w h b d f = known-more s x known (λ j. nat_lt j len) w h here f
   where
     not-below : (j n : ℕ) → n ≤ j → nat_lt j n ≡ false
     not-below j n q = grind (arith, nat_tests)
@@ -141,11 +175,6 @@ done-known s x known len w h b d f z i = go (nat-same z.number x.number)
         right false c q = q
     either false b c q g = rw q refl
 
-    neither : (a b : Bool) → a ≡ false → b ≡ false → (a || b) ≡ false
-    neither false false p q = refl
-    neither true b p q = absurd (cc)
-    neither false true p q = absurd (cc)
-
     -- the replica itself knows them
     here : Knows x (λ j. nat_lt j len || known x.number j)
     here = record {
@@ -154,28 +183,6 @@ done-known s x known len w h b d f z i = go (nat-same z.number x.number)
           (λ j l q. either (nat_lt j len) (known x.number j) (done_at x.done j) q (λ c. d j (let u : j < len = grind (arith, nat_tests) in u)))
           (fair-both x.log (known x.number) (done_at x.done) (names_of x.parts) (f x h).fair (IsStanding.fair (Follows.stands (Each-at (Follows s) s.replicas x w.follow h))));
     }
-
-    drops-left : (a b : Bool) (c : Bool) → a ≡ true → ((a && b) || c) ≡ true → (b || c) ≡ true
-    drops-left true b c q r = r
-    drops-left false b c q r = absurd (cc)
-
-    drops-all : (a b : Bool) (c : Bool) → a ≡ false → ((a && b) || c) ≡ true → c ≡ true
-    drops-all true b c q r = absurd (cc)
-    drops-all false b c q r = r
-
-    go : (z.number ≡ x.number) ⊎ (z.number ≡ x.number → ⊥) → Knows z (learned_to known x.number len z.number)
-    go (inl q) =
-        let t : x ≡ z = one-replica s x z w h i (sym q) in
-        let n : nat_eq z.number x.number ≡ true = grind (arith, nat_tests) in
-        knows-fewer z (λ j. nat_lt j len || known z.number j) (learned_to known x.number len z.number) (λ j r. drops-left (nat_eq z.number x.number) (nat_lt j len) (known z.number j) n r)
-        (subst (λ (v : Replica). Knows v (λ j. nat_lt j len || known v.number j)) t here)
-    go (inr q) =
-        let n : nat_eq z.number x.number ≡ false = other (nat_eq z.number x.number) refl q in
-        knows-fewer z (known z.number) (learned_to known x.number len z.number) (λ j r. drops-all (nat_eq z.number x.number) (nat_lt j len) (known z.number j) n r) (f z i)
-      where
-        other : (b : Bool) → nat_eq z.number x.number ≡ b → (z.number ≡ x.number → ⊥) → b ≡ false
-        other false e n = refl
-        other true e n = absurd (n (let u : z.number ≡ x.number = grind (arith, nat_tests) in u))
 
 -- all is known at a replica that has the whole log, and has done all of it
 pub drained-known : (s : Cluster) (x : Replica) (known : ℕ → ℕ → Bool) → IsWhole s → Has s.replicas x → x.log ≡ s.table.log → IsDrained x → EachKnows s known → EachKnows s (learned_to known x.number (length s.table.log))

@@ -1,6 +1,7 @@
 pub mod Replaced
 pub mod Learning
 pub mod KnowsLaws
+pub mod ShownParts
 pub mod UpLaws
 pub mod ShownSteps
 pub mod AttemptBegins

@@ -85,6 +85,7 @@ record MergesInto (s : Cluster) (k : ℕ) (sources : List Name) (reply : Reply) 
   log : table.log ≡ Merge name sources count ∷ s.table.log
   schema : table.schema ≡ s.table.schema
   next : table.next ≡ s.table.next
+  within : worker_limit s.table.log ≡ None
   change : u ≡ record s { table = table; events = (ev.Merge k sources, reply) ∷ s.events }
 
 -- the merge enters the log
@@ -101,6 +102,7 @@ merges-into s u k sources place step = go step.does
           log = ap (λ (x : Table). x.log) c;
           schema = ap (λ (x : Table). x.schema) c;
           next = ap (λ (x : Table). x.next) c;
+          within = a.appends.at.does.within;
           change = step.stored ∙ ap (λ (x : Cluster). record x { events = (ev.Merge k sources, rp.Entry place) ∷ x.events }) a.appends.at.change;
         }
     go (inr a) = let e = a.answer in absurd (cc)
@@ -138,6 +140,7 @@ merged-row s u k p first second rest place w e step t h =
         rest = rest;
         sources = ap (λ (x : List Entry). live_of x p) h.log ∙ e;
         count = m.count;
+        room = ap worker_limit h.log ∙ m.within;
         lawful = subst (λ (c : Shape). Lawful c (Merge m.name (first ∷ second ∷ rest) m.count ∷ t.log)) (sym h.schema) (subst (λ (x : List Entry). Lawful s.table.schema (Merge m.name (first ∷ second ∷ rest) m.count ∷ x)) (sym h.log) l);
         change = refl;
       }));

@@ -1,5 +1,5 @@
 -- Mutations that are pending for live names below a place: what it says that there is none, and one name after the other.
-use Rattle.std.proofs.Common.{◌≡◌, ◌⊎◌, ℕ, ◌+◌, ◌<◌, ◌≤◌, inl, inr, ◌&&◌, Bool, true, false, cond, not, max, List, [], ◌∷◌, length, filter, refl, sym, ap, subst, arith, ◌∙◌, nat_eq, nat_lt, nat_le}
+use Rattle.std.proofs.Common.{◌≡◌, ◌⊎◌, ℕ, ◌+◌, ◌<◌, ◌≤◌, inl, inr, Bool, true, false, cond, not, max, List, [], ◌∷◌, length, filter, refl, sym, ap, subst, arith, ◌∙◌, nat_eq, nat_lt, nat_le}
 use Rattle.std.proofs.lemmas.Bool.Decides.{nat_tests}
 use Rattle.std.specs.declared.option.Option.{Option}
 use Rattle.std.specs.declared.option.Option.TheVariants.{Some, None}
@@ -10,14 +10,15 @@ use Rattle.rmt_entries.specs.declared.entry.Entry.{Entry}
 use Rattle.rmt_entries.specs.declared.entry.Entry.TheVariants.{Get, Merge, Mutate, Mutation, DropRange}
 use Rattle.rmt_model.specs.Words.{Has, Pairwise}
 use Rattle.rmt_model.specs.Live.{Before, live}
-use Rattle.rmt_model.specs.Lawful.{Lawful, IsMutate, IsMutationWith, entry_at, version_among, version_below}
+use Rattle.rmt_model.specs.Lawful.{Lawful, IsMutate, IsMutationWith, entry_at}
 use Rattle.rmt_model.proofs.Lists.{Each-at, Has-filter, Has-inserted}
 use Rattle.rmt_model.proofs.LiveLaws.{Tight, tight, covers-holds, not-kept, one-live, pending-above, placed-old}
 use Rattle.rmt_model.proofs.Drops.{some-same, entry-has, entry-older}
+use Rattle.rmt_model.proofs.VersionLaws.{below-limit}
 use Rattle.rmt_history.specs.Mutations.{number_in, is_pending, last_pending}
 use Rattle.rmt_history.proofs.NumberLemmas.{passes, pending-number, in-with, with-in, log-order}
 use Rattle.rmt_events.specs.LogEvents.{IsMutable}
-use Rattle.rmt_statement_model.specs.Waits.{NonePending, SomePending}
+use Rattle.rmt_statement_model.specs.Waits.{IsCarried, NonePending, SomePending}
 use Rattle.rmt_statement_model.proofs.MutationIds.{ids-rise}
 use Rattle.rmt_statement_model.proofs.PendingPlaces.{IsLastPending, settled-below, last-at, last-same, settled-after}
 
@@ -38,33 +39,19 @@ number-below schema log i n a e l h k p =
     let q : nat_lt (data_version a) n ≡ false = sym (pending-number a e o ∙ ap (passes (λ m. nat_lt (data_version a) m)) (with-in e a.partition n o k)) ∙ p in
     grind (arith, nat_tests)
 
--- where no mutation up to a place is pending for a live name, none is up to the id of the mutation there
-pub none-pending : (schema : Shape) (log : List Entry) (place id : ℕ) (numbers : List (Option ℕ × ℕ)) (command : CheckedMutation) → Lawful schema log → entry_at log place ≡ Some (Mutation id numbers command) → ((a : Name) → Has (live log) a → last_pending log a (place + 1) ≡ None) → NonePending log id
-none-pending schema log place id numbers command l at f k n others change a h m i j =
+-- where no mutation up to a place is pending for a name, none is up to the id of the mutation there
+pub carried : (schema : Shape) (log : List Entry) (place id : ℕ) (numbers : List (Option ℕ × ℕ)) (command : CheckedMutation) (a : Name) → Lawful schema log → entry_at log place ≡ Some (Mutation id numbers command) → last_pending log a (place + 1) ≡ None → IsCarried log id a
+carried schema log place id numbers command a l at f k n others change h m j =
     let r = has-place log (Mutation k others change) h in
     let q = ids-rise schema log r.0 place k id others numbers change command l r.1 at m in
     number-below schema log r.0 n a (Mutation k others change) l r.1 j
-    (settled-below log a (place + 1) r.0 (Mutation k others change) (f a i) r.1 (omega (arith, q)))
+    (settled-below log a (place + 1) r.0 (Mutation k others change) f r.1 (omega (arith, q)))
+
+-- nor for any live name
+pub none-pending : (schema : Shape) (log : List Entry) (place id : ℕ) (numbers : List (Option ℕ × ℕ)) (command : CheckedMutation) → Lawful schema log → entry_at log place ≡ Some (Mutation id numbers command) → ((a : Name) → Has (live log) a → last_pending log a (place + 1) ≡ None) → NonePending log id
+none-pending schema log place id numbers command l at f a i = carried schema log place id numbers command a l at (f a i)
 
 -- ---- what is pending for a live name
-
--- a version isn't above its limit
-among-limit : (numbers : List (Option ℕ × ℕ)) (p : Option ℕ) (limit : ℕ) → version_among numbers p limit ≤ limit
-among-limit [] p limit = omega arith
-among-limit (x ∷ xs) p limit = let q = among-limit xs p limit in first (nat_eq (rank x.0) (rank p)) x.1 limit (version_among xs p limit) q
-  where
-    first : (b : Bool) (m l rest : ℕ) → rest ≤ l → max (cond (b && nat_le m l) m 0) rest ≤ l
-    first true m l rest h = grind (arith, nat_tests)
-    first false m l rest h = omega arith
-
--- nor is that of a log
-below-limit : (log : List Entry) (p : Option ℕ) (limit : ℕ) → version_below log p limit ≤ limit
-below-limit [] p limit = omega arith
-below-limit (Mutation id numbers command ∷ log) p limit = omega (arith, among-limit numbers p limit, below-limit log p limit)
-below-limit (Get q n digest source need ∷ log) p limit = omega (arith, below-limit log p limit)
-below-limit (Merge new sources count ∷ log) p limit = omega (arith, below-limit log p limit)
-below-limit (Mutate old new upto count mcount ∷ log) p limit = omega (arith, below-limit log p limit)
-below-limit (DropRange q n ∷ log) p limit = omega (arith, below-limit log p limit)
 
 -- a live name may be mutated up to the last mutation that is pending for it
 pub pending-mutable : (schema : Shape) (log : List Entry) (upto : ℕ) (old : Name) (i : ℕ) → Lawful schema log → Has (live log) old → last_pending log old upto ≡ Some i → IsMutable log old i × (i < upto)
@@ -142,6 +129,11 @@ new-settled schema log upto old name i count mcount e l =
     let p = m.pending in
     last-same log name old name upto i count mcount
     ∙ subst (λ (a : Name). last_pending log a upto ≡ None) (sym m.name) (settled-after schema log upto i m.number old l.0 (last-at log old upto i e) m.at (omega (arith, p)))
+
+-- nor has it one up to the id of the mutation at a place, if it was mutated up to the last that was pending up to there
+pub new-carried : (schema : Shape) (log : List Entry) (place id i count mcount : ℕ) (old name : Name) (numbers : List (Option ℕ × ℕ)) (command : CheckedMutation) → Lawful schema (Mutate old name i count mcount ∷ log) → entry_at log place ≡ Some (Mutation id numbers command) → last_pending log old (place + 1) ≡ Some i → IsCarried log id name
+new-carried schema log place id i count mcount old name numbers command l at e =
+    carried schema log place id numbers command name l.0 at (sym (last-same log name old name (place + 1) i count mcount) ∙ new-settled schema log (place + 1) old name i count mcount e l)
 
 -- it covers the name that it was
 new-covers : (schema : Shape) (log : List Entry) (old name : Name) (i count mcount : ℕ) → Lawful schema (Mutate old name i count mcount ∷ log) → covers name old ≡ true

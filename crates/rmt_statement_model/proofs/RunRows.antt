@@ -1,11 +1,13 @@
 -- RUN: its turns leave a table as it is, but for entries of background work.
 use Rattle.std.proofs.Common.{◌≡◌, ◌≤◌, ◌+◌, ℕ, zero, suc, inl, inr, List, [], ◌∷◌, ◌++◌, length, length-append, refl, sym, ap, subst, ◌∙◌, arith}
+use Rattle.std.specs.declared.option.Option.TheVariants.{None}
 use Rattle.rmt_values.specs.Rows.{Shape}
 use Rattle.rmt_names.specs.Names.{Name}
 use Rattle.rmt_entries.specs.declared.entry.Entry.{Entry}
 use Rattle.rmt_entries.specs.declared.entry.Entry.TheVariants.{Get, Merge, Mutate, Mutation, DropRange}
 use Rattle.rmt_model.specs.Words.{Each}
 use Rattle.rmt_model.specs.Lawful.{Lawful}
+use Rattle.rmt_limits.specs.EntryLimits.{worker_limit}
 use Rattle.rmt_events.specs.Views.{Table}
 use Rattle.rmt_events.specs.Sound.{IsSoundTable}
 use Rattle.rmt_events.specs.Clusters.{Cluster}
@@ -15,7 +17,7 @@ use Rattle.rmt_events.specs.Steps.{Does, Step}
 use Rattle.rmt_events.specs.Draws.{turn, Runs}
 use Rattle.rmt_events.proofs.WholeSteps.{whole-step}
 use Rattle.rmt_statement_model.specs.TableStates.{TableState}
-use Rattle.rmt_statement_model.specs.BackgroundWork.{IsOfWorker, Works}
+use Rattle.rmt_statement_model.specs.BackgroundWork.{IsOfWorker, HadRoom, Works}
 use Rattle.rmt_statement_model.specs.Shows.{Shows, Leads, HoldsNone, ups}
 use Rattle.rmt_statement_model.proofs.UpLaws.{ups-step}
 use Rattle.rmt_statement_model.proofs.ShownSteps.{TellsNoCommit, shows-quiet}
@@ -37,7 +39,7 @@ shown-lawful s t w h = subst (λ (c : Shape). Lawful c t.log) (sym h.schema) (su
 
 -- no work leaves the table
 pub works-none : (t : TableState) (n : ℕ) → Lawful t.schema t.log → Works n t t
-works-none t n l = record { gained = []; workers = tt; within = omega arith; lawful = l; change = refl }
+works-none t n l = record { gained = []; workers = tt; within = omega arith; room = tt; lawful = l; change = refl }
 
 -- the entries of both are of workers
 each-both : (xs ys : List Entry) → Each IsOfWorker xs → Each IsOfWorker ys → Each IsOfWorker (xs ++ ys)
@@ -49,6 +51,11 @@ joined-log : (xs ys zs : List Entry) → (xs ++ ys) ++ zs ≡ xs ++ (ys ++ zs)
 joined-log [] ys zs = refl
 joined-log (x ∷ xs) ys zs = ap (λ (l : List Entry). x ∷ l) (joined-log xs ys zs)
 
+-- both were within the limit
+room-both : (xs ys log : List Entry) → HadRoom xs (ys ++ log) → HadRoom ys log → HadRoom (xs ++ ys) log
+room-both [] ys log e f = f
+room-both (x ∷ xs) ys log e f = (ap worker_limit (joined-log xs ys log) ∙ e.0, room-both xs ys log e.1 f)
+
 -- work in some turns and then in more is work in all of them
 pub works-then : (t u v : TableState) (m n : ℕ) → Works m t u → Works n u v → Works (n + m) t v
 works-then t u v m n f g =
@@ -56,6 +63,7 @@ works-then t u v m n f g =
       gained = g.gained ++ f.gained;
       workers = each-both g.gained f.gained g.workers f.workers;
       within = few;
+      room = room-both g.gained f.gained t.log (subst (λ (l : List Entry). HadRoom g.gained l) (ap (λ (x : TableState). x.log) f.change) g.room) f.room;
       lawful = subst (λ (l : List Entry). Lawful t.schema l) (sym long) (subst (λ (c : Shape). Lawful c (g.gained ++ u.log)) (ap (λ (x : TableState). x.schema) f.change) g.lawful);
       change = g.change ∙ (ap (λ (x : TableState). record x { log = g.gained ++ u.log }) f.change ∙ ap (λ (l : List Entry). record t { log = l }) (sym long));
     }
@@ -85,12 +93,12 @@ worker-no-block (Mutation id numbers command) q = absurd q
 worker-no-block (DropRange p n) q = absurd q
 
 -- an entry of a worker enters the log
-gained-move : (s u : Cluster) (e : Event) (reply : Reply) (x : Entry) → IsWhole s → Step s e reply u → GainsEntry s u x → IsOfWorker x → u.table.next ≡ s.table.next → (t : TableState) → Shows s t → Leads u (Works 1 t)
-gained-move s u e reply x w k g q n t h =
+gained-move : (s u : Cluster) (e : Event) (reply : Reply) (x : Entry) → IsWhole s → Step s e reply u → GainsEntry s u x → IsOfWorker x → worker_limit s.table.log ≡ None → u.table.next ≡ s.table.next → (t : TableState) → Shows s t → Leads u (Works 1 t)
+gained-move s u e reply x w k g q b n t h =
     let shows : Shows u (record t { log = x ∷ t.log; next = t.next }) = gained-shows s u e reply x t t.next w k g (worker-no-block x q) (h.next ∙ sym n) h in
     record {
       state = record t { log = x ∷ t.log };
-      holds = record { gained = x ∷ []; workers = (q, tt); within = omega arith; lawful = shown-lawful u (record t { log = x ∷ t.log }) (whole-step s u e reply w k) shows; change = refl };
+      holds = record { gained = x ∷ []; workers = (q, tt); within = omega arith; room = (ap worker_limit h.log ∙ b, tt); lawful = shown-lawful u (record t { log = x ∷ t.log }) (whole-step s u e reply w k) shows; change = refl };
       shows = shows;
     }
 
@@ -106,7 +114,7 @@ merge-move s u k names reply w st t h = go st.does
         (ap (λ (x : Table). x.schema) q ∙ ap (λ (x : Table). x.schema) d.appends.at.does.change)
         (ap (λ (x : Table). x.log) q ∙ ap (λ (x : Table). x.log) d.appends.at.does.change)
         (ap (λ (x : Cluster). x.events) d.appends.at.change) (λ xs i. refl))
-        tt
+        tt d.appends.at.does.within
         (ap (λ (x : Cluster). x.table.next) st.stored ∙ (ap (λ (x : Table). x.next) q ∙ ap (λ (x : Table). x.next) d.appends.at.does.change)) t h
     go (inr d) = declined-move s u (ev.Merge k names) reply _ w st d (λ xs i. refl) t h
 
@@ -122,7 +130,7 @@ mutate-move s u k part upto reply w st t h = go st.does
         (ap (λ (x : Table). x.schema) q ∙ ap (λ (x : Table). x.schema) d.appends.at.does.change)
         (ap (λ (x : Table). x.log) q ∙ ap (λ (x : Table). x.log) d.appends.at.does.change)
         (ap (λ (x : Cluster). x.events) d.appends.at.change) (λ xs i. refl))
-        tt
+        tt d.appends.at.does.within
         (ap (λ (x : Cluster). x.table.next) st.stored ∙ (ap (λ (x : Table). x.next) q ∙ ap (λ (x : Table). x.next) d.appends.at.does.change)) t h
     go (inr d) = declined-move s u (ev.Mutate k part upto) reply _ w st d (λ xs i. refl) t h
 

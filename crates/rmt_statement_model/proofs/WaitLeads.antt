@@ -1,5 +1,5 @@
 -- WAIT MUTATION as a loop has it: how it begins, goes on, and ends.
-use Rattle.std.proofs.Common.{◌≡◌, ℕ, ◌+◌, ◌≤◌, List, ◌∷◌, refl, sym, ap, subst, arith}
+use Rattle.std.proofs.Common.{◌≡◌, ℕ, ◌+◌, ◌≤◌, List, ◌∷◌, refl, sym, ap, subst, arith, ◌∙◌}
 use Rattle.std.specs.declared.option.Option.{Option}
 use Rattle.std.specs.declared.option.Option.TheVariants.{Some, None}
 use Rattle.rmt_values.specs.declared.checked_mutation.CheckedMutation.{CheckedMutation}
@@ -11,6 +11,7 @@ use Rattle.rmt_entries.specs.declared.entry.Entry.TheVariants.{Mutate, Mutation}
 use Rattle.rmt_model.specs.Words.{Has}
 use Rattle.rmt_model.specs.Live.{live}
 use Rattle.rmt_model.specs.Lawful.{Lawful, entry_at}
+use Rattle.rmt_model.proofs.Lists.{Has-right}
 use Rattle.rmt_model.proofs.Drops.{entry-older}
 use Rattle.rmt_limits.specs.EntryLimits.{worker_limit}
 use Rattle.rmt_history.specs.Mutations.{last_pending}
@@ -20,8 +21,8 @@ use Rattle.rmt_events.specs.Whole.{IsWhole}
 use Rattle.rmt_reply.specs.declared.refusal.Refusal.TheVariants.{LimitReached}
 use Rattle.rmt_statement_model.specs.TableStates.{TableState, synced}
 use Rattle.rmt_statement_model.specs.Shows.{Shows, Leads}
-use Rattle.rmt_statement_model.specs.Waits.{MutatesParts, WaitsFor, LacksEntries}
-use Rattle.rmt_statement_model.proofs.PendingLaws.{none-pending, some-pending}
+use Rattle.rmt_statement_model.specs.Waits.{IsCarried, MutatesParts, WaitsFor, LacksEntries}
+use Rattle.rmt_statement_model.proofs.PendingLaws.{none-pending, some-pending, new-carried}
 use Rattle.rmt_statement_model.proofs.WaitRows.{mutates-none, mutates-more, mutates-place}
 
 -- ---- the log
@@ -45,15 +46,22 @@ wait-begins t s k id place numbers command w e h =
       shows = h;
     }
 
--- one more part is mutated, up to a place that isn't past the mutation, and the replica is brought up to date
-pub wait-goes-on : (t : TableState) (s w : Cluster) (k id place i count mcount : ℕ) (old name : Name) (numbers : List (Option ℕ × ℕ)) (command : CheckedMutation) → Lawful w.table.schema w.table.log → entry_at s.table.log place ≡ Some (Mutation id numbers command) → i ≤ place
+-- what is carried in the longer log is so in the log before
+carried-before : (t u : TableState) (r id : ℕ) (a : Name) → MutatesParts t r id u → IsCarried u.log id a → IsCarried t.log id a
+carried-before t u r id a m f k n numbers command h =
+    f k n numbers command (subst (λ (x : TableState). Has x.log (Mutation k numbers command)) (sym m.change) (Has-right m.gained t.log (Mutation k numbers command) h))
+
+-- one more part is mutated, up to the last mutation that was pending for it and isn't past the place, and the replica is brought
+-- up to date
+pub wait-goes-on : (t : TableState) (s w : Cluster) (k id place i count mcount : ℕ) (old name : Name) (numbers : List (Option ℕ × ℕ)) (command : CheckedMutation) → Lawful w.table.schema w.table.log → entry_at s.table.log place ≡ Some (Mutation id numbers command) → last_pending s.table.log old (place + 1) ≡ Some i → i ≤ place → worker_limit s.table.log ≡ None
     → ((v : TableState) → Shows s v → Shows w (synced k (record v { log = Mutate old name i count mcount ∷ v.log }))) → Leads s (λ v. MutatesParts t k id v) → Leads w (λ v. MutatesParts t k id v)
-wait-goes-on t s w k id place i count mcount old name numbers command h e l f g =
+wait-goes-on t s w k id place i count mcount old name numbers command h e n l b f g =
     record {
       state = synced k next;
       holds = mutates-more t g.state (synced k next) k id place (Mutate old name i count mcount) g.holds
-          (let q = mutates-place t g.state k id place numbers command g.holds (subst (λ (x : List Entry). entry_at x place ≡ Some (Mutation id numbers command)) (sym (Shows.log g.shows)) e) in omega (arith, q, l))
-          (subst (λ (c : Shape). Lawful c next.log) (ap (λ (x : TableState). x.schema) (MutatesParts.change g.holds)) (shown-lawful w (synced k next) h shown)) refl;
+          (let q = mutates-place t g.state k id place numbers command g.holds there in omega (arith, q, l), carried-before t g.state k id name g.holds carried)
+          (ap worker_limit (Shows.log g.shows) ∙ b)
+          (subst (λ (c : Shape). Lawful c next.log) (ap (λ (x : TableState). x.schema) (MutatesParts.change g.holds)) lawful) refl;
       shows = shown;
     }
   where
@@ -62,6 +70,16 @@ wait-goes-on t s w k id place i count mcount old name numbers command h e l f g 
 
     shown : Shows w (synced k next)
     shown = f g.state (Leads.shows g)
+
+    lawful : Lawful g.state.schema next.log
+    lawful = shown-lawful w (synced k next) h shown
+
+    there : entry_at g.state.log place ≡ Some (Mutation id numbers command)
+    there = subst (λ (x : List Entry). entry_at x place ≡ Some (Mutation id numbers command)) (sym (Shows.log g.shows)) e
+
+    carried : IsCarried g.state.log id name
+    carried = new-carried g.state.schema g.state.log place id i count mcount old name numbers command lawful there
+        (subst (λ (x : List Entry). last_pending x old (place + 1) ≡ Some i) (sym (Shows.log g.shows)) n)
 
 -- no mutation up to the place is pending for a live name
 pub wait-ends : (t : TableState) (s : Cluster) (k id place : ℕ) (numbers : List (Option ℕ × ℕ)) (command : CheckedMutation) → IsWhole s → entry_at s.table.log place ≡ Some (Mutation id numbers command) → ((a : Name) → Has (live s.table.log) a → last_pending s.table.log a (place + 1) ≡ None) → Leads s (λ v. MutatesParts t k id v) → Leads s (λ v. WaitsFor t k id v)

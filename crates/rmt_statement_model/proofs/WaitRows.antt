@@ -3,7 +3,7 @@ use Rattle.std.proofs.Common.{◌≡◌, ℕ, ◌≤◌, inl, inr, ◌&&◌, ◌
 use Rattle.std.proofs.Math.Path.{fun_ext}
 use Rattle.std.proofs.lemmas.Bool.Decides.{nat_tests}
 use Rattle.std.specs.declared.option.Option.{Option}
-use Rattle.std.specs.declared.option.Option.TheVariants.{Some}
+use Rattle.std.specs.declared.option.Option.TheVariants.{Some, None}
 use Rattle.rmt_values.specs.declared.checked_mutation.CheckedMutation.{CheckedMutation}
 use Rattle.rmt_values.specs.declared.limit.Limit.{Limit}
 use Rattle.rmt_names.specs.Names.{Name}
@@ -75,6 +75,7 @@ pub record Mutated (s u : Cluster) (old : Name) (upto : ℕ) : Type 0 where
   pub mcount : ℕ
   pub log : u.table.log ≡ Mutate old name upto count mcount ∷ s.table.log
   pub schema : u.table.schema ≡ s.table.schema
+  pub within : worker_limit s.table.log ≡ None
 
 -- it does, where a place is answered
 pub mutated : (s u : Cluster) (k : ℕ) (old : Name) (upto place : ℕ) → Step s (ev.Mutate k old upto) (rp.Entry place) u → Mutated s u old upto
@@ -89,6 +90,7 @@ mutated s u k old upto place st = go st.does
           mcount = a.mcount;
           log = ap (λ (x : Table). x.log) e ∙ ap (λ (x : Table). x.log) a.appends.at.does.change;
           schema = ap (λ (x : Table). x.schema) e ∙ ap (λ (x : Table). x.schema) a.appends.at.does.change;
+          within = a.appends.at.does.within;
         }
     go (inr a) = let q = a.answer in absurd (cc)
 
@@ -125,7 +127,7 @@ refused-shows s u k old upto limit value w st t h = go st.does
 
 -- none is mutated yet
 pub mutates-none : (t : TableState) (r id place : ℕ) (numbers : List (Option ℕ × ℕ)) (command : CheckedMutation) → Lawful t.schema t.log → entry_at t.log place ≡ Some (Mutation id numbers command) → MutatesParts t r id (synced r t)
-mutates-none t r id place numbers command l e = record { numbers = numbers; command = command; place = place; at = e; gained = []; mutates = tt; lawful = l; change = refl }
+mutates-none t r id place numbers command l e = record { numbers = numbers; command = command; place = place; at = e; gained = []; mutates = tt; room = tt; lawful = l; change = refl }
 
 -- what is known after a second sync is what is known after the last one alone
 learned-twice : (known : ℕ → ℕ → Bool) (r n m : ℕ) → n ≤ m → learned_to (learned_to known r n) r m ≡ learned_to known r m
@@ -138,8 +140,8 @@ learned-twice known r n m l = fun_ext (λ s. fun_ext (λ j. same (nat_eq s r) (n
     same true true false c f = let e = f refl in absurd (cc)
 
 -- one more part is
-pub mutates-more : (t u v : TableState) (r id place : ℕ) (e : Entry) → (m : MutatesParts t r id u) → MutatesUpTo m.place e → Lawful t.schema (e ∷ u.log) → v ≡ synced r (record u { log = e ∷ u.log }) → MutatesParts t r id v
-mutates-more t u v r id place e m h l c =
+pub mutates-more : (t u v : TableState) (r id place : ℕ) (e : Entry) → (m : MutatesParts t r id u) → MutatesUpTo t.log m.place id e → worker_limit u.log ≡ None → Lawful t.schema (e ∷ u.log) → v ≡ synced r (record u { log = e ∷ u.log }) → MutatesParts t r id v
+mutates-more t u v r id place e m h w l c =
     record {
       numbers = m.numbers;
       command = m.command;
@@ -147,6 +149,7 @@ mutates-more t u v r id place e m h l c =
       at = m.at;
       gained = e ∷ m.gained;
       mutates = (h, m.mutates);
+      room = (sym (ap (λ (x : TableState). worker_limit x.log) m.change) ∙ w, m.room);
       lawful = subst (λ (x : List Entry). Lawful t.schema (e ∷ x)) (ap (λ (x : TableState). x.log) m.change) l;
       change = c ∙ (ap (λ (x : TableState). synced r (record x { log = e ∷ x.log })) m.change ∙ ap (λ (f : ℕ → ℕ → Bool). record t { log = e ∷ (m.gained ++ t.log); known = f }) (learned-twice t.known r (length (m.gained ++ t.log)) (length (e ∷ (m.gained ++ t.log))) (omega arith)));
     }

@@ -1,11 +1,13 @@
 -- Background work: what RUN does to a table.
 -- ClickHouse documentation, MergeTree, "Data storage": parts are merged in the background; ALTER, "Mutations": parts are mutated
 -- in the background.
-use Rattle.std.specs.Prelude.{◌≡◌, ◌≤◌, ℕ, List, ◌++◌, length}
+use Rattle.std.specs.Prelude.{◌≡◌, ◌≤◌, ℕ, List, [], ◌∷◌, ◌++◌, length}
+use Rattle.std.specs.declared.option.Option.TheVariants.{None}
 use Rattle.rmt_entries.specs.declared.entry.Entry.{Entry}
 use Rattle.rmt_entries.specs.declared.entry.Entry.TheVariants.{Get, Merge, Mutate, Mutation, DropRange}
 use Rattle.rmt_model.specs.Words.{Each}
 use Rattle.rmt_model.specs.Lawful.{Lawful}
+use Rattle.rmt_limits.specs.EntryLimits.{worker_limit}
 use Rattle.rmt_statement_model.specs.TableStates.{TableState}
 
 -- the entry is one of background work: it merges or mutates parts
@@ -16,10 +18,17 @@ IsOfWorker (Get p n digest source need) = ⊥
 IsOfWorker (Mutation id numbers command) = ⊥
 IsOfWorker (DropRange p n) = ⊥
 
--- in so many turns the log gains such entries alone, at most as many as turns, and is lawful still; nothing else changes
+-- each of the entries, the newest first, was within the limit of worker entries as it entered the log
+abbrev pub HadRoom : List Entry → List Entry → Type 0
+HadRoom [] log = Unit {0}
+HadRoom (e ∷ gained) log = (worker_limit (gained ++ log) ≡ None) × HadRoom gained log
+
+-- in so many turns the log gains such entries alone, at most as many as turns and within the limit, and is lawful still; nothing
+-- else changes
 pub record Works (turns : ℕ) (t u : TableState) : Type 0 where
   pub gained : List Entry
   pub workers : Each IsOfWorker gained
   pub within : length gained ≤ turns
+  pub room : HadRoom gained t.log
   pub lawful : Lawful t.schema (gained ++ t.log)
   pub change : u ≡ record t { log = gained ++ t.log }

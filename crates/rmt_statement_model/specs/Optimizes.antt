@@ -35,13 +35,14 @@ abbrev pub partitions_asked : Option (Option ℕ) → List Entry → List (Optio
 partitions_asked None log = partitions_of (live log)
 partitions_asked (Some p) log = filter (λ q. nat_eq (rank q) (rank p)) (partitions_of (live log))
 
--- all live names of the partition are merged into one
+-- all live names of the partition are merged into one, within the limit of worker entries
 pub record MergesLive (t : TableState) (p : Option ℕ) (name : Name) (u : TableState) : Type 0 where
   pub first : Name
   pub second : Name
   pub rest : List Name
   pub sources : live_of t.log p ≡ first ∷ second ∷ rest
   pub count : ℕ
+  pub room : worker_limit t.log ≡ None
   pub lawful : Lawful t.schema (Merge name (first ∷ second ∷ rest) count ∷ t.log)
   pub change : u ≡ record t { log = Merge name (first ∷ second ∷ rest) count ∷ t.log }
 

@@ -3,13 +3,18 @@
 -- ClickHouse documentation, Data Replication: a block that a replica accepts becomes an entry of the table's log; another
 -- replica has it once it has done that entry.
 use Rattle.std.specs.Prelude.{ℕ, ◌&&◌, ◌||◌, Bool, false, nat_eq, nat_lt, List, [], ◌∷◌, length}
+use Rattle.std.specs.List.{list_any}
+use Rattle.std.specs.Option.{option_and_then}
 use Rattle.std.specs.declared.option.Option.{Option}
+use Rattle.std.specs.declared.option.Option.TheVariants.{Some, None}
 use Rattle.rmt_values.specs.Rows.{Shape}
-use Rattle.rmt_names.specs.Names.{Name}
+use Rattle.rmt_names.specs.Names.{Name, covers}
 use Rattle.rmt_entries.specs.declared.entry.Entry.{Entry}
+use Rattle.rmt_entries.specs.Entries.{result_name}
 use Rattle.rmt_granules.specs.Granules.{PartView}
 use Rattle.rmt_granules.specs.MadePart.{data_of}
 use Rattle.rmt_model.specs.Content.{Row, content, rows}
+use Rattle.rmt_model.specs.Lawful.{entry_at}
 use Rattle.rmt_model.specs.Window.{kept}
 use Rattle.rmt_events.specs.Views.{Block}
 use Rattle.rmt_events.specs.TableCalls.{kept_part}
@@ -43,6 +48,23 @@ gains_at r e t = record t { log = e ∷ t.log; known = learned t.known r (length
 -- the table, every place of its log known at a replica
 abbrev pub synced : ℕ → TableState → TableState
 synced r t = record t { known = learned_to t.known r (length t.log) }
+
+-- one of the names covers this one, where there is one
+abbrev pub covered_by : List Name → Option Name → Bool
+covered_by names None = false
+covered_by names (Some a) = list_any (λ b. covers b a) names
+
+-- one of the names covers what the entry at a place of the log makes
+abbrev pub is_shown : List Entry → List Name → ℕ → Bool
+is_shown log names i = covered_by names (option_and_then result_name (entry_at log i))
+
+-- with every place known at a replica whose result one of the names covers
+abbrev pub learned_shown : List Entry → List Name → (ℕ → ℕ → Bool) → ℕ → ℕ → ℕ → Bool
+learned_shown log names known r s j = (nat_eq s r && is_shown log names j) || known s j
+
+-- the table, where a replica has shown parts of these names: what they hold is known there from then on
+abbrev pub shown_at : ℕ → List Name → TableState → TableState
+shown_at r names t = record t { known = learned_shown t.log names t.known r }
 
 -- the part that a block's id is kept with, among those of the last accepted blocks
 abbrev pub kept_with : TableState → Block → Option Name

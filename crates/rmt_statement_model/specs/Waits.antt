@@ -16,11 +16,15 @@ use Rattle.rmt_limits.specs.EntryLimits.{worker_limit}
 use Rattle.rmt_reply.specs.declared.refusal.Refusal.{Refusal}
 use Rattle.rmt_reply.specs.declared.refusal.Refusal.TheVariants.{LimitReached}
 use Rattle.rmt_statement_model.specs.TableStates.{TableState, synced}
+use Rattle.rmt_statement_model.specs.BackgroundWork.{HadRoom}
 
--- no mutation with an id up to this one has a number above the data version of a live name
+-- no mutation with an id up to this one has a number above the data version of the name
+abbrev pub IsCarried : List Entry → ℕ → Name → Type 0
+IsCarried log id a = (k n : ℕ) (numbers : List (Option ℕ × ℕ)) (command : CheckedMutation) → Has log (Mutation k numbers command) → k ≤ id → Has numbers (a.partition, n) → n ≤ data_version a
+
+-- nor of any live name
 abbrev pub NonePending : List Entry → ℕ → Type 0
-NonePending log id =
-    (k n : ℕ) (numbers : List (Option ℕ × ℕ)) (command : CheckedMutation) (a : Name) → Has log (Mutation k numbers command) → k ≤ id → Has (live log) a → Has numbers (a.partition, n) → n ≤ data_version a
+NonePending log id = (a : Name) → Has (live log) a → IsCarried log id a
 
 -- a mutation with an id up to this one has a number above the data version of a live name
 pub record SomePending (log : List Entry) (id : ℕ) : Type 0 where
@@ -35,22 +39,25 @@ pub record SomePending (log : List Entry) (id : ℕ) : Type 0 where
   pub numbered : Has numbers (name.partition, number)
   pub above : data_version name < number
 
--- the entry mutates a part, up to the mutation at a place that isn't past this one
-abbrev pub MutatesUpTo : ℕ → Entry → Type 0
-MutatesUpTo place (Mutate old name upto count mcount) = upto ≤ place
-MutatesUpTo place (Merge name sources count) = ⊥
-MutatesUpTo place (Get p n digest source need) = ⊥
-MutatesUpTo place (Mutation id numbers command) = ⊥
-MutatesUpTo place (DropRange p n) = ⊥
+-- the entry mutates a part up to a mutation that isn't past this place, and so that none up to the id is pending any more: each
+-- part has one such entry at most
+abbrev pub MutatesUpTo : List Entry → ℕ → ℕ → Entry → Type 0
+MutatesUpTo log place id (Mutate old name upto count mcount) = (upto ≤ place) × IsCarried log id name
+MutatesUpTo log place id (Merge name sources count) = ⊥
+MutatesUpTo log place id (Get p n digest source need) = ⊥
+MutatesUpTo log place id (Mutation k numbers command) = ⊥
+MutatesUpTo log place id (DropRange p n) = ⊥
 
--- parts are mutated up to the mutation of an id, the replica brought up to date before and after
+-- parts are mutated up to the mutation of an id, within the limit of worker entries, and the replica brought up to date before and
+-- after
 pub record MutatesParts (t : TableState) (r id : ℕ) (u : TableState) : Type 0 where
   pub numbers : List (Option ℕ × ℕ)
   pub command : CheckedMutation
   pub place : ℕ
   pub at : entry_at t.log place ≡ Some (Mutation id numbers command)
   pub gained : List Entry
-  pub mutates : Each (MutatesUpTo place) gained
+  pub mutates : Each (MutatesUpTo t.log place id) gained
+  pub room : HadRoom gained t.log
   pub lawful : Lawful t.schema (gained ++ t.log)
   pub change : u ≡ synced r (record t { log = gained ++ t.log })
 

@@ -12,4 +12,4 @@ digests_of-requires c =
     (subst (λ (ps : List NamedData). All (λ part. HasPartBytes c.args.cluster.now.table.schema part.rows) ps) (sym c.parts.ensures.all) c.in_ok-snapshot.ensures.bytes)
 
 pub returns : goal.returns
-returns c = digests-told c.args.cluster.now c.args.replica c.in_ok-snapshot.snapshot c.parts.result.now c.schema_of.result.now c.digests_of.result (λ all. all.items) c.parts.ensures.all c.schema_of.ensures c.in_ok-snapshot.ensures.reading c.digests_of.ensures
+returns c = digests-told c.args.cluster.now c.args.replica c.in_ok-snapshot.snapshot c.parts.result.now c.schema_of.result.now c.digests_of.result (λ all. all.items) c.parts.ensures.all c.schema_of.ensures c.in_ok-snapshot.ensures.reading c.in_ok-snapshot.ensures.known c.digests_of.ensures

@@ -8,6 +8,7 @@ pub returns : goal.returns
 returns c = record {
   parts = c.in_ok-snapshot.snapshot;
   reading = c.in_ok-snapshot.ensures.reading;
+  known = c.in_ok-snapshot.ensures.known;
   named = c.in_ok-parts.ensures ∙ ap names_in c.parts.ensures.all;
   answered = c.new.ensures ∙ (c.in_ok-tuples.ensures.none_pending refl ∙ ap (λ (s : Shape). answer_of s c.args.query.now (all_rows (data_in c.in_ok-snapshot.snapshot))) c.schema_of.ensures);
 }
