@@ -52,12 +52,16 @@ pub record AreTokensBelow (copy : History) (i : ℕ) (wanted : List Entry) (toke
   pub entries : entries tokens ≡ wanted
   pub places : Each (IsTokenBelow copy i) tokens
 
--- ---- what only private functions cite
-
 -- the number in a partition among pairs
 abbrev pub number_among : List (Option ℕ × ℕ) → Option ℕ → Option ℕ
 number_among [] p = None
 number_among (x ∷ xs) p = cond (nat_eq (rank x.0) (rank p)) (Some x.1) (number_among xs p)
+
+-- pairs in order of their partitions
+abbrev pub AreInOrder : List (Option ℕ × ℕ) → Type 0
+AreInOrder pairs = Pairwise (λ x y. rank x.0 < rank y.0) pairs
+
+-- ---- what only private functions cite
 
 -- the number that a mutation takes in a partition; none for every other entry
 abbrev pub number_in : Entry → Option ℕ → Option ℕ
@@ -66,10 +70,6 @@ number_in (Get q n digest source need) p = None
 number_in (Merge new sources count) p = None
 number_in (Mutate old new upto count mcount) p = None
 number_in (DropRange q n) p = None
-
--- pairs in order of their partitions
-abbrev pub AreInOrder : List (Option ℕ × ℕ) → Type 0
-AreInOrder pairs = Pairwise (λ x y. rank x.0 < rank y.0) pairs
 
 -- the pairs of a mutation are in order of their partitions
 abbrev pub HasOrder : Entry → Type 0

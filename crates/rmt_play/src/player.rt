@@ -287,7 +287,8 @@ impl Player {
         Ok(Line::Okay)
     }
 
-    /// Does an act in the table at a place, or refuses it. At an error no memory was left, and the tables are gone.
+    /// Does an act in the table at a place, or refuses it. At an error no memory was left; at a replica that is up the tables
+    /// are gone then.
     fn act(
         &mut self,
         alloc: Global,

@@ -15,13 +15,13 @@ pub enum Refusal {
     UnknownReplica(Name),
     /// A named column isn't in the table.
     UnknownColumn(Name),
-    /// A literal, divisor, setting or partition isn't of the type or range there, or a sum of a
-    /// String, or a plain column that isn't grouped.
+    /// A literal, divisor, setting, partition, seed or right side isn't of the type or range there, or the column of PARTITION
+    /// BY isn't of UInt64, or a sum of a String, or a plain column that isn't grouped.
     WrongType(Name),
     /// This row, counted from 1, is the first with a wrong number of fields or a field that isn't a
     /// value of its column.
     BadRow(u64),
-    /// UPDATE of a column of the sorting key.
+    /// UPDATE of a column of the sorting key, or of that of PARTITION BY.
     KeyColumn(Name),
     /// The replica was killed and not restarted.
     ReplicaDown(ReplicaId),

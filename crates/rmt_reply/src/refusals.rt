@@ -132,7 +132,7 @@ fn push_limit_reached(
     Ok(())
 }
 
-/// Adds a part that has no source, and the replica that has none.
+/// Adds a part that can't be had, and the replica that took its block and is down.
 fn push_no_source(
     alloc: Global,
     out: &mut Vec<u8>,

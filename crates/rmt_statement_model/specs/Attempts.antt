@@ -13,7 +13,7 @@ use Rattle.rmt_events.specs.declared.reply.Reply.{Reply}
 use Rattle.rmt_events.specs.declared.reply.Reply.TheVariants as rp
 use Rattle.rmt_events.specs.declared.step_refused.StepRefused.TheVariants as rf
 
--- an Allocate where every replica is up is answered a number, a duplicate or a limit
+-- an Allocate at a replica that is up is answered a number, a duplicate or a limit
 abbrev pub IsAllocateReply : Reply → Type 0
 IsAllocateReply (rp.Attempt id n) = Unit {0}
 IsAllocateReply (rp.Refused (rf.Duplicate a)) = Unit {0}

@@ -10,11 +10,12 @@ use std::alloc::AllocError;
 pub enum SchemaError {
     /// There are no columns.
     NoColumns,
-    /// A name in the key that no column has.
+    /// A name in the rule of partitions or in the key that no column has.
     UnknownColumn(Name),
     /// A name that two columns have, or that the key has twice.
     DoubleColumn(Name),
-    /// A setting whose number is out of its range.
+    /// The column of the rule of partitions, where it isn't of UInt64 or the divisor is 0; or a setting whose number is out of
+    /// its range.
     WrongType(Name),
     /// There would be more than a limit allows, `value` being the limit's number.
     LimitReached { limit: Limit, value: u64 },
