@@ -1,0 +1,19 @@
+-- Of 12 parts background work merges ten, the two others, and then both.
+CREATE TABLE t (c UInt64) ENGINE = ReplicatedMergeTree ORDER BY c;
+INSERT INTO t VALUES (1);
+@r2 INSERT INTO t VALUES (2);
+INSERT INTO t VALUES (3);
+@r2 INSERT INTO t VALUES (4);
+INSERT INTO t VALUES (5);
+@r2 INSERT INTO t VALUES (6);
+INSERT INTO t VALUES (7);
+@r2 INSERT INTO t VALUES (8);
+INSERT INTO t VALUES (9);
+@r2 INSERT INTO t VALUES (10);
+INSERT INTO t VALUES (11);
+@r2 INSERT INTO t VALUES (12);
+RUN t 200 SEED 1;
+SHOW PARTS FROM t;
+@r2 SHOW PARTS FROM t;
+SELECT count(), sum(c) FROM t;
+@r2 INSERT INTO t VALUES (12);

@@ -1,0 +1,11 @@
+-- Two replicas that merge by themselves come to one digest.
+CREATE TABLE t (c UInt64) ENGINE = ReplicatedMergeTree ORDER BY c;
+INSERT INTO t VALUES (1);
+INSERT INTO t VALUES (2);
+INSERT INTO t VALUES (3);
+OPTIMIZE TABLE t FINAL;
+SHOW PARTS FROM t;
+@r2 SYSTEM SYNC REPLICA t;
+@r2 SHOW PARTS FROM t;
+CHECK TABLE t;
+@r2 CHECK TABLE t;

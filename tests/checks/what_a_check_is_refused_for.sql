@@ -1,0 +1,12 @@
+CREATE TABLE t (c UInt64) ENGINE = ReplicatedMergeTree ORDER BY c;
+CHECK TABLE u;
+@r3 CHECK TABLE u;
+@r3 CHECK TABLE t;
+INSERT INTO t VALUES (1);
+KILL r1;
+CHECK TABLE t;
+RESTART r1;
+CHECK TABLE t;
+CHECK t;
+CHECK TABLE t FINAL;
+-- What comes before it, and after a restart the same digest.

@@ -1,0 +1,21 @@
+-- A drop at the second replica takes a merged part away, which the first one still reads, and no later block.
+CREATE TABLE t (k UInt64, c UInt64) ENGINE = ReplicatedMergeTree ORDER BY k;
+INSERT INTO t VALUES (1,1);
+INSERT INTO t VALUES (2,2);
+OPTIMIZE TABLE t FINAL;
+ALTER TABLE t UPDATE c = 7 WHERE k = 2;
+@r2 ALTER TABLE t DROP PARTITION ID 'all';
+SHOW PARTS FROM t;
+@r2 SHOW PARTS FROM t;
+@r2 INSERT INTO t VALUES (2,2);
+SELECT * FROM t;
+WAIT MUTATION t 0;
+SHOW PARTS FROM t;
+SELECT * FROM t SYNC;
+ALTER TABLE t DROP PARTITION tuple();
+ALTER TABLE t DROP PARTITION tuple();
+OPTIMIZE TABLE t FINAL;
+WAIT MUTATION t 0;
+@r2 SELECT * FROM t;
+@r2 SELECT * FROM t SYNC;
+@r2 SHOW PARTS FROM t;

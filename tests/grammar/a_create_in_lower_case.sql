@@ -1,0 +1,1 @@
+create table t (k UInt64, v Int64, s String) engine = ReplicatedMergeTree('/p', 'r') partition by intDiv(k, 10) order by (k, v)

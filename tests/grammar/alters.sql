@@ -1,0 +1,1 @@
+ALTER TABLE t UPDATE a = b + 1, b = 'x', c = a WHERE a != 0; ALTER TABLE t DELETE WHERE a < 1; ALTER TABLE t DROP PARTITION ID 'all'

@@ -1,0 +1,1 @@
+INSERT INTO t (a, b) SETTINGS insert_quorum = 2 VALUES (-1, 'it''s')(2, 'a\n'), (3, '')

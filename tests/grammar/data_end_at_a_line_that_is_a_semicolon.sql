@@ -1,0 +1,6 @@
+INSERT INTO t FORMAT CSV 
+1,";
+2
+; 
+;
+SELECT * FROM t

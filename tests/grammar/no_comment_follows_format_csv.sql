@@ -1,0 +1,3 @@
+INSERT INTO t FORMAT CSV -- c
+1
+;

@@ -1,0 +1,3 @@
+INSERT INTO t FORMAT CSV x
+1
+;

@@ -1,0 +1,22 @@
+-- Blocks, a mutation, a merge, mutations of parts and a drop, with the parts after each; then all of them at the other replica.
+CREATE TABLE t (k UInt64, x UInt64) ENGINE = ReplicatedMergeTree PARTITION BY k ORDER BY tuple();
+INSERT INTO t VALUES (1, 1);
+SHOW PARTS FROM t;
+INSERT INTO t VALUES (2, 1);
+SHOW PARTS FROM t;
+INSERT INTO t VALUES (1, 8);
+SHOW PARTS FROM t;
+ALTER TABLE t DELETE WHERE x > 7;
+SHOW PARTS FROM t;
+OPTIMIZE TABLE t PARTITION 1 FINAL;
+SHOW PARTS FROM t;
+WAIT MUTATION t 0;
+SHOW PARTS FROM t;
+ALTER TABLE t DROP PARTITION 2;
+SHOW PARTS FROM t;
+INSERT INTO t VALUES (1, 9);
+SHOW PARTS FROM t;
+@r2 SHOW PARTS FROM t;
+@r2 SYSTEM SYNC REPLICA t;
+@r2 SHOW PARTS FROM t;
+@r2 SELECT * FROM t;

@@ -1,0 +1,242 @@
+"""Scripts that are too long to lie beside the others: each is made here, with what it has to write. Nothing of this
+comes from the program: the replies follow the description in docs/scripts.md, and rows are sorted and changed here."""
+import hashlib
+import itertools
+import os
+from collections import namedtuple
+from contextlib import contextmanager
+
+# a call of the program: a name that says what it shows, the script, what is written, the exit code, and the words
+Case = namedtuple("Case", "name script output code words", defaults=(("play",),))
+
+LONGEST = 67_108_864
+
+
+def case(name, script, output):
+    """A script and its replies, both as pieces of text. Its code is 2 where one of them is a refusal."""
+    script, output = "".join(script), "".join(output)
+    code = 2 if any(line.startswith("refused ") for line in output.split("\n")) else 0
+    return Case(name, script.encode(), output.encode(), code)
+
+
+def table(rule="", columns="c UInt64", settings=""):
+    return f"CREATE TABLE t ({columns}) ENGINE = ReplicatedMergeTree {rule} ORDER BY {columns.split()[0]} {settings};\n"
+
+
+# ---- calls
+
+
+def calls():
+    """Words without a form, and the longest script."""
+    first = b"CREATE TABLE t (c UInt64) ENGINE = ReplicatedMergeTree ORDER BY c"
+    for words in [
+        [],
+        ["fly"],
+        ["play", "--workers", "9"],
+        ["storm", "1"],
+        ["play", "play"],
+        ["--help"],
+        ["play", "--"],
+        ["play", ""],
+        ["Play"],
+        ["help"],
+        [""],
+    ]:
+        yield Case(f"the words {words} have no form", first, b"", 3, words)
+    yield Case("the longest script is played", b" " * LONGEST, b"", 0)
+    yield Case("a script of one byte more is not", b" " * (LONGEST + 1), b"", 7)
+
+
+@contextmanager
+def folder_as_file():
+    """A folder as a source: each read of it fails."""
+    folder = os.open("/", os.O_RDONLY)
+    try:
+        yield folder
+    finally:
+        os.close(folder)
+
+
+# ---- the grammar's limits
+
+
+def grammar():
+    """How many comparisons, open NOTs and parentheses, letters, digits and lanes there may be."""
+    unknown_table, filtered = "refused 2 UnknownTable t\n", "SELECT a FROM t WHERE "
+    for name, prefix, piece, count, back, output in [
+        ("256 comparisons", filtered, "a=1 AND ", 255, "a=1", unknown_table),
+        ("257 comparisons of AND", filtered, "a=1 AND ", 256, "a=1", fault(22 + 8 * 256)),
+        ("257 comparisons of OR", filtered, "a=1 OR ", 256, "NOT (a=1)", fault(22 + 7 * 256 + 5)),
+        ("64 open NOTs", filtered, "NOT ", 64, "a=1", unknown_table),
+        ("65 open NOTs", filtered, "NOT ", 65, "a=1", fault(22 + 4 * 64)),
+        ("65 open parentheses", filtered, "(", 65, "a=1", fault(22 + 64)),
+        ("a word of 255 letters", "KILL ", "a", 255, "", f"refused 4 UnknownReplica {'a' * 255}\n"),
+        ("a word of 256 letters", "KILL ", "a", 256, "", fault(5)),
+        ("a number of 39 digits", "WAIT MUTATION t ", "0", 39, "", unknown_table),
+        ("a number of 40 digits", "WAIT MUTATION t ", "0", 40, "", fault(16)),
+        ("a number past 2^128", "WAIT MUTATION t 3", "4", 38, "", fault(16)),
+        # Lanes are read, and not played: 0 is the place of LANES. Past the ninth LANE reading goes on with END.
+        ("eight lanes", "LANES;", "LANE;", 8, "END", fault(0)),
+        ("nine lanes", "LANES;", "LANE;", 9, "END", fault(46) + fault(51)),
+    ]:
+        yield case(name, [prefix, piece * count, back], [output])
+
+
+def fault(offset):
+    return f"refused 1 Syntax {offset}\n"
+
+
+# ---- the limits of a table
+
+
+def limits():
+    yield mutations()
+    yield partitions()
+    yield client_entries()
+    yield worker_entries()
+    yield values_and_numbers()
+
+
+def mutations():
+    """All 1,024 mutations are applied as rows are read, and then to the part. Past them blocks are still inserted."""
+    script = [table(columns="k UInt64, c UInt64"), "INSERT INTO t VALUES (1,1);\n"]
+    script += ["ALTER TABLE t UPDATE c = c + 1 WHERE k = 1;\n"] * 1025
+    script += ["SELECT c FROM t SYNC; WAIT MUTATION t 1023; SHOW PARTS FROM t; WAIT MUTATION t 1024;\n"]
+    script += ["INSERT INTO t VALUES (2,1); @r2 SELECT c FROM t SYNC; @r2 SHOW PARTS FROM t;\n"]
+    output = ["ok\npart all_0_0_0\n", *(f"mutation {id:010}\n" for id in range(1024))]
+    output += ["refused 18 LimitReached mutations 1024\nrows 1\n1025\n"]
+    output += ["done 0000001023\nparts all_0_0_0_1024\nrefused 17 UnknownMutation 1024\n"]
+    output += ["part all_1025_1025_0\nrows 2\n1\n1025\nparts all_0_0_0_1024 all_1025_1025_0\n"]
+    return case("1,024 mutations", script, output)
+
+
+def partitions():
+    """The blocks before the refused one stay. A mutation takes a number in each partition, and a drop makes no room."""
+    script = [table("PARTITION BY k", "k UInt64"), "INSERT INTO t VALUES ", *(f"({k})" for k in range(1025)), ";\n"]
+    script += ["ALTER TABLE t DELETE WHERE k < 3; ALTER TABLE t DROP PARTITION 1024; ALTER TABLE t DROP PARTITION 1023;\n"]
+    script += ["INSERT INTO t VALUES (1024); INSERT INTO t VALUES (1023),(5); SELECT count() FROM t SYNC;\n"]
+    output = ["ok\n", *(f"part {k}_0_0_0\n" for k in range(1024)), "refused 18 LimitReached partitions 1024\n"]
+    output += ["mutation 0000000000\ndropped 1024 below 0\ndropped 1023 below 2\n"]
+    output += ["refused 18 LimitReached partitions 1024\npart 5_2_2_0\npart 1023_3_3_0\nrows 1\n1022\n"]
+    return case("1,024 partitions", script, output)
+
+
+def client_entries():
+    """Where there is no room for an entry of a client, a known block is still a duplicate; a new one, a mutation and a
+    drop are refused. Merges go on."""
+    script = [table(settings="SETTINGS replicated_deduplication_window = 1")]
+    script += (f"INSERT INTO t VALUES ({i % 2});\n" for i in range(32768))
+    script += ["INSERT INTO t VALUES (1); @r2 INSERT INTO t VALUES (2); ALTER TABLE t DELETE WHERE c = 1;\n"]
+    script += ["ALTER TABLE t DROP PARTITION tuple(); OPTIMIZE TABLE t FINAL; SELECT count(), sum(c) FROM t SYNC;\n"]
+    refused = "refused 18 LimitReached client_entries 32768\n"
+    output = ["ok\n", *(f"part all_{i}_{i}_0\n" for i in range(32768)), "duplicate all_32767_32767_0\n", refused * 3]
+    output += ["optimized all_0_32767_1\nrows 1\n32768,16384\n"]
+    return case("32,768 entries of clients", script, output)
+
+
+def worker_entries():
+    """33 parts are brought up to one mutation after the other. In the middle of the 993rd there is no room for an entry
+    of a worker: a WAIT and an OPTIMIZE are refused, and blocks are still inserted."""
+    waits, parts = 32768 // 33, 33
+    script = [table(columns="k UInt64, c UInt64", settings="SETTINGS replicated_deduplication_window = 0")]
+    script += (f"INSERT INTO t VALUES ({i},0);\n" for i in range(parts))
+    script += ["ALTER TABLE t UPDATE c = c + 1 WHERE k < 100;\n"] * 1024
+    script += (f"WAIT MUTATION t {id};\n" for id in range(waits + 1))
+    script += ["SHOW PARTS FROM t; WAIT MUTATION t 0; WAIT MUTATION t 1023; INSERT INTO t VALUES (100,0);\n"]
+    script += ["SELECT count(), sum(c) FROM t; SELECT count(), sum(c) FROM t SYNC;\n"]
+    refused = "refused 18 LimitReached worker_entries 32768\n"
+    # The mutation of an id took the number 33 + id. Of the last WAIT there was room for all parts but one.
+    names = [f"all_{i}_{i}_0_{parts + waits - (i == parts - 1)}" for i in range(parts)]
+    output = ["ok\n", *(f"part all_{i}_{i}_0\n" for i in range(parts))]
+    output += (f"mutation {id:010}\n" for id in range(1024))
+    output += (f"done {id:010}\n" for id in range(waits))
+    output += [refused, "parts ", " ".join(names), "\ndone 0000000000\n", refused, "part all_1057_1057_0\n"]
+    output += ["parts ", " ".join(names), " all_1057_1057_0\nrows 1\n", f"34,{parts * (waits + 1) - 1}\n"]
+    output += ["rows 1\n", f"34,{parts * 1024}\n"]
+    return case("32,768 entries of workers", script, output)
+
+
+def values_and_numbers():
+    """A block whose values would pass the limit is refused and uses its number up; one that reaches it is accepted. By
+    refused blocks the numbers of a partition are used up: then nothing gets one there, and other partitions give
+    theirs."""
+    rows, numbers, last = 8_388_607, 65_536, 8_388_608
+    script = [table("PARTITION BY intDiv(c, 10000000)"), "INSERT INTO t FORMAT CSV\n"]
+    script += (f"{row % 10}\n" for row in range(rows))
+    script += [";\nINSERT INTO t VALUES (1),(2); INSERT INTO t VALUES (3);\n"]
+    script += ["INSERT INTO t VALUES (4);\n"] * (numbers - 3)
+    script += ["INSERT INTO t VALUES (4); INSERT INTO t VALUES (3); ALTER TABLE t DELETE WHERE c = 4;\n"]
+    script += ["ALTER TABLE t DROP PARTITION 0; INSERT INTO t VALUES (10000000); ALTER TABLE t DROP PARTITION 1;\n"]
+    script += ["SELECT count() FROM t SYNC; SHOW PARTS FROM t;\n"]
+    no_number = f"refused 18 LimitReached numbers {numbers}\n"
+    output = [f"ok\npart 0_0_0_0\nrefused 18 LimitReached values {rows}\npart 0_2_2_0\n"]
+    output += [f"refused 18 LimitReached values {last}\n"] * (numbers - 3)
+    output += [no_number, "duplicate 0_2_2_0\n", no_number, no_number]
+    output += [f"refused 18 LimitReached values {last}\ndropped 1 below 1\n", f"rows 1\n{last}\nparts 0_0_0_0 0_2_2_0\n"]
+    return case("8,388,608 values and 65,536 numbers", script, output)
+
+
+# ---- rows that look random
+
+
+def merges():
+    """Three blocks of 3,501 rows are merged, and put through an UPDATE and a DELETE. What the part should have then is
+    worked out by a stable sort and a walk over all rows; its digest shows the order of rows with equal keys."""
+    rows = [*random_rows(1, 2000), *random_rows(2, 1500), *random_rows(3, 1)]
+    blocks = [rows[:2000], rows[2000:3500], rows[3500:]]
+    script = [table(columns="k UInt64, u UInt64, v UInt64", settings="SETTINGS index_granularity = 8")]
+    for block in blocks:
+        script += ["INSERT INTO t FORMAT CSV\n", *records(block), ";\n"]
+    script += ["OPTIMIZE TABLE t FINAL; SELECT * FROM t; CHECK TABLE t;\n"]
+    script += ["ALTER TABLE t UPDATE u = v + 3, v = u WHERE k < 50; ALTER TABLE t DELETE WHERE u > 900;\n"]
+    script += ["SELECT * FROM t SYNC; WAIT MUTATION t 1; SELECT * FROM t; CHECK TABLE t;\n"]
+    script += ["@r2 SYSTEM SYNC REPLICA t; @r2 SELECT * FROM t; @r2 CHECK TABLE t;\n"]
+    in_order = sorted(rows, key=lambda row: row[0])
+    updated = [(k, v + 3, u) if k < 50 else (k, u, v) for k, u, v in in_order]
+    left = [row for row in updated if row[1] <= 900]
+    merged, mutated = "all_0_2_1", "all_0_2_1_4"
+    shown = [f"parts {mutated}\n", *answer(left), f"check {mutated} {digest(left)}\n"]
+    output = ["ok\npart all_0_0_0\npart all_1_1_0\npart all_2_2_0\n", f"optimized {merged}\nparts {merged}\n", *answer(rows)]
+    output += [f"check {merged} {digest(in_order)}\n", "mutation 0000000000\nmutation 0000000001\n"]
+    output += [*answer(left), "done 0000000001\n", *shown, "ok\n", *shown]
+    yield case("3,501 rows that look random", script, output)
+
+
+def random_rows(seed, count):
+    """Numbers by xorshift with 13, 7 and 17, three a row; keys below 100, so that many are equal."""
+
+    def numbers(x):
+        while True:
+            x ^= x << 13 & 2**64 - 1
+            x ^= x >> 7
+            x ^= x << 17 & 2**64 - 1
+            yield x
+
+    drawn = numbers(seed)
+    return [(next(drawn) % 100, next(drawn) % 1000, next(drawn) % 1000) for _ in range(count)]
+
+
+def records(rows):
+    return (f"{k},{u},{v}\n" for k, u, v in rows)
+
+
+def answer(rows):
+    """The reply to a SELECT of all columns: the records in ascending order."""
+    return [f"rows {len(rows)}\n", *records(sorted(rows))]
+
+
+def digest(rows):
+    """The SHA-256 of the bytes of a part of rows in the order of their keys, as crates/rmt_format/README.md has them."""
+
+    def numbers(length, *all):
+        return b"".join(number.to_bytes(length, "big") for number in all)
+
+    granules = [rows[at : at + 8] for at in range(0, len(rows), 8)]
+    columns = b"".join(b"\1" + numbers(2, 1) + name for name in (b"k", b"u", b"v"))
+    head = b"RMTPART1" + numbers(2, 3) + columns + numbers(2, 1, 0) + numbers(4, 8, len(rows), len(granules))
+    values = b"".join(numbers(8, *itertools.chain(*zip(*granule))) for granule in granules)
+    body = head + values + numbers(8, *(granule[0][0] for granule in granules))
+    return hashlib.sha256(body + hashlib.sha256(body).digest()).hexdigest()
+
+
+SUBJECTS = {"calls": calls, "grammar": grammar, "limits": limits, "merges": merges}

@@ -1,0 +1,11 @@
+-- The block 0 is older than the mutation, and the blocks 2 and 3 are not.
+CREATE TABLE t (a UInt64, c UInt64) ENGINE = ReplicatedMergeTree ORDER BY a;
+INSERT INTO t VALUES (1, 0);
+ALTER TABLE t DELETE WHERE c = 9;
+INSERT INTO t VALUES (2, 0);
+INSERT INTO t VALUES (3, 0);
+OPTIMIZE TABLE t FINAL;
+WAIT MUTATION t 0;
+OPTIMIZE TABLE t FINAL;
+@r2 SYSTEM SYNC REPLICA t;
+@r2 SHOW PARTS FROM t;

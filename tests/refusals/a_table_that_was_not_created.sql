@@ -1,0 +1,2 @@
+-- There is no table yet.
+SELECT count(), sum(c) FROM t SYNC;

@@ -1,0 +1,19 @@
+-- Rows of VALUES, or the first bad one. Columns that are left out get 0 or the empty String; -0 is of Int64 alone.
+CREATE TABLE t (a UInt64, b Int64, c String) ENGINE = ReplicatedMergeTree ORDER BY tuple();
+INSERT INTO t VALUES (1, -2, 'x'), (007, 3, '');
+SELECT * FROM t SYNC;
+ALTER TABLE t DROP PARTITION tuple();
+INSERT INTO t (c, a) VALUES ('x', 5);
+SELECT * FROM t SYNC;
+ALTER TABLE t DROP PARTITION tuple();
+INSERT INTO t (a, x, y) VALUES (1);
+INSERT INTO t (a, b, b, a) VALUES (1);
+INSERT INTO t (a) VALUES (1), (1, 2);
+INSERT INTO t (a) VALUES (18446744073709551615), (18446744073709551616);
+INSERT INTO t (b) VALUES (-9223372036854775808), (-9223372036854775809);
+INSERT INTO t (a) VALUES (-0);
+INSERT INTO t (b) VALUES (-0);
+SELECT * FROM t SYNC;
+ALTER TABLE t DROP PARTITION tuple();
+INSERT INTO t (a) VALUES ('1');
+INSERT INTO t (c) VALUES (1);
