@@ -1,7 +1,7 @@
 use rmt_statements::Statement;
 
 /// What comes next in a script. Places are counted in bytes from the script's start.
-#[derive(Debug, Drop)]
+#[derive(Drop)]
 pub enum Parsed {
     /// A statement, the place of its first token, and the place after it, where reading goes on.
     Statement {

@@ -1,4 +1,5 @@
 pub mod SelectLaws
+pub mod SelectReads
 pub mod InsertLaws
 pub mod IntoReads
 pub mod ActLaws

@@ -1,10 +1,12 @@
 //! SELECT and EXPLAIN.
-ghost use Rattle.std.specs.Prelude.{◌≡◌, [], ◌∷◌, IfOk, codes, map};
+ghost use Rattle.std.specs.Prelude.{◌≡◌, ℕ, List, [], ◌∷◌, IfOk, codes, map};
+ghost use Rattle.rmt_values.specs.declared.query.Query.{Query as QueryOf};
+ghost use Rattle.rmt_statements.specs.declared.act.Act.TheVariants.{Select};
 ghost use Rattle.std.specs.Option.{option_map};
 ghost use Rattle.rmt_sql_tokens.specs.Classes.{Exactly};
 ghost use Rattle.rmt_sql_tokens.specs.Lexing.{tokens};
 ghost use Rattle.rmt_sql_tokens.specs.Exact.{ReadsAs, maybe, either, item};
-ghost use Rattle.rmt_sql_acts.specs.Views.{called_item};
+ghost use Rattle.rmt_sql_acts.specs.Views.{called_item, select_end as select_end_rule, selection as selection_rule};
 ghost use Rattle.rmt_sql_filters.specs.Phrases.{some_if};
 ghost use Rattle.rmt_values.specs.declared.item.Item.TheVariants.{Count};
 ghost use Rattle.rmt_sql_filters.specs.Phrases.{Call, word as word_class, more_listed, where_filter as where_rule};
@@ -230,49 +232,62 @@ fn synchronous(at: Cursor<'_>) -> Result<(Mode, Cursor<'_>), ReadError>
 
 /// [ SYNC | SETTINGS .. ] ;
 #[tactic(auto, unfolding(crate::specs::Acts::mode_and_end))]
-fn mode_and_end(
-    table: Name,
-    query: Query,
-    at: Cursor<'_>,
-) -> Result<(Act, usize, Cursor<'_>), ReadError>
-    ensures { ReadsAs (λ x. ((x.0, x.1), tokens x.2)) result ((mode_rule table query).read (tokens at.entry)) }
+fn mode_and_end(at: Cursor<'_>) -> Result<(Mode, usize, Cursor<'_>), ReadError>
+    ensures { (table : List ℕ) (query : QueryOf) → ReadsAs (λ x. ((Select table query x.0, x.1), tokens x.2)) result ((mode_rule table query).read (tokens at.entry)) }
 {
     if is_keyword_next(at, b"sync") {
         let (mode, at) = synchronous(at)?;
         let (left, at) = end(at)?;
-        return Ok((Act::Select { table, query, mode }, left, at));
+        return Ok((mode, left, at));
     }
     if is_keyword_next(at, b"settings") {
         let (mode, at) = sequential(at)?;
         let (left, at) = end(at)?;
-        return Ok((Act::Select { table, query, mode }, left, at));
+        return Ok((mode, left, at));
     }
     let (left, at) = end(at)?;
-    let mode = Mode::Plain;
-    Ok((Act::Select { table, query, mode }, left, at))
+    Ok((Mode::Plain, left, at))
 }
 
 /// [ SYNC ] ;
 #[tactic(auto, unfolding(crate::specs::Acts::sync_and_end))]
-fn sync_and_end(
-    table: Name,
-    query: Query,
-    at: Cursor<'_>,
-) -> Result<(Act, usize, Cursor<'_>), ReadError>
-    ensures { ReadsAs (λ x. ((x.0, x.1), tokens x.2)) result ((sync_rule table query).read (tokens at.entry)) }
+fn sync_and_end(at: Cursor<'_>) -> Result<(Mode, usize, Cursor<'_>), ReadError>
+    ensures { (table : List ℕ) (query : QueryOf) → ReadsAs (λ x. ((Select table query x.0, x.1), tokens x.2)) result ((sync_rule table query).read (tokens at.entry)) }
 {
     if is_keyword_next(at, b"sync") {
         let (mode, at) = synchronous(at)?;
         let (left, at) = end(at)?;
-        return Ok((Act::Select { table, query, mode }, left, at));
+        return Ok((mode, left, at));
     }
     let (left, at) = end(at)?;
-    let mode = Mode::Plain;
-    Ok((Act::Select { table, query, mode }, left, at))
+    Ok((Mode::Plain, left, at))
+}
+
+/// The mode of a SELECT and its end, with SETTINGS where they may come.
+fn select_end(may_set: bool, at: Cursor<'_>) -> Result<(Mode, usize, Cursor<'_>), ReadError>
+    ensures { (table : List ℕ) (query : QueryOf) → ReadsAs (λ x. ((Select table query x.0, x.1), tokens x.2)) result ((select_end_rule may_set table query).read (tokens at.entry)) }
+{
+    if may_set {
+        return mode_and_end(at);
+    }
+    sync_and_end(at)
+}
+
+/// SELECT items FROM table [ WHERE filter ] [ GROUP BY names ]
+#[tactic(auto, unfolding(crate::specs::Views::selection))]
+fn selection(alloc: Global, at: Cursor<'_>) -> Result<(Name, Query, Cursor<'_>), ReadError>
+    ensures { ReadsAs (λ x. ((x.0, x.1), tokens x.2)) result ((selection_rule).read (tokens at.entry)) }
+{
+    let at = keyword(at, b"select")?;
+    let (items, at) = select_list_from(alloc, at)?;
+    let (table, at) = name(alloc, at)?;
+    let (filter, at) = some_filter(alloc, at)?;
+    let (group, at) = some_group(alloc, at)?;
+    Ok((table, query(alloc, items, filter, group), at))
 }
 
 /// A SELECT, with SETTINGS where they may come.
-#[tactic(auto, unfolding(crate::specs::Acts::select))]
+#[tactic(auto, using(crate::proofs::SelectReads::select_read))]
 pub(crate) fn select(
     alloc: Global,
     may_set: bool,
@@ -280,16 +295,9 @@ pub(crate) fn select(
 ) -> Result<(Act, usize, Cursor<'_>), ReadError>
     ensures { ReadsAs (λ x. ((x.0, x.1), tokens x.2)) result ((select_rule may_set).read (tokens at.entry)) }
 {
-    let at = keyword(at, b"select")?;
-    let (items, at) = select_list_from(alloc, at)?;
-    let (table, at) = name(alloc, at)?;
-    let (filter, at) = some_filter(alloc, at)?;
-    let (group, at) = some_group(alloc, at)?;
-    let query = query(alloc, items, filter, group);
-    if may_set {
-        return mode_and_end(table, query, at);
-    }
-    sync_and_end(table, query, at)
+    let (table, query, at) = selection(alloc, at)?;
+    let (mode, left, at) = select_end(may_set, at)?;
+    Ok((Act::Select { table, query, mode }, left, at))
 }
 
 /// [ indexes = 1 ], and whether it is there.
@@ -307,18 +315,13 @@ fn some_indexes(at: Cursor<'_>) -> Result<(bool, Cursor<'_>), ReadError>
 }
 
 /// EXPLAIN [ indexes = 1 ] SELECT .. ;
-#[tactic(auto, unfolding(crate::specs::Acts::explain))]
+#[tactic(auto, using(crate::proofs::SelectReads::explain_read))]
 pub(crate) fn explain(alloc: Global, at: Cursor<'_>) -> Result<(Act, usize, Cursor<'_>), ReadError>
     ensures { ReadsAs (λ x. ((x.0, x.1), tokens x.2)) result ((explain_rule).read (tokens at.entry)) }
 {
     let at = keyword(at, b"explain")?;
     let (_, at) = some_indexes(at)?;
-    let at = keyword(at, b"select")?;
-    let (items, at) = select_list_from(alloc, at)?;
-    let (table, at) = name(alloc, at)?;
-    let (filter, at) = some_filter(alloc, at)?;
-    let (group, at) = some_group(alloc, at)?;
+    let (table, query, at) = selection(alloc, at)?;
     let (left, at) = end(at)?;
-    let query = query(alloc, items, filter, group);
     Ok((Act::Explain { table, query }, left, at))
 }

@@ -4,7 +4,7 @@ use crate::partition_word::PartitionWord;
 use rmt_values::{Mutation, Name, Query};
 
 /// What a statement does at a replica.
-#[derive(Debug, Drop)]
+#[derive(Drop)]
 pub enum Act {
     Insert(Insert),
     Select {

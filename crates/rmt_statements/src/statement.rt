@@ -3,7 +3,7 @@ use rmt_list::List;
 use rmt_values::{Column, Name};
 
 /// A statement of a script.
-#[derive(Debug, Drop)]
+#[derive(Drop)]
 pub enum Statement {
     /// How many replicas there are, 1 to 8.
     Replicas {
