@@ -3,6 +3,7 @@
 
 mod branch;
 mod laws;
+mod leaves;
 mod ranges;
 mod sequence;
 mod znode;

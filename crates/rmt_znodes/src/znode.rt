@@ -2,8 +2,11 @@ ghost use Rattle.std.specs.Prelude.{◌≡◌, IfOk};
 ghost use Rattle.rmt_znodes.specs.Znodes.{znode_path, IsZnode};
 
 use crate::branch::{block_path, mutation_path, partition_path, replica_path, top_path};
+use crate::leaves::{
+    is_active_path, last_part_path, log_entry_path, log_pointer_path, numbered_lock_path,
+    order_of_path, status_path,
+};
 use crate::ranges::{is_id, is_number, is_partition};
-use crate::sequence::{entry_path, lock_path, order_path};
 use rmt_block::BlockId;
 use rmt_names::PartitionId;
 use rmt_tree::Path;
@@ -11,7 +14,7 @@ use rmt_values::ReplicaId;
 use std::alloc::{AllocError, Global};
 
 /// A znode of a table's tree, by what it stands for.
-#[derive(Clone, Copy, Debug)]
+#[derive(Clone, Copy)]
 pub enum Znode {
     /// The log: its entries are below it.
     Log,
@@ -66,28 +69,23 @@ impl Znode {
         self.in_range();
         match *self {
             Znode::Log => top_path(alloc, "/log"),
-            Znode::LogEntry(place) => entry_path(alloc)?.numbered(alloc, place),
+            Znode::LogEntry(place) => log_entry_path(alloc, place),
             Znode::Blocks => top_path(alloc, "/blocks"),
             Znode::Block { partition, digest } => block_path(alloc, partition, digest),
             Znode::Order => top_path(alloc, "/blocks_order"),
-            Znode::OrderOf(number) => order_path(alloc)?.numbered(alloc, number),
+            Znode::OrderOf(number) => order_of_path(alloc, number),
             Znode::Numbers => top_path(alloc, "/block_numbers"),
             Znode::Partition(partition) => partition_path(alloc, partition),
-            Znode::Lock { partition, number } => {
-                lock_path(alloc, partition)?.numbered(alloc, number)
-            }
+            Znode::Lock { partition, number } => numbered_lock_path(alloc, partition, number),
             Znode::Mutations => top_path(alloc, "/mutations"),
             Znode::MutationNode(id) => mutation_path(alloc, id),
             Znode::Quorum => top_path(alloc, "/quorum"),
-            Znode::Status => top_path(alloc, "/quorum")?.child(alloc, b"status"),
-            Znode::LastPart => top_path(alloc, "/quorum")?.child(alloc, b"last_part"),
+            Znode::Status => status_path(alloc),
+            Znode::LastPart => last_part_path(alloc),
             Znode::Replicas => top_path(alloc, "/replicas"),
             Znode::Replica(replica) => replica_path(alloc, replica),
-            Znode::LogPointer(replica) => replica_path(alloc, replica)?.child(
-                alloc,
-                b"log_pointer",
-            ),
-            Znode::IsActive(replica) => replica_path(alloc, replica)?.child(alloc, b"is_active"),
+            Znode::LogPointer(replica) => log_pointer_path(alloc, replica),
+            Znode::IsActive(replica) => is_active_path(alloc, replica),
         }
     }
 

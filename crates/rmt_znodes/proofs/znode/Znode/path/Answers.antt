@@ -1,4 +1,4 @@
-use Rattle.std.proofs.Common.{rules, codes, refl, arith}
+use Rattle.std.proofs.Common.{codes, refl, arith}
 use Rattle.rmt_znodes.specs.declared.znode.Znode.TheVariants.{Log, Blocks, Order, Numbers, Mutations, Quorum, Replicas}
 use Rattle.rmt_znodes.proofs.PathLemmas.{top-znode}
 use Rattle.rmt_znodes.proofs.znode.Znode.path.Goals as goal
@@ -23,9 +23,3 @@ returns-in-Quorum-clause-path c = top-znode c.top_path-in-Quorum.result (codes "
 
 pub returns-in-Replicas-clause-path : goal.returns-in-Replicas-clause-path
 returns-in-Replicas-clause-path c = top-znode c.top_path-in-Replicas.result (codes "replicas") Replicas c.args.self.now c.in-Replicas.is refl (record { some = omega arith; whole = refl }) c.top_path-in-Replicas.ensures
-
-pub returns-in_ok-top_path-in-Status-clause-path : goal.returns-in_ok-top_path-in-Status-clause-path
-returns-in_ok-top_path-in-Status-clause-path c = let a = c.in_ok-top_path-in-Status.ensures (codes "quorum") (record { some = omega arith; whole = refl }) refl in search rules
-
-pub returns-in_ok-top_path-in-LastPart-clause-path : goal.returns-in_ok-top_path-in-LastPart-clause-path
-returns-in_ok-top_path-in-LastPart-clause-path c = let a = c.in_ok-top_path-in-LastPart.ensures (codes "quorum") (record { some = omega arith; whole = refl }) refl in search rules
