@@ -27,17 +27,16 @@ unfolding Reached
 read_first text reader rest config source state ready trims flexible = record { rest = strip_bom text; config = config; source = source; reached = (sym state, refl); ready = ready; trims = trims; flexible = flexible }
 
 pub read_more : (text : List ℕ) (rows : List (List (List ℕ))) (a b : Reader (Bor (List ℕ))) (found : Bool) (x : Row) → HasRead text rows a → found ≡ true
-    → (reader_trim a ≡ trim.None → Ready a → ReadRecord bytes_left a b found (fields_of x)) → (reader_trim a ≡ trim.None → took_first b ≡ true) → is_flexible b ≡ is_flexible a
-    → HasRead text (rows ++ fields_of x ∷ []) b
-read_more text rows a b found x h there reads first same =
-    let step = subst (λ (t : Bool). ReadRecord bytes_left a b t (fields_of x)) there (reads h.trims h.ready) in
+    → ReadRecord bytes_left a b found (fields_of x) → took_first b ≡ true → is_flexible b ≡ true → HasRead text (rows ++ fields_of x ∷ []) b
+read_more text rows a b found x h there reads first flexible =
+    let step = subst (λ (t : Bool). ReadRecord bytes_left a b t (fields_of x)) there reads in
     let (rest, source, reached) = rows-more bytes_left a b (fields_of x) default_config st.StartRecord (strip_bom text) h.rest rows h.config h.source h.reached step in
-    record { rest = rest; config = step.2 ∙ h.config; source = source; reached = reached; ready = inl (first h.trims); trims = step.3 ∙ h.trims; flexible = same ∙ h.flexible }
+    record { rest = rest; config = step.2 ∙ h.config; source = source; reached = reached; ready = inl first; trims = step.3 ∙ h.trims; flexible = flexible }
 
 pub read_end : (text : List ℕ) (rows : List (List (List ℕ))) (a b : Reader (Bor (List ℕ))) (found : Bool) (x : Row) → HasRead text rows a → found ≡ false
-    → (reader_trim a ≡ trim.None → Ready a → ReadRecord bytes_left a b found (fields_of x)) → AreRecords default_config st.StartRecord (strip_bom text) rows
+    → ReadRecord bytes_left a b found (fields_of x) → AreRecords default_config st.StartRecord (strip_bom text) rows
 read_end text rows a b found x h none reads =
-    let step = subst (λ (t : Bool). ReadRecord bytes_left a b t (fields_of x)) none (reads h.trims h.ready) in
+    let step = subst (λ (t : Bool). ReadRecord bytes_left a b t (fields_of x)) none reads in
     (_, h.rest, h.reached, rows-end bytes_left a b (fields_of x) default_config h.rest h.config h.source step)
 
 -- records as many as the text has bytes are all of them

@@ -1,7 +1,9 @@
 //! Rows of records of comma-separated values.
-ghost use Rattle.std.specs.Prelude.{◌≡◌, ◌<◌, ◌⊎◌, IfOk, IfErr, length, slice_get, List, ℕ, Ok};
+ghost use Rattle.std.specs.Prelude.{◌≡◌, ◌<◌, ◌⊎◌, [], IfOk, IfErr, OnOk, length, slice_get, List, ℕ, Ok, true};
 ghost use Rattle.std.specs.Option.{option_map};
+ghost use Rattle.csv.specs.Reading.{ReadRecord, Ready, is_flexible, reader_trim, took_first};
 ghost use Rattle.csv.specs.Records.{fields_of};
+ghost use Rattle.csv.specs.declared.reader.Trim.TheVariants as trim;
 ghost use Rattle.rmt_columns.specs.RowsByColumn.{kinds_in};
 ghost use Rattle.rmt_sql_rows.specs.InsertedRows.{field_value as field_value_of, cell_at, row_of as row_in, rows_from};
 ghost use Rattle.rmt_sql_rows.specs.Inserts.{AreCsvRows, IsBadCsvRow};
@@ -9,10 +11,11 @@ ghost use Rattle.rmt_sql_rows.specs.Inserts.{AreCsvRows, IsBadCsvRow};
 use crate::cells::{Cells, push_row};
 use crate::rows_error::RowsError;
 use crate::values::field_value;
-use csv::{ByteRecord, ErrorKind, ReaderBuilder};
+use csv::{ByteRecord, ErrorKind, Reader, ReaderBuilder};
 use rmt_columns::{Rows, RowsBuilder, ValueRef};
 use rmt_values::{Column, Kind};
 use std::alloc::Global;
+use std::io::Read;
 
 /// The field of a record at a place, counted from 0.
 fn field_at(fields: &ByteRecord, place: usize) -> Option<&[u8]>
@@ -38,6 +41,64 @@ impl Cells for ByteRecord {
     }
 }
 
+/// Reads the next record, and says whether there was one. Each record may have its own length, and its fields are bytes.
+fn read_record<R: Read>(reader: &mut Reader<R>, record: &mut ByteRecord) -> Result<bool, RowsError>
+    requires untrimmed { reader_trim reader.old ≡ trim.None }
+    requires ready { Ready reader.old }
+    requires flexible { is_flexible reader.old ≡ true }
+    ensures reads { IfOk result (λ found.
+        ReadRecord R.remaining reader.old reader.new found (fields_of record.new)) }
+    ensures ready { OnOk result (took_first reader.new ≡ true) }
+    ensures flexible { OnOk result (is_flexible reader.new ≡ true) }
+    ensures err { IfErr result (λ e. e ≡ RowsError.Memory) }
+{
+    match reader.read_byte_record(record) {
+        Ok(found) => Ok(found),
+        Err(error) => match error.into_kind() {
+            ErrorKind::OutOfMemory | ErrorKind::Io(_) => Err(RowsError::Memory),
+            ErrorKind::UnequalLengths { .. }
+            | ErrorKind::Utf8 { .. }
+            | ErrorKind::Serialize(_)
+            | ErrorKind::Deserialize { .. } => unreachable!(),
+        },
+    }
+}
+
+/// Puts the rows of an INSERT's data, whose fields are for the columns at these places. BadRow counts records from 1.
+fn push_data(
+    alloc: Global,
+    builder: &mut RowsBuilder,
+    columns: &[Column],
+    places: &[Option<usize>],
+    named: usize,
+    bytes: &[u8],
+) -> Result<(), RowsError>
+    requires places { length places.now ≡ length columns.now }
+    requires some { 0 < length columns.now }
+    requires empty { builder.old ≡ record { kinds = kinds_in columns.now; rows = []; begun = [] } }
+    ensures ok { OnOk result (AreCsvRows (row_in field_value_of columns.now places.now named) bytes.now builder.new.rows) }
+    ensures begun { OnOk result (builder.new.begun ≡ []) }
+    ensures kinds { OnOk result (builder.new.kinds ≡ kinds_in columns.now) }
+    ensures refused { IfErr result (λ e. (e ≡ RowsError.Memory)
+        ⊎ IsBadCsvRow (row_in field_value_of columns.now places.now named) bytes.now e) }
+{
+    let mut reader = ReaderBuilder::new()
+        .has_headers(false)
+        .flexible(true)
+        .from_reader(alloc, bytes);
+    let mut record = ByteRecord::new(alloc);
+    // Each record has a byte at least, so there are no more records than bytes.
+    'records: for i in 0..bytes.len() {
+        if !read_record(&mut reader, &mut record)? {
+            return Ok(());
+        }
+        if !push_row(builder, columns, places, named, &record)? {
+            return Err(RowsError::BadRow(i as u64 + 1));
+        }
+    }
+    Ok(())
+}
+
 /// The rows of an INSERT's data, whose fields are for the columns at these places. BadRow counts records from 1.
 pub fn rows_of_data(
     alloc: Global,
@@ -54,30 +115,6 @@ pub fn rows_of_data(
         ⊎ IsBadCsvRow (row_in field_value_of columns.now places.now named) bytes.now e) }
 {
     let mut builder = RowsBuilder::new(alloc, columns)?;
-    let mut reader = ReaderBuilder::new()
-        .has_headers(false)
-        .flexible(true)
-        .from_reader(alloc, bytes);
-    let mut record = ByteRecord::new(alloc);
-    // Each record has a byte at least, so there are no more records than bytes.
-    'records: for i in 0..bytes.len() {
-        let found = match reader.read_byte_record(&mut record) {
-            Ok(found) => found,
-            Err(error) => match error.into_kind() {
-                ErrorKind::OutOfMemory | ErrorKind::Io(_) => return Err(RowsError::Memory),
-                // Each record may have its own length, and its fields are bytes.
-                ErrorKind::UnequalLengths { .. }
-                | ErrorKind::Utf8 { .. }
-                | ErrorKind::Serialize(_)
-                | ErrorKind::Deserialize { .. } => unreachable!(),
-            },
-        };
-        if !found {
-            return Ok(builder.into_rows());
-        }
-        if !push_row(&mut builder, columns, places, named, &record)? {
-            return Err(RowsError::BadRow(i as u64 + 1));
-        }
-    }
+    push_data(alloc, &mut builder, columns, places, named, bytes)?;
     Ok(builder.into_rows())
 }
