@@ -1,5 +1,11 @@
-//! Tests of the coordination tree, which need its public calls alone.
+//! Tests of the coordination tree, which need public calls alone.
 #![tactic(auto)]
 
 #[cfg(test)]
-mod tree;
+mod lists;
+#[cfg(test)]
+mod played;
+#[cfg(test)]
+mod steps;
+#[cfg(test)]
+mod tests;
