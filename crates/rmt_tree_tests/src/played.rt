@@ -1,6 +1,6 @@
 //! Calls that are made of a tree.
 use crate::steps::{Answer, Call, Node, Operation, Reply, Stage};
-use rmt_tree::{Done, MultiError, Op, Path, Tree};
+use rmt_tree::{Done, MultiError, Op, OpError, Path, Tree};
 use rmt_values::{Blob, Name};
 use std::alloc::Global;
 use std::test::Fail;
@@ -32,7 +32,10 @@ fn answers(tree: &mut Tree, alloc: Global, call: Call, reply: Reply) -> Result<b
     match call {
         Call::Open => opens(tree, reply),
         Call::End(number) => Ok(ends(tree, number, reply)),
-        Call::Multi(operations) => does(tree, alloc, operations, reply),
+        Call::Multi(operations) => match operations {
+            [operation] => does_one(tree, alloc, *operation, reply),
+            _ => does(tree, alloc, operations, reply),
+        },
     }
 }
 
@@ -69,6 +72,45 @@ fn does(
             _ => Ok(false),
         },
         Err(MultiError::Memory) => Err("out of memory".into()),
+    }
+}
+
+/// Does one operation by its own call.
+fn does_one(
+    tree: &mut Tree,
+    alloc: Global,
+    operation: Operation,
+    reply: Reply,
+) -> Result<bool, Fail> {
+    let op = op_of(alloc, operation)?;
+    match single(tree, op) {
+        Ok(done) => match reply {
+            Reply::Done([answer]) => is_done(alloc, &done, *answer),
+            _ => Ok(false),
+        },
+        Err(OpError::Refused(cause)) => match reply {
+            Reply::Refused(0, why) => Ok(why == cause),
+            _ => Ok(false),
+        },
+        Err(OpError::Memory) => Err("out of memory".into()),
+    }
+}
+
+fn single(tree: &mut Tree, op: Op) -> Result<Done, OpError> {
+    match op {
+        Op::Create {
+            path,
+            value,
+            sequential,
+            owner,
+        } => tree.create(path, value, sequential, owner),
+        Op::Set {
+            path,
+            value,
+            version,
+        } => tree.set(path, value, version),
+        Op::Delete { path, version } => tree.delete(path, version),
+        Op::Check { path, version } => tree.check(path, version),
     }
 }
 

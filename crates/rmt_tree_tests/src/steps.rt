@@ -38,7 +38,7 @@ pub(crate) enum Call {
     Open,
     /// A session ends.
     End(u64),
-    /// Operations, all or none.
+    /// Operations, all or none; a single one is done by its own call.
     Multi(&'static [Operation]),
 }
 
