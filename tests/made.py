@@ -113,7 +113,8 @@ def mutations():
 def partitions():
     """The blocks before the refused one stay. A mutation takes a number in each partition, and a drop makes no room."""
     script = [table("PARTITION BY k", "k UInt64"), "INSERT INTO t VALUES ", *(f"({k})" for k in range(1025)), ";\n"]
-    script += ["ALTER TABLE t DELETE WHERE k < 3; ALTER TABLE t DROP PARTITION 1024; ALTER TABLE t DROP PARTITION 1023;\n"]
+    script += ["ALTER TABLE t DELETE WHERE k < 3;\n"]
+    script += ["ALTER TABLE t DROP PARTITION 1024; ALTER TABLE t DROP PARTITION 1023;\n"]
     script += ["INSERT INTO t VALUES (1024); INSERT INTO t VALUES (1023),(5); SELECT count() FROM t SYNC;\n"]
     output = ["ok\n", *(f"part {k}_0_0_0\n" for k in range(1024)), "refused 18 LimitReached partitions 1024\n"]
     output += ["mutation 0000000000\ndropped 1024 below 0\ndropped 1023 below 2\n"]
@@ -172,7 +173,8 @@ def values_and_numbers():
     output = [f"ok\npart 0_0_0_0\nrefused 18 LimitReached values {rows}\npart 0_2_2_0\n"]
     output += [f"refused 18 LimitReached values {last}\n"] * (numbers - 3)
     output += [no_number, "duplicate 0_2_2_0\n", no_number, no_number]
-    output += [f"refused 18 LimitReached values {last}\ndropped 1 below 1\n", f"rows 1\n{last}\nparts 0_0_0_0 0_2_2_0\n"]
+    output += [f"refused 18 LimitReached values {last}\ndropped 1 below 1\n"]
+    output += [f"rows 1\n{last}\nparts 0_0_0_0 0_2_2_0\n"]
     return case("8,388,608 values and 65,536 numbers", script, output)
 
 
@@ -196,9 +198,10 @@ def merges():
     left = [row for row in updated if row[1] <= 900]
     merged, mutated = "all_0_2_1", "all_0_2_1_4"
     shown = [f"parts {mutated}\n", *answer(left), f"check {mutated} {digest(left)}\n"]
-    output = ["ok\npart all_0_0_0\npart all_1_1_0\npart all_2_2_0\n", f"optimized {merged}\nparts {merged}\n", *answer(rows)]
-    output += [f"check {merged} {digest(in_order)}\n", "mutation 0000000000\nmutation 0000000001\n"]
-    output += [*answer(left), "done 0000000001\n", *shown, "ok\n", *shown]
+    output = ["ok\npart all_0_0_0\npart all_1_1_0\npart all_2_2_0\n"]
+    output += [f"optimized {merged}\nparts {merged}\n", *answer(rows), f"check {merged} {digest(in_order)}\n"]
+    output += ["mutation 0000000000\nmutation 0000000001\n", *answer(left), "done 0000000001\n"]
+    output += [*shown, "ok\n", *shown]
     yield case("3,501 rows that look random", script, output)
 
 
@@ -226,7 +229,7 @@ def answer(rows):
 
 
 def digest(rows):
-    """The SHA-256 of the bytes of a part of rows in the order of their keys, as crates/rmt_format/README.md has them."""
+    """The SHA-256 of the bytes of a part whose rows are in the order of the key (crates/rmt_format/README.md)."""
 
     def numbers(length, *all):
         return b"".join(number.to_bytes(length, "big") for number in all)

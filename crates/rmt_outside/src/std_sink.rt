@@ -56,30 +56,3 @@ impl<W: Write + Drop> Sink for StdSink<W> {
         }
     }
 }
-
-#[cfg(test)]
-mod tests {
-    use super::*;
-    use crate::write::{WriteError, write_all_of};
-    use std::test::Fail;
-
-    #[test]
-    fn a_vector_is_written(rt: HostRuntime) -> Result<(), Fail> {
-        let mut kept = Vec::new(rt.alloc());
-        let mut sink = StdSink::new(&mut kept);
-        write_all_of(&mut sink, b"rows")?;
-        assert_eq!(rt; kept.as_slice(), b"rows".as_slice());
-        Ok(())
-    }
-
-    #[test]
-    fn a_writer_without_room_is_a_fault(rt: HostRuntime) {
-        let mut room = [0; 3];
-        let mut sink = StdSink::new(room.as_mut_slice());
-        assert_eq!(rt;
-            write_all_of(&mut sink, b"rows"),
-            Err(WriteError::WriteFault)
-        );
-        assert_eq!(rt; room.as_slice(), b"row".as_slice());
-    }
-}

@@ -53,18 +53,3 @@ impl<R: Read + Drop> Source for StdSource<R> {
         }
     }
 }
-
-#[cfg(test)]
-mod tests {
-    use super::*;
-    use crate::read::read_all;
-    use std::test::Fail;
-
-    #[test]
-    fn a_slice_is_read(rt: HostRuntime) -> Result<(), Fail> {
-        let mut source = StdSource::new(b"rows".as_slice());
-        let bytes = read_all(rt.alloc(), &mut source, 4)?;
-        assert_eq!(rt; bytes.as_slice(), b"rows".as_slice());
-        Ok(())
-    }
-}

@@ -41,34 +41,3 @@ pub fn write_all_of<K: Sink>(sink: &mut K, bytes: &[u8]) -> Result<(), WriteErro
     }
     Ok(())
 }
-
-#[cfg(test)]
-mod tests {
-    use super::*;
-    use crate::page::Page;
-    use crate::sound_page::SoundPage;
-    use std::test::Fail;
-
-    // Where the sink never fails, all is written.
-    fn write_sound(bytes: &[u8]) -> Result<(), WriteError>
-        ensures { OnErr result ⊥ }
-    {
-        write_all_of(&mut SoundPage::new(), bytes)
-    }
-
-    #[test]
-    fn a_failed_write_adds_nothing(rt: HostRuntime) -> Result<(), Fail> {
-        let alloc = rt.alloc();
-        let mut page = Page::new(alloc, vec![in alloc; 0]?);
-        assert_eq!(rt;
-            write_all_of(&mut page, b"rows"),
-            Err(WriteError::WriteFault)
-        );
-        assert_eq!(rt; page.written(), b"".as_slice());
-        write_all_of(&mut page, b"rows")?;
-        write_all_of(&mut page, b" and more")?;
-        assert_eq!(rt; page.written(), b"rows and more".as_slice());
-        write_sound(b"rows")?;
-        Ok(())
-    }
-}

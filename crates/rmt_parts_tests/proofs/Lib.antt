@@ -1,2 +1,0 @@
-pub mod PlayedLog
-pub mod PlayedParts

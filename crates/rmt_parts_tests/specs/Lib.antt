@@ -1,2 +1,0 @@
-pub use Rattle.rmt_compact.specs.NewParts
-pub mod PlayedParts
