@@ -5,7 +5,7 @@ ghost use Rattle.std.specs.declared.option.Option.TheVariants.{Some, None};
 ghost use Rattle.rmt_values.specs.Schemas.{has_name as has, first_double};
 ghost use Rattle.rmt_values.specs.Commands.{CommandFits, SetsFit, rule_columns};
 ghost use Rattle.rmt_values.specs.Filters.{FilterFits};
-ghost use Rattle.rmt_expr.specs.Checks.{checked_of, unknown_in as first_unknown};
+ghost use Rattle.rmt_expr.specs.Checks.{checked_of, type_error_in, unknown_in as first_unknown};
 ghost use Rattle.rmt_expr.specs.Mutations.{
   IsCheckedMutation,
   AreSets,
@@ -23,7 +23,7 @@ ghost use Rattle.rmt_values.specs.Rows.{place_from};
 ghost use Rattle.rmt_expr.specs.declared.mutation_error.MutationError.TheVariants as refusal;
 
 use crate::check_error::CheckError;
-use crate::checks::{check, unknown, unknown_in};
+use crate::checks::{check, placed, unknown, unknown_in};
 use crate::mutation_error::MutationError;
 use crate::sets::placed_sets;
 use rmt_list::List;
@@ -71,7 +71,7 @@ fn check_delete(alloc: Global, filter: &Filter, schema: &Schema) -> Result<Check
 }
 
 /// The checked forms of an UPDATE's sets and of its filter.
-#[tactic(auto, unfolding(crate::specs::Mutations::update_refusal, crate::specs::Checks::filter_refusal))]
+#[tactic(auto, unfolding(crate::specs::Mutations::update_refusal))]
 fn check_update(
     alloc: Global,
     sets: &List<(Name, Right)>,
@@ -85,18 +85,74 @@ fn check_update(
         ⊎ (update_refusal schema.now sets.now filter.now ≡ Some e)) }
 {
     let pairs = sets.as_slice();
-    if let Some(name) = unknown_in_update(pairs, filter, schema) {
-        return Err(MutationError::UnknownColumn(name.copy()?));
-    }
-    if let Some(name) = double_in(pairs) {
-        return Err(MutationError::DoubleColumn(name.copy()?));
-    }
+    refuse_unknown(pairs, filter, schema)?;
+    refuse_double(pairs)?;
     let placed = placed_sets(alloc, pairs, schema)?;
-    let filter = check(alloc, filter, schema)?;
-    match fixed_set(pairs, schema) {
-        Some(name) => Err(MutationError::KeyColumn(name.copy()?)),
-        None => Ok((List::new(placed), filter)),
+    let filter = check_rest(alloc, pairs, filter, schema)?;
+    Ok((List::new(placed), filter))
+}
+
+/// Refuses an UPDATE that names an unknown column.
+fn refuse_unknown(
+    sets: &[(Name, Right)],
+    filter: &Filter,
+    schema: &Schema,
+) -> Result<(), MutationError>
+    ensures known { IfOk result (λ _.
+        option_or (unknown_in_sets schema.now sets.now) (first_unknown schema.now filter.now) ≡ None) }
+    ensures refused { IfErr result (λ e. (e ≡ refusal.Memory)
+        ⊎ (option_map (λ n. refusal.UnknownColumn n)
+        (option_or (unknown_in_sets schema.now sets.now) (first_unknown schema.now filter.now)) ≡ Some e)) }
+{
+    match unknown_in_update(sets, filter, schema) {
+        Some(name) => Err(MutationError::UnknownColumn(name.copy()?)),
+        None => Ok(()),
     }
+}
+
+/// Refuses an UPDATE that sets a column twice.
+fn refuse_double(sets: &[(Name, Right)]) -> Result<(), MutationError>
+    ensures known { IfOk result (λ _. first_double (lefts sets.now) ≡ None) }
+    ensures refused { IfErr result (λ e. (e ≡ refusal.Memory)
+        ⊎ (option_map (λ n. refusal.DoubleColumn n) (first_double (lefts sets.now)) ≡ Some e)) }
+{
+    match double_in(sets) {
+        Some(name) => Err(MutationError::DoubleColumn(name.copy()?)),
+        None => Ok(()),
+    }
+}
+
+/// Refuses an UPDATE that sets a column of the sorting key, or that of the partition rule.
+fn refuse_fixed(sets: &[(Name, Right)], schema: &Schema) -> Result<(), MutationError>
+    ensures known { IfOk result (λ _. fixed_in_sets schema.now sets.now ≡ None) }
+    ensures refused { IfErr result (λ e. (e ≡ refusal.Memory)
+        ⊎ (option_map (λ n. refusal.KeyColumn n) (fixed_in_sets schema.now sets.now) ≡ Some e)) }
+{
+    match fixed_set(sets, schema) {
+        Some(name) => Err(MutationError::KeyColumn(name.copy()?)),
+        None => Ok(()),
+    }
+}
+
+/// What an UPDATE is checked for after the types of its sets: the checked form of its filter, which names no unknown
+/// column, and that no set column is fixed.
+fn check_rest(
+    alloc: Global,
+    sets: &[(Name, Right)],
+    filter: &Filter,
+    schema: &Schema,
+) -> Result<Checked, MutationError>
+    ensures ok { IfOk result (λ c. checked_of schema.now filter.now ≡ Some c) }
+    ensures fits { IfOk result (λ c. FilterFits schema.now c) }
+    ensures typed { IfOk result (λ _. type_error_in schema.now filter.now ≡ None) }
+    ensures known { IfOk result (λ _. fixed_in_sets schema.now sets.now ≡ None) }
+    ensures refused { IfErr result (λ e. (e ≡ refusal.Memory)
+        ⊎ (option_or (option_map (λ n. refusal.WrongType n) (type_error_in schema.now filter.now))
+        (option_map (λ n. refusal.KeyColumn n) (fixed_in_sets schema.now sets.now)) ≡ Some e)) }
+{
+    let filter = placed(alloc, filter, schema)?;
+    refuse_fixed(sets, schema)?;
+    Ok(filter)
 }
 
 /// The first name of an UPDATE that no column has.
