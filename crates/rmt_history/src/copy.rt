@@ -1,10 +1,11 @@
-ghost use Rattle.std.specs.Prelude.{◌≡◌, ◌∷◌, [], ◌++◌, length, slice_get, IfOk, IfSome, OnOk, OnErr, MatchOption, IsTrue, ◌≤◌, ◌<◌, ◌^◌, ◌↔◌};
+ghost use Rattle.std.specs.Prelude.{◌≡◌, ◌∷◌, [], ◌++◌, None, cond, map, length, vec_len, vec_capacity, slice_get, IfOk, IfSome, OnOk, OnErr, MatchOption, IsTrue, ◌≤◌, ◌<◌, ◌^◌, ◌↔◌};
+ghost use Rattle.std.specs.Option.{option_map};
 ghost use Rattle.std.specs.declared.option.Option.TheVariants.{Some};
 ghost use Rattle.std.specs.Arc.{arc_value};
 ghost use Rattle.rmt_model.specs.Live.{live as live_of, DroppedAfter};
-ghost use Rattle.rmt_model.specs.Lawful.{Lawful, entry_at, ver as ver_of, AreNeighbours};
+ghost use Rattle.rmt_model.specs.Lawful.{Lawful, entry_at, is_mutation, ver as ver_of, AreNeighbours};
 ghost use Rattle.rmt_history.specs.Copies.{IsMadeBy};
-ghost use Rattle.rmt_history.specs.Mutations.{AreTokensBelow, mutations_below, pending_below, last_pending as last_pending_of};
+ghost use Rattle.rmt_history.specs.Mutations.{AreTokensBelow, last_list as last_list_of, mutations_below, pending_below, last_pending as last_pending_of};
 
 use crate::last_drop::{LastDrop, takes_after};
 use crate::mutation_list::{copied, count_below, count_settled, last_list, next_list, push_list};
@@ -50,6 +51,28 @@ impl Model for LogCopy {
     ghost view = { λ c. record { schema = arc_value c.schema; log = entries c.seen.items; cells = cells_of c.seen.items } };
 
     ghost invariant = { λ c. IsCopy (arc_value c.schema) c.seen.items c.live.names c.makers c.drops (map arc_value c.mutations.items) };
+}
+
+/// Makes room for one more entry, and makes the list of its mutations where it is one. Nothing else changes.
+fn room_for(
+    seen: &mut Vec<Seen<Entry>>,
+    live: &mut NameSet,
+    mutations: &mut Vec<Arc<List<Seen<Entry>>, Global>>,
+    next: &Seen<Entry>,
+) -> Result<Option<Arc<List<Seen<Entry>>, Global>>, AllocError>
+    ensures seen { seen.new.items ≡ seen.old.items }
+    ensures live { live.new.names ≡ live.old.names }
+    ensures mutations { mutations.new.items ≡ mutations.old.items }
+    ensures seen_room { OnOk result (vec_len seen.new < vec_capacity seen.new) }
+    ensures live_room { OnOk result (0 < live.new.room) }
+    ensures mutations_room { OnOk result (vec_len mutations.new < vec_capacity mutations.new) }
+    ensures list { IfOk result (λ list. option_map arc_value list ≡
+        cond (is_mutation next.now.value) (Some (last_list_of (map arc_value mutations.old.items) ++ next.now ∷ [])) None) }
+{
+    seen.reserve(1)?;
+    live.reserve()?;
+    mutations.reserve(1)?;
+    next_list(*seen.allocator(), mutations, next)
 }
 
 impl LogCopy {
@@ -100,10 +123,7 @@ impl LogCopy {
         ensures ok { OnOk result (self.new ≡ record self.old { log = next.value ∷ self.old.log; cells = self.old.cells ++ next.cell ∷ [] }) }
         ensures err { OnErr result (self.new ≡ self.old) }
     {
-        self.seen.reserve(1)?;
-        self.live.reserve()?;
-        self.mutations.reserve(1)?;
-        let list = next_list(*self.seen.allocator(), &self.mutations, &next)?;
+        let list = room_for(&mut self.seen, &mut self.live, &mut self.mutations, &next)?;
         let place = self.seen.len();
         note(&mut self.makers, &mut self.drops, next.value(), place)?;
         follow(&mut self.live, next.value());

@@ -24,8 +24,8 @@ invariant_of-self-2 c =
     (c.requires.place ∙ ap (λ (h : History). length h.log) e)
     (subst (λ (h : History). Lawful h.schema (c.args.next.value ∷ h.log)) e c.requires.lawful)
     pushed
-    (c.follow.ensures ∙ (ap (live_after c.value-2.result.now) c.reserve-2.ensures.names ∙ ap (λ (v : Entry). live_after v c.self.inside.live.names) c.value-2.ensures))
+    (c.follow.ensures ∙ (ap (live_after c.value-2.result.now) c.room_for.ensures.live ∙ ap (λ (v : Entry). live_after v c.self.inside.live.names) c.value-2.ensures))
     (λ a. c.in_ok-note.ensures.makers a ∙ (ap (λ (v : Entry). maker_after (result_name v) c.len-place.result (get name_cmp c.self.inside.makers a) a) entry ∙ ap (λ n. maker_after (result_name c.args.next.value) n (get name_cmp c.self.inside.makers a) a) place))
     (λ p. c.in_ok-note.ensures.drops p ∙ (ap (λ (v : Entry). drop_after v c.len-place.result (get partition_cmp c.self.inside.drops p) p) entry ∙ ap (λ n. drop_after c.args.next.value n (get partition_cmp c.self.inside.drops p) p) place))
-    (made-of arc_value c.deref.result.now c.self.inside.mutations.items c.args.next c.args.next _ c.in_ok-list.ensures (c.deref.ensures.value ∙ c.reserve-3.ensures.items) refl)
-    (pushed-onto arc_value _ c.self.inside.mutations.items _ _ c.push_list.ensures c.reserve-3.ensures.items)
+    (made-of arc_value c.self.inside.mutations.items c.self.inside.mutations.items c.args.next c.args.next _ c.in_ok-list.ensures.list refl refl)
+    (pushed-onto arc_value _ c.self.inside.mutations.items _ _ c.push_list.ensures c.room_for.ensures.mutations)
