@@ -189,6 +189,13 @@ outlives-not p n k e l =
     let t : nat_lt k.kept.part.min n ≡ true = grind (arith, nat_tests) in
     ap (λ (b : Bool). not (b && nat_lt k.kept.part.min n)) u ∙ ap not t
 
+-- a test and its opposite
+pub turned : (b c : Bool) → b ≡ not c → c ≡ not b
+turned true true e = absurd (cc)
+turned true false e = refl
+turned false true e = refl
+turned false false e = absurd (cc)
+
 -- partitions that a test tells apart
 pub apart : (a b : Option ℕ) → option_eq nat_eq a b ≡ false → a ≡ b → ⊥
 apart a b e f = go b (subst (λ (x : Option ℕ). option_eq nat_eq x b ≡ false) f e)

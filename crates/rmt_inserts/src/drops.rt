@@ -1,5 +1,5 @@
 //! What a drop takes away of the locks and of the kept ids.
-ghost use Rattle.std.specs.Prelude.{◌≡◌, ◌++◌, ◌∷◌, ◌<◌, ◌+◌, ◌-◌, ◌^◌, ℕ, List, length, filter, None, Some, IfOk};
+ghost use Rattle.std.specs.Prelude.{◌≡◌, ◌++◌, ◌∷◌, ◌<◌, ◌+◌, ◌-◌, ◌^◌, ℕ, false, not, is_some, List, length, filter, None, Some, IfOk, IfSome};
 ghost use Rattle.std.specs.Option.{option_to_list};
 ghost use Rattle.rmt_model.specs.Words.{Has, Pairwise};
 ghost use Rattle.rmt_znodes.specs.declared.znode.Znode.TheVariants.{OrderOf};
@@ -121,21 +121,39 @@ fn without_one(
     ensures forgotten { (ks : List Placed) (count : ℕ) → HasKeptIds tree.now ks count
         → IfOk result (λ d. d.forgotten + length (filter (outlives partition below) (option_to_list (with_number number ks))) ≡ dropped.forgotten + length (option_to_list (with_number number ks))) }
 {
-    let order = Znode::OrderOf(number).path(alloc)?;
-    let Some(part) = part_at(tree, alloc, &order)? else {
+    let Some(order) = dropped_path(tree, alloc, partition, below, number)? else {
         return Ok(dropped);
     };
-    if part.partition() != partition {
-        return Ok(dropped);
-    }
-    if part.min() >= below {
-        return Ok(dropped);
-    }
     let ops = without_kept(tree, alloc, dropped.ops, order)?;
     Ok(DropOps {
         ops,
         forgotten: dropped.forgotten + 1,
     })
+}
+
+/// The path in the order of the kept id with this number, where its block is dropped. At an error no memory was left.
+fn dropped_path(
+    tree: &Tree,
+    alloc: Global,
+    partition: PartitionId,
+    below: u32,
+    number: u32,
+) -> Result<Option<Path>, AllocError>
+    ensures path { IfOk result (λ order. IfSome order (λ path. path ≡ znode_path (OrderOf number))) }
+    ensures some { (ks : List Placed) (count : ℕ) (k : Placed) → HasKeptIds tree.now ks count → Has ks k → k.number ≡ number → IfOk result (λ order. is_some order ≡ not (outlives partition below k)) }
+    ensures none { (ks : List Placed) (count : ℕ) → HasKeptIds tree.now ks count → with_number number ks ≡ None → IfOk result (λ order. is_some order ≡ false) }
+{
+    let order = Znode::OrderOf(number).path(alloc)?;
+    let Some(part) = part_at(tree, alloc, &order)? else {
+        return Ok(None);
+    };
+    if part.partition() != partition {
+        return Ok(None);
+    }
+    if part.min() >= below {
+        return Ok(None);
+    }
+    Ok(Some(order))
 }
 
 /// The part of the kept id whose node in the order has this path; `None` where it isn't there. At an error no memory was left.

@@ -6,7 +6,7 @@ ghost use Rattle.rmt_tree.specs.Ops.{after_all};
 ghost use Rattle.rmt_limits.specs.BlockNumbers.{next_number as number_after};
 ghost use Rattle.rmt_table_model.specs.Numbers.{Nexts, Holders, next_of};
 ghost use Rattle.rmt_table_model.specs.Inserts.{HasNumbers};
-ghost use Rattle.rmt_table_model.specs.Nodes.{take_ops as ops_of_taking, number_ops as ops_of_number};
+ghost use Rattle.rmt_table_model.specs.Nodes.{take_ops as ops_of_taking, partition_ops as ops_of_partition, number_ops as ops_of_number};
 ghost use Rattle.rmt_inserts.specs.Numbers.{number_limit, partitions_limit, count_limit, IsNumberError};
 
 use crate::number_error::NumberError;
@@ -113,14 +113,24 @@ fn take_ops(
 ) -> Result<Vec<Op>, AllocError>
     ensures { IfOk result (λ ops. ops.items ≡ ops_of_taking partition session next) }
 {
-    let lock = create_sequential(lock_path(alloc, partition)?, empty(alloc), Some(session));
-    let ops = Vec::new(alloc);
+    let ops = partition_ops(alloc, partition, next)?;
+    let path = lock_path(alloc, partition)?;
+    with_op(ops, create_sequential(path, empty(alloc), Some(session)))
+}
+
+/// The operation that makes a partition, where there is no next number of it. At an error no memory was left.
+fn partition_ops(
+    alloc: Global,
+    partition: PartitionId,
+    next: Option<u32>,
+) -> Result<Vec<Op>, AllocError>
+    ensures { IfOk result (λ ops. ops.items ≡ ops_of_partition partition next) }
+{
     if next.is_some() {
-        return with_op(ops, lock);
+        return Ok(Vec::new(alloc));
     }
     let path = Znode::Partition(partition).path(alloc)?;
-    let ops = with_op(ops, create(path, empty(alloc)))?;
-    with_op(ops, lock)
+    with_op(Vec::new(alloc), create(path, empty(alloc)))
 }
 
 /// The operations that take the next number of a partition without leaving a lock. At an error no memory was left.

@@ -78,14 +78,37 @@ fn with_kept(
 ) -> Result<Vec<Op>, AllocError>
     ensures { IfOk result (λ all. all.items ≡ ops.items ++ op.Create (znode_path (Block id.now.partition id.now.digest)) (text_of part.now) false None ∷ op.Create path_of_order (text_of_id id.now.partition id.now.digest) true None ∷ []) }
 {
+    let block = block_op(alloc, id, part)?;
+    let ops = with_op(ops, block)?;
+    let order = order_op(alloc, id)?;
+    with_op(ops, order)
+}
+
+/// The operation that makes the node of a kept id, with the part of its block. At an error no memory was left.
+fn block_op(alloc: Global, id: &BlockId, part: &PartName) -> Result<Op, AllocError>
+    ensures { IfOk result (λ made. made ≡ op.Create (znode_path (Block id.now.partition id.now.digest)) (text_of part.now) false None) }
+{
     let path = block_path(alloc, id)?;
     let name = text(alloc, part)?;
-    let block = create(path, Blob::new(name.into_bytes()));
-    let ops = with_op(ops, block)?;
+    Ok(create(path, Blob::new(name.into_bytes())))
+}
+
+/// The operation that puts a kept id into the order. At an error no memory was left.
+fn order_op(alloc: Global, id: &BlockId) -> Result<Op, AllocError>
+    ensures { IfOk result (λ made. made ≡ op.Create path_of_order (text_of_id id.now.partition id.now.digest) true None) }
+{
+    let value = id_value(alloc, id)?;
     let path = order_path(alloc)?;
+    Ok(create_sequential(path, value, None))
+}
+
+/// The text of an id as data. At an error no memory was left.
+fn id_value(alloc: Global, id: &BlockId) -> Result<Blob, AllocError>
+    ensures { IfOk result (λ value. value ≡ text_of_id id.now.partition id.now.digest) }
+{
     let text = id_text(alloc, id)?;
-    let value = Blob::new(Vec::from_slice(alloc, text.as_bytes())?);
-    with_op(ops, create_sequential(path, value, None))
+    let bytes = Vec::from_slice(alloc, text.as_bytes())?;
+    Ok(Blob::new(bytes))
 }
 
 /// The operations, and then those that let the oldest kept id go. At an error no memory was left.
