@@ -133,7 +133,7 @@ impl Tree {
             sequential,
             owner,
         };
-        self.single(op)
+        self.single(&op)
     }
 
     /// Sets the data of a node: `multi` of this one operation.
@@ -149,7 +149,7 @@ impl Tree {
             value,
             version,
         };
-        self.single(op)
+        self.single(&op)
     }
 
     /// Deletes a node: `multi` of this one operation.
@@ -160,7 +160,8 @@ impl Tree {
         ensures refused { IfErr result (IsCauseOf self.old (op.Delete path version)) }
         ensures err { OnErr result (self.new ≡ self.old) }
     {
-        self.single(Op::Delete { path, version })
+        let op = Op::Delete { path, version };
+        self.single(&op)
     }
 
     /// Checks a node's version: `multi` of this one operation.
@@ -171,20 +172,21 @@ impl Tree {
         ensures refused { IfErr result (IsCauseOf self.old (op.Check path version)) }
         ensures err { OnErr result (self.new ≡ self.old) }
     {
-        self.single(Op::Check { path, version })
+        let op = Op::Check { path, version };
+        self.single(&op)
     }
 
     /// Does one operation.
-    fn single(&mut self, op: Op) -> Result<Done, OpError>
-        ensures all { OnOk result (refusal self.old op ≡ None) }
-        ensures ok { OnOk result (self.new ≡ after self.old op) }
-        ensures answer { IfOk result (λ done. done ≡ answer self.old op) }
-        ensures refused { IfErr result (IsCauseOf self.old op) }
+    fn single(&mut self, op: &Op) -> Result<Done, OpError>
+        ensures all { OnOk result (refusal self.old op.now ≡ None) }
+        ensures ok { OnOk result (self.new ≡ after self.old op.now) }
+        ensures answer { IfOk result (λ done. done ≡ answer self.old op.now) }
+        ensures refused { IfErr result (IsCauseOf self.old op.now) }
         ensures err { OnErr result (self.new ≡ self.old) }
     {
         let alloc = *self.tracker.allocator();
-        names_node(&op);
-        let outcome = draft_one(alloc, &self.slots, &self.tracker, &op)?;
+        names_node(op);
+        let outcome = draft_one(alloc, &self.slots, &self.tracker, op)?;
         prepare(alloc, &mut self.slots, &mut self.tracker, &outcome.changes)?;
         commit(&mut self.slots, &mut self.tracker, outcome.changes);
         Ok(outcome.done)

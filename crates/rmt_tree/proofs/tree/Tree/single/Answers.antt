@@ -21,10 +21,10 @@ returns-in_err-prepare-clause-err c =
 
 pub invariant_of-self-2 : goal.invariant_of-self-2
 invariant_of-self-2 c = IsKept-committed c.self.inside.slots.entries c.prepare.new.slots.entries c.commit.new.slots.entries c.in_ok-outcome.outcome.changes.entries c.self.inside.tracker.items c.prepare.new.tracker.items c.commit.new.tracker.items c.prepare.ensures.nodes c.prepare.ensures.sessions c.commit.ensures.nodes c.commit.ensures.sessions c.commit.ensures.listed (rw c.deref.ensures.value at c.in_ok-outcome.ensures.owners)
-    (subst (λ (t : TreeView). IsShape t.nodes) (sym (rw c.deref.ensures.value at c.in_ok-outcome.ensures.ok)) (IsShape-after (tree_of [] c.self.inside.slots.entries c.self.inside.tracker.items) c.args.op c.names_node.ensures (rw c.deref.ensures.value at c.in_ok-outcome.ensures.all) c.self.invariant.shape))
+    (subst (λ (t : TreeView). IsShape t.nodes) (sym (rw c.deref.ensures.value at c.in_ok-outcome.ensures.ok)) (IsShape-after (tree_of [] c.self.inside.slots.entries c.self.inside.tracker.items) c.args.op.now c.names_node.ensures (rw c.deref.ensures.value at c.in_ok-outcome.ensures.all) c.self.invariant.shape))
 
 pub returns-clause-ok : goal.returns-clause-ok
 returns-clause-ok c =
     committed_tree c.self.inside.slots.entries c.prepare.new.slots.entries c.commit.new.slots.entries c.in_ok-outcome.outcome.changes.entries c.self.inside.tracker.items c.prepare.new.tracker.items c.commit.new.tracker.items c.prepare.ensures.nodes c.prepare.ensures.sessions c.commit.ensures.nodes c.commit.ensures.sessions
     ∙ (rw c.deref.ensures.value at c.in_ok-outcome.ensures.ok)
-    ∙ ap (λ t. after t c.args.op) c.self.view_is
+    ∙ ap (λ t. after t c.args.op.now) c.self.view_is
