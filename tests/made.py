@@ -158,23 +158,23 @@ def worker_entries():
 
 
 def values_and_numbers():
-    """A block whose values would pass the limit is refused and uses its number up; one that reaches it is accepted. By
-    refused blocks the numbers of a partition are used up: then nothing gets one there, and other partitions give
-    theirs."""
-    rows, numbers, last = 8_388_607, 65_536, 8_388_608
-    script = [table("PARTITION BY intDiv(c, 10000000)"), "INSERT INTO t FORMAT CSV\n"]
+    """Of 64 columns one is given, so that each row has 64 values. A block whose values would pass the limit is refused
+    and uses its number up; one that reaches it is accepted. By refused blocks the numbers of a partition are used up:
+    then nothing gets one there, and other partitions give theirs."""
+    width, limit, numbers = 64, 8_388_608, 65_536
+    rows = limit // width - 1
+    columns = ", ".join(f"c{i} UInt64" for i in range(width))
+    script = [table("PARTITION BY intDiv(c0, 10000000)", columns), "INSERT INTO t (c0) FORMAT CSV\n"]
     script += (f"{row % 10}\n" for row in range(rows))
-    script += [";\nINSERT INTO t VALUES (1),(2); INSERT INTO t VALUES (3);\n"]
-    script += ["INSERT INTO t VALUES (4);\n"] * (numbers - 3)
-    script += ["INSERT INTO t VALUES (4); INSERT INTO t VALUES (3); ALTER TABLE t DELETE WHERE c = 4;\n"]
-    script += ["ALTER TABLE t DROP PARTITION 0; INSERT INTO t VALUES (10000000); ALTER TABLE t DROP PARTITION 1;\n"]
-    script += ["SELECT count() FROM t SYNC; SHOW PARTS FROM t;\n"]
-    no_number = f"refused 18 LimitReached numbers {numbers}\n"
-    output = [f"ok\npart 0_0_0_0\nrefused 18 LimitReached values {rows}\npart 0_2_2_0\n"]
-    output += [f"refused 18 LimitReached values {last}\n"] * (numbers - 3)
-    output += [no_number, "duplicate 0_2_2_0\n", no_number, no_number]
-    output += [f"refused 18 LimitReached values {last}\ndropped 1 below 1\n"]
-    output += [f"rows 1\n{last}\nparts 0_0_0_0 0_2_2_0\n"]
+    script += [";\nINSERT INTO t (c0) VALUES (1),(2); INSERT INTO t (c0) VALUES (3);\n"]
+    script += ["INSERT INTO t (c0) VALUES (4);\n"] * (numbers - 3)
+    script += ["INSERT INTO t (c0) VALUES (4); INSERT INTO t (c0) VALUES (3); ALTER TABLE t DELETE WHERE c0 = 4;\n"]
+    script += ["ALTER TABLE t DROP PARTITION 0; INSERT INTO t (c0) VALUES (10000000);\n"]
+    script += ["ALTER TABLE t DROP PARTITION 1; SELECT count() FROM t SYNC; SHOW PARTS FROM t;\n"]
+    no_number, no_value = f"refused 18 LimitReached numbers {numbers}\n", f"refused 18 LimitReached values {limit}\n"
+    output = [f"ok\npart 0_0_0_0\nrefused 18 LimitReached values {width * rows}\npart 0_2_2_0\n"]
+    output += [no_value * (numbers - 3), no_number, "duplicate 0_2_2_0\n", no_number, no_number, no_value]
+    output += [f"dropped 1 below 1\nrows 1\n{rows + 1}\nparts 0_0_0_0 0_2_2_0\n"]
     return case("8,388,608 values and 65,536 numbers", script, output)
 
 
