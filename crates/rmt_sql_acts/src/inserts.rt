@@ -1,11 +1,12 @@
 //! INSERT.
-ghost use Rattle.std.specs.Prelude.{◌≡◌, [], ◌∷◌, codes};
+ghost use Rattle.std.specs.Prelude.{◌≡◌, ℕ, List, [], ◌∷◌, codes};
+ghost use Rattle.std.specs.declared.option.Option.{Option};
 ghost use Rattle.rmt_sql_tokens.specs.declared.symbol_kind.SymbolKind.TheVariants.{Comma, Open};
 ghost use Rattle.rmt_sql_tokens.specs.Classes.{Sign, next_among};
 ghost use Rattle.rmt_sql_tokens.specs.Lexing.{tokens};
 ghost use Rattle.rmt_sql_tokens.specs.Exact.{ReadsAs, maybe, many, item, always, longest};
 ghost use Rattle.rmt_sql_filters.specs.Phrases.{word, more_listed, literal as literal_rule};
-ghost use Rattle.rmt_sql_acts.specs.Acts.{row as row_rule, further_row as further_rule, rows as rows_rule, row_firsts, values as values_rule, csv as csv_rule, insert_rows as insert_rows_rule, quorum_setting as quorum_rule, quorum_and_rows as quorum_and_rows_rule, into as into_rule, into_table as into_table_rule, insert as insert_rule};
+ghost use Rattle.rmt_sql_acts.specs.Acts.{row as row_rule, further_row as further_rule, rows as rows_rule, row_firsts, insertion, values as values_rule, csv as csv_rule, insert_rows as insert_rows_rule, quorum_setting as quorum_rule, quorum_and_rows as quorum_and_rows_rule, into as into_rule, into_table as into_table_rule, insert as insert_rule};
 
 use rmt_list::List;
 use rmt_sql_filters::{literal, name, some_names};
@@ -128,75 +129,37 @@ fn rows(alloc: Global, at: Cursor<'_>) -> Result<(List<List<Literal>>, Cursor<'_
 
 /// VALUES rows ;
 #[tactic(auto, unfolding(crate::specs::Acts::values))]
-fn values(
-    alloc: Global,
-    table: Name,
-    columns: Option<List<Name>>,
-    quorum: Option<u128>,
-    at: Cursor<'_>,
-) -> Result<(Act, usize, Cursor<'_>), ReadError>
-    ensures { ReadsAs (λ x. ((x.0, x.1), tokens x.2)) result ((values_rule table columns quorum).read (tokens at.entry)) }
+fn values(alloc: Global, at: Cursor<'_>) -> Result<(Offered, usize, Cursor<'_>), ReadError>
+    ensures { (table : List ℕ) (columns : Option (List (List ℕ))) (quorum : Option ℕ) → ReadsAs (λ x. ((insertion table columns quorum x.0, x.1), tokens x.2)) result ((values_rule table columns quorum).read (tokens at.entry)) }
 {
     let at = keyword(at, b"values")?;
     let (rows, at) = rows(alloc, at)?;
     let (left, at) = end(at)?;
-    let rows = Offered::Values(rows);
-    Ok((
-        Act::Insert(Insert {
-            table,
-            columns,
-            quorum,
-            rows,
-        }),
-        left,
-        at,
-    ))
+    Ok((Offered::Values(rows), left, at))
 }
 
 /// FORMAT CSV data ;
 #[tactic(auto, unfolding(crate::specs::Acts::csv))]
-fn csv(
-    alloc: Global,
-    table: Name,
-    columns: Option<List<Name>>,
-    quorum: Option<u128>,
-    at: Cursor<'_>,
-) -> Result<(Act, usize, Cursor<'_>), ReadError>
-    ensures { ReadsAs (λ x. ((x.0, x.1), tokens x.2)) result ((csv_rule table columns quorum).read (tokens at.entry)) }
+fn csv(alloc: Global, at: Cursor<'_>) -> Result<(Offered, usize, Cursor<'_>), ReadError>
+    ensures { (table : List ℕ) (columns : Option (List (List ℕ))) (quorum : Option ℕ) → ReadsAs (λ x. ((insertion table columns quorum x.0, x.1), tokens x.2)) result ((csv_rule table columns quorum).read (tokens at.entry)) }
 {
     let at = keyword(at, b"format")?;
     let at = keyword(at, b"csv")?;
     let (bytes, at) = data(at)?;
     let (left, at) = end(at)?;
     let bytes = Vec::from_slice(alloc, bytes)?;
-    let rows = Offered::Csv(Blob::new(bytes));
-    Ok((
-        Act::Insert(Insert {
-            table,
-            columns,
-            quorum,
-            rows,
-        }),
-        left,
-        at,
-    ))
+    Ok((Offered::Csv(Blob::new(bytes)), left, at))
 }
 
 /// VALUES rows ; | FORMAT CSV data ;
 #[tactic(auto, unfolding(crate::specs::Acts::insert_rows))]
-fn insert_rows(
-    alloc: Global,
-    table: Name,
-    columns: Option<List<Name>>,
-    quorum: Option<u128>,
-    at: Cursor<'_>,
-) -> Result<(Act, usize, Cursor<'_>), ReadError>
-    ensures { ReadsAs (λ x. ((x.0, x.1), tokens x.2)) result ((insert_rows_rule table columns quorum).read (tokens at.entry)) }
+fn insert_rows(alloc: Global, at: Cursor<'_>) -> Result<(Offered, usize, Cursor<'_>), ReadError>
+    ensures { (table : List ℕ) (columns : Option (List (List ℕ))) (quorum : Option ℕ) → ReadsAs (λ x. ((insertion table columns quorum x.0, x.1), tokens x.2)) result ((insert_rows_rule table columns quorum).read (tokens at.entry)) }
 {
     if is_keyword_next(at, b"values") {
-        return values(alloc, table, columns, quorum, at);
+        return values(alloc, at);
     }
-    csv(alloc, table, columns, quorum, at)
+    csv(alloc, at)
 }
 
 /// SETTINGS insert_quorum = number
@@ -215,18 +178,17 @@ fn quorum_setting(at: Cursor<'_>) -> Result<(u128, Cursor<'_>), ReadError>
 fn quorum_and_rows(
     alloc: Global,
     may_set: bool,
-    table: Name,
-    columns: Option<List<Name>>,
     at: Cursor<'_>,
-) -> Result<(Act, usize, Cursor<'_>), ReadError>
-    ensures { ReadsAs (λ x. ((x.0, x.1), tokens x.2)) result ((quorum_and_rows_rule may_set table columns).read (tokens at.entry)) }
+) -> Result<(Option<u128>, Offered, usize, Cursor<'_>), ReadError>
+    ensures { (table : List ℕ) (columns : Option (List (List ℕ))) → ReadsAs (λ x. ((insertion table columns x.0 x.1, x.2), tokens x.3)) result ((quorum_and_rows_rule may_set table columns).read (tokens at.entry)) }
 {
     if may_set && is_keyword_next(at, b"settings") {
         let (quorum, at) = quorum_setting(at)?;
-        let (act, left, at) = insert_rows(alloc, table, columns, Some(quorum), at)?;
-        return Ok((act, left, at));
+        let (rows, left, at) = insert_rows(alloc, at)?;
+        return Ok((Some(quorum), rows, left, at));
     }
-    insert_rows(alloc, table, columns, None, at)
+    let (rows, left, at) = insert_rows(alloc, at)?;
+    Ok((None, rows, left, at))
 }
 
 /// table [ ( names ) ] and the rows.
@@ -236,8 +198,14 @@ fn into(alloc: Global, may_set: bool, at: Cursor<'_>) -> Result<(Act, usize, Cur
 {
     let (table, at) = name(alloc, at)?;
     let (columns, at) = some_names(alloc, at)?;
-    let (act, left, at) = quorum_and_rows(alloc, may_set, table, columns, at)?;
-    Ok((act, left, at))
+    let (quorum, rows, left, at) = quorum_and_rows(alloc, may_set, at)?;
+    let insert = Insert {
+        table,
+        columns,
+        quorum,
+        rows,
+    };
+    Ok((Act::Insert(insert), left, at))
 }
 
 /// TABLE table and so on.
