@@ -1,10 +1,9 @@
-ghost use Rattle.std.specs.Prelude.{◌≡◌, ◌↔◌, IsTrue, IfOk};
+ghost use Rattle.std.specs.Prelude.{◌≡◌, ◌↔◌, IsTrue};
 
 use crate::cmp::Cmp;
 use crate::literal::Literal;
 use crate::name::Name;
 use rmt_list::{Boxed, Equals};
-use std::alloc::{AllocError, Global};
 
 /// A filter as a statement writes it.
 #[derive(Debug, Drop)]
@@ -18,37 +17,6 @@ pub enum Filter {
     Both(Boxed<Filter>, Boxed<Filter>),
     Either(Boxed<Filter>, Boxed<Filter>),
     Not(Boxed<Filter>),
-}
-
-impl Filter {
-    /// Returns a copy.
-    pub fn copy(&self, alloc: Global) -> Result<Filter, AllocError>
-        ensures { IfOk result (λ other. other ≡ self.now) }
-    {
-        match self {
-            Filter::Test {
-                column,
-                cmp,
-                literal,
-            } => Ok(Filter::Test {
-                column: column.copy()?,
-                cmp: *cmp,
-                literal: literal.copy()?,
-            }),
-            Filter::Both(first, second) => {
-                let (first, second) = (first.get().copy(alloc)?, second.get().copy(alloc)?);
-                Ok(Filter::Both(Boxed::new(alloc, first)?, Boxed::new(alloc, second)?))
-            }
-            Filter::Either(first, second) => {
-                let (first, second) = (first.get().copy(alloc)?, second.get().copy(alloc)?);
-                Ok(Filter::Either(Boxed::new(alloc, first)?, Boxed::new(alloc, second)?))
-            }
-            Filter::Not(filter) => {
-                let filter = filter.get().copy(alloc)?;
-                Ok(Filter::Not(Boxed::new(alloc, filter)?))
-            }
-        }
-    }
 }
 
 impl Equals for Filter {

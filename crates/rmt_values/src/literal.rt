@@ -24,19 +24,6 @@ pub enum Literal {
 }
 
 impl Literal {
-    /// Returns a copy.
-    pub fn copy(&self) -> Result<Literal, AllocError>
-        ensures { IfOk result (λ other. other ≡ self.now) }
-    {
-        match self {
-            Literal::Number { minus, size } => Ok(Literal::Number {
-                minus: *minus,
-                size: *size,
-            }),
-            Literal::Text(text) => Ok(Literal::Text(text.copy()?)),
-        }
-    }
-
     /// Its value in a column of this type, if it has one there. At an error no memory was left.
     pub fn value_in(&self, alloc: Global, kind: Kind) -> Result<Option<Value>, AllocError>
         ensures ok { IfOk result (λ o. o ≡ literal_value kind self.now) }
