@@ -2,7 +2,7 @@ use rmt_names::PartName;
 use rmt_reply::Refusal;
 
 /// What became of one partition.
-#[derive(Debug, Drop)]
+#[derive(Drop)]
 pub(crate) enum Optimized {
     /// It has this part alone.
     Name(PartName),

@@ -1,7 +1,7 @@
 use rmt_reply::{Piece, Refusal};
 
 /// What became of one block.
-#[derive(Debug, Drop)]
+#[derive(Drop)]
 pub(crate) enum Outcome {
     /// It was accepted, or is a duplicate.
     Inserted(Piece),

@@ -6,7 +6,7 @@ use rmt_names::{PartName, PartitionId};
 use rmt_query::Tuple;
 
 /// The reply of a statement.
-#[derive(Debug, Drop)]
+#[derive(Drop)]
 pub enum Line {
     /// It was done.
     Okay,

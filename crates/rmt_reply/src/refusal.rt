@@ -2,7 +2,7 @@ use rmt_names::PartName;
 use rmt_values::{Limit, Name, ReplicaId};
 
 /// Why a statement was refused.
-#[derive(Debug, Drop)]
+#[derive(Drop)]
 pub enum Refusal {
     /// The bytes are of no statement form; `offset` is the place of the first token that can't
     /// follow.

@@ -151,32 +151,31 @@ fn push_refusal(alloc: Global, out: &mut Vec<u8>, refusal: &Refusal) -> Result<(
     ensures { OnOk result (out.new.items ≡ out.old.items ++ refusal_text refusal.now) }
 {
     match refusal {
-        Refusal::Syntax { offset } => push_with_number(alloc, out, b"1 Syntax ", *offset as u128)?,
-        Refusal::UnknownTable(name) => push_with_name(out, b"2 UnknownTable ", name)?,
-        Refusal::TableExists(name) => push_with_name(out, b"3 TableExists ", name)?,
-        Refusal::UnknownReplica(name) => push_with_name(out, b"4 UnknownReplica ", name)?,
-        Refusal::UnknownColumn(name) => push_with_name(out, b"5 UnknownColumn ", name)?,
-        Refusal::WrongType(name) => push_with_name(out, b"6 WrongType ", name)?,
-        Refusal::BadRow(row) => push_with_number(alloc, out, b"7 BadRow ", u128::from(*row))?,
-        Refusal::KeyColumn(name) => push_with_name(out, b"8 KeyColumn ", name)?,
-        Refusal::ReplicaDown(id) => push_with_replica(alloc, out, b"9 ReplicaDown ", *id)?,
-        Refusal::ReplicaUp(id) => push_with_replica(alloc, out, b"10 ReplicaUp ", *id)?,
-        Refusal::FetchesStopped(id) => push_with_replica(alloc, out, b"11 FetchesStopped ", *id)?,
+        Refusal::Syntax { offset } => push_with_number(alloc, out, b"1 Syntax ", *offset as u128),
+        Refusal::UnknownTable(name) => push_with_name(out, b"2 UnknownTable ", name),
+        Refusal::TableExists(name) => push_with_name(out, b"3 TableExists ", name),
+        Refusal::UnknownReplica(name) => push_with_name(out, b"4 UnknownReplica ", name),
+        Refusal::UnknownColumn(name) => push_with_name(out, b"5 UnknownColumn ", name),
+        Refusal::WrongType(name) => push_with_name(out, b"6 WrongType ", name),
+        Refusal::BadRow(row) => push_with_number(alloc, out, b"7 BadRow ", u128::from(*row)),
+        Refusal::KeyColumn(name) => push_with_name(out, b"8 KeyColumn ", name),
+        Refusal::ReplicaDown(id) => push_with_replica(alloc, out, b"9 ReplicaDown ", *id),
+        Refusal::ReplicaUp(id) => push_with_replica(alloc, out, b"10 ReplicaUp ", *id),
+        Refusal::FetchesStopped(id) => push_with_replica(alloc, out, b"11 FetchesStopped ", *id),
         Refusal::TooFewLive { live, need } => {
-            push_with_numbers(alloc, out, b"12 TooFewLive ", *live, *need)?
+            push_with_numbers(alloc, out, b"12 TooFewLive ", *live, *need)
         }
-        Refusal::QuorumPending(name) => push_with_part(alloc, out, b"13 QuorumPending ", name)?,
-        Refusal::NotInQuorum(name) => push_with_part(alloc, out, b"14 NotInQuorum ", name)?,
+        Refusal::QuorumPending(name) => push_with_part(alloc, out, b"13 QuorumPending ", name),
+        Refusal::NotInQuorum(name) => push_with_part(alloc, out, b"14 NotInQuorum ", name),
         Refusal::QuorumUnmet { have, need } => {
-            push_with_numbers(alloc, out, b"15 QuorumUnmet ", *have, *need)?
+            push_with_numbers(alloc, out, b"15 QuorumUnmet ", *have, *need)
         }
-        Refusal::Unmergeable { left, right } => push_unmergeable(alloc, out, left, right)?,
-        Refusal::UnknownMutation(id) => push_with_number(alloc, out, b"17 UnknownMutation ", *id)?,
-        Refusal::LimitReached { limit, value } => push_limit_reached(alloc, out, *limit, *value)?,
-        Refusal::NoSource { part, replica } => push_no_source(alloc, out, part, *replica)?,
-        Refusal::DoubleColumn(name) => push_with_name(out, b"20 DoubleColumn ", name)?,
+        Refusal::Unmergeable { left, right } => push_unmergeable(alloc, out, left, right),
+        Refusal::UnknownMutation(id) => push_with_number(alloc, out, b"17 UnknownMutation ", *id),
+        Refusal::LimitReached { limit, value } => push_limit_reached(alloc, out, *limit, *value),
+        Refusal::NoSource { part, replica } => push_no_source(alloc, out, part, *replica),
+        Refusal::DoubleColumn(name) => push_with_name(out, b"20 DoubleColumn ", name),
     }
-    Ok(())
 }
 
 /// Adds the reply of a refused statement.

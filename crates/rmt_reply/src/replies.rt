@@ -94,21 +94,20 @@ fn push_line(alloc: Global, out: &mut Vec<u8>, line: &Line) -> Result<(), AllocE
     ensures { OnOk result (out.new.items ≡ out.old.items ++ printed line.now) }
 {
     match line {
-        Line::Okay => push_text(out, b"ok\n")?,
-        Line::Inserted { pieces, refused } => push_inserted(alloc, out, pieces, refused)?,
-        Line::Rows(rows) => push_answer(alloc, out, rows)?,
-        Line::Read { parts, rows } => push_read(alloc, out, parts, rows)?,
-        Line::Granules(granules) => push_counted_granules(alloc, out, granules)?,
-        Line::Mutation(id) => push_mutation(alloc, out, b"mutation ", *id)?,
-        Line::Dropped { partition, below } => push_dropped(alloc, out, *partition, *below)?,
-        Line::Optimized { names, refused } => push_optimized(alloc, out, names, refused)?,
-        Line::Done(id) => push_mutation(alloc, out, b"done ", *id)?,
-        Line::Ran(turns) => push_ran(alloc, out, *turns)?,
-        Line::Parts(names) => push_names_line(alloc, out, names)?,
-        Line::Digests(digests) => push_digests(alloc, out, digests)?,
-        Line::Refused(cause) => push_refused(alloc, out, cause)?,
+        Line::Okay => push_text(out, b"ok\n"),
+        Line::Inserted { pieces, refused } => push_inserted(alloc, out, pieces, refused),
+        Line::Rows(rows) => push_answer(alloc, out, rows),
+        Line::Read { parts, rows } => push_read(alloc, out, parts, rows),
+        Line::Granules(granules) => push_counted_granules(alloc, out, granules),
+        Line::Mutation(id) => push_mutation(alloc, out, b"mutation ", *id),
+        Line::Dropped { partition, below } => push_dropped(alloc, out, *partition, *below),
+        Line::Optimized { names, refused } => push_optimized(alloc, out, names, refused),
+        Line::Done(id) => push_mutation(alloc, out, b"done ", *id),
+        Line::Ran(turns) => push_ran(alloc, out, *turns),
+        Line::Parts(names) => push_names_line(alloc, out, names),
+        Line::Digests(digests) => push_digests(alloc, out, digests),
+        Line::Refused(cause) => push_refused(alloc, out, cause),
     }
-    Ok(())
 }
 
 /// Prints a reply. At an error no memory was left.
