@@ -2,7 +2,7 @@ use crate::applied::Applied;
 use crate::step_refused::StepRefused;
 
 /// The reply to an event. A cluster stores it beside the event.
-#[derive(Clone, Copy, Debug, PartialEq, Eq)]
+#[derive(Clone, Copy, PartialEq, Eq)]
 pub enum Reply {
     /// The number of the attempt, and that of its block.
     Attempt { attempt: u32, number: u32 },

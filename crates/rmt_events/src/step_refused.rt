@@ -2,7 +2,7 @@ use rmt_names::PartName;
 use rmt_values::Limit;
 
 /// Why an event was refused.
-#[derive(Clone, Copy, Debug, PartialEq, Eq)]
+#[derive(Clone, Copy, PartialEq, Eq)]
 pub enum StepRefused {
     /// The replica has no session.
     NoSession,
