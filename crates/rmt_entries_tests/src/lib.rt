@@ -1,4 +1,4 @@
-//! Tests of part names, marks, blocks, parts and log entries, which need public calls alone.
+//! Tests of part names, blocks, parts and log entries, which need public calls alone.
 #![tactic(auto)]
 
 #[cfg(test)]
@@ -10,4 +10,4 @@ mod names;
 #[cfg(test)]
 mod parts;
 #[cfg(test)]
-mod queue;
+mod tables;

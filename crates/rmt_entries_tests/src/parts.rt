@@ -1,9 +1,16 @@
-//! Parts as bytes, and bytes that are no part's.
+//! Parts with their bytes.
+ghost use Rattle.std.specs.Prelude.{◌≡◌, true};
+ghost use Rattle.std.specs.List.{All};
+ghost use Rattle.rmt_values.specs.Rows.{fits};
+ghost use Rattle.rmt_columns.specs.RowsByColumn.{kinds_in};
+
+use crate::tables::Datum::{Int, Text, UInt};
+use crate::tables::Table;
 use rmt_columns::Rows;
-use rmt_format::{DecodeError, decode, digest_of, encode};
+use rmt_format::{decode, encode};
 use rmt_granules::from_unsorted_rows;
-use rmt_values::{Blob, Column, Kind, Name, Row, Schema, Value};
-use std::alloc::{AllocError, Global};
+use rmt_values::{Kind, Schema};
+use std::alloc::Global;
 use std::test::Fail;
 
 // Bytes written out field by field, each with what `sha256sum` writes for those before.
@@ -33,136 +40,69 @@ const THREE: [u8; 105] = [
     0xc1, 0x30, 0xb2, 0x5b, 0x32, 0x33, 0xd5, 0xd9, 0xf7,
 ];
 
-/// A table of columns of these names and types, ordered by the column `key`.
-fn schema_of(
-    alloc: Global,
-    columns: &[(u8, Kind)],
-    key: u8,
-    granularity: u32,
-) -> Result<Schema, Fail> {
-    let mut made = Vec::new(alloc);
-    for (name, kind) in columns {
-        let name = Name::from_slice(alloc, &[*name])?;
-        made.push(Column { name, kind: *kind })?;
-    }
-    let key = vec![in alloc; Name::from_slice(alloc, &[key])?]?;
-    match Schema::new(alloc, made, key, None, granularity, 100) {
-        Ok(schema) => Ok(schema),
-        Err(_) => Err("no schema".into()),
-    }
-}
-
-/// A row for each of these numbers.
-fn rows_of(alloc: Global, numbers: &[u64]) -> Result<Vec<Row>, AllocError> {
-    let mut rows = Vec::new(alloc);
-    for number in numbers {
-        rows.push(Row::new(vec![in alloc; Value::UInt(*number)]?))?;
-    }
-    Ok(rows)
-}
-
-/// A row of a number and a String.
-fn text_row(alloc: Global, number: i64, text: &[u8]) -> Result<Row, AllocError> {
-    let text = Value::Text(Blob::new(Vec::from_slice(alloc, text)?));
-    Ok(Row::new(vec![in alloc; Value::Int(number), text]?))
-}
+const PARTS: &[(Table, &[u8])] = &[
+    (
+        Table {
+            columns: &[(b'c', Kind::UInt64)],
+            key: b"c",
+            granularity: 8192,
+            rows: &[&[UInt(8)], &[UInt(7)]],
+        },
+        &SEVEN_EIGHT,
+    ),
+    (
+        Table {
+            columns: &[(b'c', Kind::UInt64)],
+            key: b"c",
+            granularity: 8192,
+            rows: &[],
+        },
+        &NO_ROWS,
+    ),
+    (
+        Table {
+            columns: &[(b'a', Kind::Int64), (b'b', Kind::Text)],
+            key: b"b",
+            granularity: 2,
+            rows: &[
+                &[Int(1), Text(b"yz")],
+                &[Int(-2), Text(b"")],
+                &[Int(5), Text(b"x")],
+            ],
+        },
+        &THREE,
+    ),
+];
 
 /// The bytes of the part of these rows.
-fn bytes_of(alloc: Global, rows: &[Row], schema: &Schema) -> Result<Vec<u8>, Fail> {
-    let Some(rows) = Rows::of_rows(alloc, rows, schema)? else {
-        return Err("the rows don't fit".into());
-    };
-    let part = from_unsorted_rows(alloc, &rows, schema)?;
+fn bytes_of(alloc: Global, rows: &Rows, schema: &Schema) -> Result<Vec<u8>, Fail>
+    requires fit { All (λ row. fits schema.now.columns row ≡ true) rows.now.rows }
+    requires kinds { rows.now.kinds ≡ kinds_in schema.now.columns }
+{
+    let part = from_unsorted_rows(alloc, rows, schema)?;
     if part.rows() >= 1 << 32 {
         return Err("there are too many rows".into());
     }
-    let bytes = encode(alloc, &part, schema)?;
-    Ok(bytes)
+    Ok(encode(alloc, &part, schema)?)
 }
 
-/// How many rows the part of these bytes has, where they are a part's.
-fn rows_in(alloc: Global, bytes: &[u8], schema: &Schema) -> Result<Option<usize>, DecodeError> {
-    match decode(alloc, bytes, schema) {
-        Ok(part) => Ok(Some(part.rows())),
-        Err(DecodeError::NotAPart) => Ok(None),
-        Err(DecodeError::Memory) => Err(DecodeError::Memory),
+/// Whether the part of a table's rows has these bytes, which are decoded as one of as many rows.
+fn is_part(alloc: Global, table: &Table, bytes: &[u8]) -> Result<bool, Fail> {
+    let schema = table.schema(alloc)?;
+    let rows = table.rows(alloc, &schema)?;
+    if bytes_of(alloc, &rows, &schema)?.as_slice() != bytes {
+        return Ok(false);
     }
-}
-
-/// Whether a part has these bytes with the one at `i` changed.
-fn is_part_with(alloc: Global, bytes: &[u8], i: usize, schema: &Schema) -> Result<bool, Fail> {
-    let mut changed = Vec::from_slice(alloc, bytes)?;
-    if let Some(byte) = changed.get_mut(i) {
-        *byte ^= 1;
-    }
-    match rows_in(alloc, &changed, schema) {
-        Ok(rows) => Ok(rows.is_some()),
-        Err(_) => Err("no memory".into()),
+    match decode(alloc, bytes, &schema) {
+        Ok(part) => Ok(part.rows() == rows.len()),
+        Err(_) => Ok(false),
     }
 }
 
 #[test]
 fn parts_have_these_bytes(rt: HostRuntime) -> Result<(), Fail> {
-    let alloc = rt.alloc();
-    let one = schema_of(alloc, &[(b'c', Kind::UInt64)], b'c', 8192)?;
-    let two = schema_of(alloc, &[(b'a', Kind::Int64), (b'b', Kind::Text)], b'b', 2)?;
-    let texts = vec![in alloc;
-        text_row(alloc, 1, b"yz")?,
-        text_row(alloc, -2, b"")?,
-        text_row(alloc, 5, b"x")?,
-    ]?;
-    assert_eq!(rt;
-        bytes_of(alloc, &rows_of(alloc, &[8, 7])?, &one)?.as_slice(),
-        SEVEN_EIGHT.as_slice()
-    );
-    assert_eq!(rt; bytes_of(alloc, &[], &one)?.as_slice(), NO_ROWS.as_slice());
-    assert_eq!(rt; bytes_of(alloc, &texts, &two)?.as_slice(), THREE.as_slice());
-    let cases: [(&[u8], &Schema, usize); 3] = [
-        (&SEVEN_EIGHT, &one, 2),
-        (&NO_ROWS, &one, 0),
-        (&THREE, &two, 3),
-    ];
-    for (bytes, schema, rows) in cases {
-        assert!(rt; rows_in(alloc, bytes, schema) == Ok(Some(rows)));
-        for i in 0..bytes.len() {
-            assert!(rt; !is_part_with(alloc, bytes, i, schema)?);
-            assert!(rt; rows_in(alloc, &bytes[..i], schema) == Ok(None));
-        }
-        let mut longer = Vec::from_slice(alloc, bytes)?;
-        longer.push(0)?;
-        assert!(rt; rows_in(alloc, &longer, schema) == Ok(None));
-    }
-    assert!(rt; rows_in(alloc, &SEVEN_EIGHT, &two) == Ok(None));
-    Ok(())
-}
-
-#[test]
-fn other_spellings_are_no_part(rt: HostRuntime) -> Result<(), Fail> {
-    let alloc = rt.alloc();
-    let one = schema_of(alloc, &[(b'c', Kind::UInt64)], b'c', 8192)?;
-    let (body, _) = SEVEN_EIGHT.split_at(54);
-    // Rows that fall, 3 rows, 2 granules, another mark, another granularity, no granule, another column's name, another type,
-    // another version, no key: each with its own digest.
-    let changes: [(usize, u8); 10] = [
-        (37, 9),
-        (25, 3),
-        (29, 2),
-        (53, 8),
-        (21, 1),
-        (29, 0),
-        (13, b'd'),
-        (10, 2),
-        (7, b'2'),
-        (15, 0),
-    ];
-    for (at, byte) in changes {
-        let mut bytes = Vec::from_slice(alloc, body)?;
-        if let Some(there) = bytes.get_mut(at) {
-            *there = byte;
-        }
-        let digest = digest_of(&bytes);
-        bytes.extend_from_slice(&digest)?;
-        assert!(rt; rows_in(alloc, &bytes, &one) == Ok(None));
+    for (table, bytes) in PARTS {
+        assert!(rt; is_part(rt.alloc(), table, bytes)?);
     }
     Ok(())
 }
