@@ -1,4 +1,4 @@
--- The others ask for a merge, which none of them can do before its block can be had.
+-- The replicas that are up ask for a merge, which none of them can do before the block of the third one can be had.
 REPLICAS 3;
 CREATE TABLE t (c UInt64) ENGINE = ReplicatedMergeTree ORDER BY c;
 INSERT INTO t VALUES (1);

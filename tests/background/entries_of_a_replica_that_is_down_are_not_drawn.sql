@@ -1,4 +1,4 @@
--- Its marks stay until it is up again: two of the turns would do an entry of it, find none, and draw no place.
+-- The marks of a replica that is down stay until it is up again: two of the turns would do an entry of it, find none, and draw no place.
 CREATE TABLE t (c UInt64) ENGINE = ReplicatedMergeTree ORDER BY c;
 INSERT INTO t VALUES (1);
 INSERT INTO t VALUES (2);

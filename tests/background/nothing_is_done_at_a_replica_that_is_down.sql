@@ -1,4 +1,4 @@
--- Background events leave it as it is, and bring its blocks to no other replica.
+-- Background events leave a replica that is down as it is, and bring its blocks to no other one.
 CREATE TABLE t (c UInt64) ENGINE = ReplicatedMergeTree ORDER BY c;
 INSERT INTO t VALUES (1);
 @r2 INSERT INTO t VALUES (2);

@@ -9,4 +9,4 @@ RESTART r1;
 CHECK TABLE t;
 CHECK t;
 CHECK TABLE t FINAL;
--- What comes before it, and after a restart the same digest.
+-- Unknown tables and replicas come first, then a replica that is down; after its restart it has the same digest.

@@ -1,4 +1,4 @@
--- A drop of nothing has no number. The block that comes after one of all has the next number, and is known then.
+-- A drop of nothing has no number. A drop of all forgets the blocks: one of them is inserted again, and is known from then on.
 CREATE TABLE t (a UInt64) ENGINE = ReplicatedMergeTree ORDER BY a;
 ALTER TABLE t DROP PARTITION tuple();
 INSERT INTO t VALUES (1);

@@ -1,4 +1,4 @@
--- None of them changes anything: no number is taken, and no id.
+-- What a replica that is down refuses changes nothing: no number is taken, and no id.
 CREATE TABLE t (k UInt64, c UInt64) ENGINE = ReplicatedMergeTree ORDER BY k;
 KILL r2;
 @r2 INSERT INTO t VALUES (1,1);

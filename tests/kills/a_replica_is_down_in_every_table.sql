@@ -1,4 +1,4 @@
--- It is down in every table, and in one that is made meanwhile.
+-- A replica is down in every table, and in one that is made meanwhile.
 CREATE TABLE t (c UInt64) ENGINE = ReplicatedMergeTree ORDER BY c;
 INSERT INTO t VALUES (1);
 KILL r2;

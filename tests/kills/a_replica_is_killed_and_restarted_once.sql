@@ -1,4 +1,4 @@
--- Of a replica that there is, which is up, and which is down. Other refusals come as ever.
+-- A KILL is of a replica that is up, and a RESTART of one that is down. Other refusals come as ever.
 CREATE TABLE t (c UInt64) ENGINE = ReplicatedMergeTree ORDER BY c;
 @r9 SELECT c FROM t;
 SELECT c FROM u;

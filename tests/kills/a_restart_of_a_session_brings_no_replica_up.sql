@@ -1,4 +1,4 @@
--- A restart of its session in one table is a statement that is sent to it, and doesn't bring it up.
+-- A restart of its session in one table is a statement that is sent to the replica, and doesn't bring it up.
 CREATE TABLE t (c UInt64) ENGINE = ReplicatedMergeTree ORDER BY c;
 KILL r2;
 @r2 SYSTEM RESTART REPLICA t;

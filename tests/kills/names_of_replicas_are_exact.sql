@@ -12,4 +12,4 @@ RESTART r1 r2;
 CREATE TABLE t (c UInt64) ENGINE = ReplicatedMergeTree ORDER BY c;
 KILL r2;
 restart r2;
--- Keywords are read in any case and names aren't. Neither statement is sent to a replica.
+-- Keywords are read in any case and names aren't. Neither KILL nor RESTART is sent to a replica.

@@ -1,4 +1,4 @@
--- Each kind of statement, an INSERT without rows too.
+-- Each kind of statement is refused by a replica that is down, an INSERT without rows too.
 CREATE TABLE t (c UInt64) ENGINE = ReplicatedMergeTree ORDER BY c;
 KILL r2;
 @r2 INSERT INTO t VALUES (1);

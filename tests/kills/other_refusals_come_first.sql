@@ -1,4 +1,4 @@
--- Tables, replicas, columns, rows and types come before it.
+-- Tables, replicas, columns, rows and types are looked at before whether the replica is down.
 CREATE TABLE t (c UInt64) ENGINE = ReplicatedMergeTree ORDER BY c;
 KILL r2;
 @r2 SELECT c FROM u;

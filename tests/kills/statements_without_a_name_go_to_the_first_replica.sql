@@ -1,4 +1,4 @@
--- A statement without a name goes to the first one. A block that is known there isn't looked for.
+-- A statement without a name goes to the first replica, also if that is down. The other one knows the block and hasn't it.
 CREATE TABLE t (c UInt64) ENGINE = ReplicatedMergeTree ORDER BY c;
 INSERT INTO t VALUES (1);
 KILL r1;

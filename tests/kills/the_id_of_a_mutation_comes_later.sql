@@ -1,4 +1,4 @@
--- The id of a mutation comes after it.
+-- Whether the replica is down is looked at before the id of a mutation.
 CREATE TABLE t (k UInt64, c UInt64) ENGINE = ReplicatedMergeTree ORDER BY k;
 KILL r2;
 @r2 WAIT MUTATION t 0;

@@ -1,4 +1,4 @@
--- A session has four tables.
+-- There are at most four tables.
 CREATE TABLE a (c UInt64) ENGINE = ReplicatedMergeTree ORDER BY c;
 CREATE TABLE b (c UInt64) ENGINE = ReplicatedMergeTree ORDER BY c;
 CREATE TABLE c (c UInt64) ENGINE = ReplicatedMergeTree ORDER BY c;

@@ -1,4 +1,4 @@
--- What is a partition without a rule, and what with one.
+-- Which words are a partition of a table without a rule, and of one with a rule.
 CREATE TABLE t (c UInt64) ENGINE = ReplicatedMergeTree ORDER BY c;
 CREATE TABLE p (k UInt64) ENGINE = ReplicatedMergeTree PARTITION BY k ORDER BY k;
 ALTER TABLE t DROP PARTITION 0;

@@ -1,4 +1,4 @@
--- It keeps its parts. What it did of the log it looks at again, and brings nothing back that is gone.
+-- A replica that was down keeps its parts. What it did of the log it looks at again, and brings nothing back that is gone.
 CREATE TABLE t (k UInt64, c UInt64) ENGINE = ReplicatedMergeTree ORDER BY k;
 INSERT INTO t VALUES (1,1);
 @r2 INSERT INTO t VALUES (2,2);

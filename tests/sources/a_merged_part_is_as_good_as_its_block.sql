@@ -1,4 +1,4 @@
--- A part that covers the block, here a merged one of the third replica, is as good.
+-- A part that covers the block is as good: here a merged one of the third replica.
 REPLICAS 3;
 CREATE TABLE t (c UInt64) ENGINE = ReplicatedMergeTree ORDER BY c;
 INSERT INTO t VALUES (1);

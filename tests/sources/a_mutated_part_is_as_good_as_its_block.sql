@@ -1,4 +1,4 @@
--- So is a mutated one, to which a later mutation is applied as the rows are read.
+-- A mutated part is as good as its block: a later mutation is applied to it as the rows are read.
 REPLICAS 3;
 CREATE TABLE t (k UInt64, c UInt64) ENGINE = ReplicatedMergeTree ORDER BY k;
 @r3 INSERT INTO t VALUES (1,1);

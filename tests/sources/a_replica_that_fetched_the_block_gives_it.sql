@@ -1,4 +1,4 @@
--- Another replica that fetched the block before has it too, unless it is down itself.
+-- Another replica that fetched the block before gives it, unless it is down itself.
 REPLICAS 3;
 CREATE TABLE t (c UInt64) ENGINE = ReplicatedMergeTree ORDER BY c;
 INSERT INTO t VALUES (1);

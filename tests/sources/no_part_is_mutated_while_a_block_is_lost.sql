@@ -1,4 +1,4 @@
--- A WAIT mutates nothing then. An id that there isn't comes first.
+-- A WAIT mutates nothing while a block is lost. An id that there isn't comes first.
 CREATE TABLE t (k UInt64, c UInt64) ENGINE = ReplicatedMergeTree ORDER BY k;
 @r2 INSERT INTO t VALUES (2,1);
 INSERT INTO t VALUES (1,1);

@@ -1,4 +1,4 @@
--- An OPTIMIZE merges nothing then, also in another partition. A word that is no partition comes first.
+-- An OPTIMIZE merges nothing while a block is lost, also in another partition. A word that is no partition comes first.
 CREATE TABLE p (k UInt64, c UInt64) ENGINE = ReplicatedMergeTree PARTITION BY k ORDER BY c;
 INSERT INTO p VALUES (1,1),(2,1);
 @r2 INSERT INTO p VALUES (2,2),(3,1);

@@ -1,4 +1,4 @@
--- A statement that fetches nothing isn't refused so.
+-- A statement that fetches nothing is played while a block is lost.
 CREATE TABLE t (c UInt64) ENGINE = ReplicatedMergeTree ORDER BY c;
 INSERT INTO t VALUES (1);
 KILL r1;

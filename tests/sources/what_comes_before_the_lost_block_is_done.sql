@@ -1,4 +1,4 @@
--- What comes before the block in the log is done and stays done, and what comes after it isn't.
+-- What comes before the lost block in the log is done and stays done, and what comes after it isn't.
 REPLICAS 3;
 CREATE TABLE t (c UInt64) ENGINE = ReplicatedMergeTree ORDER BY c;
 @r2 INSERT INTO t VALUES (1);
