@@ -22,3 +22,7 @@ token-next h now same tokens log e token is =
     is
     ∙ ap (λ (i : ℕ). record { place = i; value = e; cell = i }) (sym (length-entries tokens) ∙ ap length log)
     ∙ ap (λ (k : Held). next_token k e) same
+
+-- the token of an entry, by another word for that entry
+pub token-of : (tokens : List (Token Entry)) (t : Token Entry) (e f : Entry) → t ≡ record { place = length tokens; value = e; cell = length tokens } → e ≡ f → t ≡ record { place = length tokens; value = f; cell = length tokens }
+token-of tokens t e f q r = subst (λ (g : Entry). t ≡ record { place = length tokens; value = g; cell = length tokens }) r q

@@ -178,19 +178,16 @@ module _ (h : Held) (tokens : List (Token Entry)) (counts : Counts) (k : IsTable
           places = subst ArePlaced (sym more-is) (placed-more tokens token k.places (ap (λ (v : Token Entry). v.place) token-is ∙ ap length of ∙ length-entries tokens));
         }
 
--- the ops of a commit, as they are put together
-pub ops-of : (h : Held) {tokens : List (Token Entry)} {counts : Counts} (now : Held) → h ≡ now → IsTableTree h tokens counts → (lock : Lock) (e : Entry) → with_id lock.id.partition lock.id.digest (in_order now.schema.window now.log) ≡ None
-    → (path : Names) → path ≡ znode_path (nodes.Lock lock.id.partition lock.number) → (write : Op) → write ≡ op.Create entry_path (entry_bytes e) true None → (part : Name) → part ≡ block_name lock.id.partition lock.number
+-- the ops that keep the id of a commit
+pub ids-of : (h : Held) {tokens : List (Token Entry)} {counts : Counts} (now : Held) → h ≡ now → IsTableTree h tokens counts → (lock : Lock) → with_id lock.id.partition lock.id.digest (in_order now.schema.window now.log) ≡ None
+    → (part : Name) → part ≡ block_name lock.id.partition lock.number
     → (window : ℕ) → window ≡ h.schema.window → (keep : List Op) → ((ks : List Placed) (count : ℕ) → HasKeptIds h.tree ks count → with_id lock.id.partition lock.id.digest ks ≡ None → counts.kept ≡ length ks → counts.kept ≤ window → keep ≡ keep_ops window ks lock.id.partition lock.id.digest part)
-    → (some : List Op) → some ≡ op.Delete path None ∷ write ∷ [] → (ops : List Op) → ops ≡ some ++ keep
-    → ops ≡ op.Delete (znode_path (nodes.Lock lock.id.partition lock.number)) None ∷ op.Create entry_path (entry_bytes e) true None ∷ keep_ops now.schema.window (in_order now.schema.window now.log) lock.id.partition lock.id.digest (block_name lock.id.partition lock.number)
-ops-of h {tokens} {counts} now q is lock e new path path-is write write-is part part-is window window-is keep keep-is some some-is ops ops-are =
-    subst (λ (w : Held). ops ≡ op.Delete (znode_path (nodes.Lock lock.id.partition lock.number)) None ∷ op.Create entry_path (entry_bytes e) true None ∷ keep_ops w.schema.window (in_order w.schema.window w.log) lock.id.partition lock.id.digest (block_name lock.id.partition lock.number)) q
-    (ops-are ∙ ap (λ (xs : List Op). xs ++ keep) some-is ∙ ap (λ (p : Names). op.Delete p None ∷ write ∷ keep) path-is ∙ ap (λ (o : Op). op.Delete (znode_path (nodes.Lock lock.id.partition lock.number)) None ∷ o ∷ keep) write-is
-    ∙ ap (λ (xs : List Op). op.Delete (znode_path (nodes.Lock lock.id.partition lock.number)) None ∷ op.Create entry_path (entry_bytes e) true None ∷ xs)
+    → keep ≡ keep_ops now.schema.window (in_order now.schema.window now.log) lock.id.partition lock.id.digest (block_name lock.id.partition lock.number)
+ids-of h {tokens} {counts} now q is lock new part part-is window window-is keep keep-is =
+    subst (λ (w : Held). keep ≡ keep_ops w.schema.window (in_order w.schema.window w.log) lock.id.partition lock.id.digest (block_name lock.id.partition lock.number)) q
     (keep-is (in_order h.schema.window h.log) (order_count h.schema.window h.log) (held-kept h is.held) (subst (λ (w : Held). with_id lock.id.partition lock.id.digest (in_order w.schema.window w.log) ≡ None) (sym q) new) is.counted.kept
     (let a = is.counted.kept in let b = window-most h.schema.window h.log in omega (arith, a, b, window-is))
-    ∙ ap (λ (w : ℕ). keep_ops w (in_order h.schema.window h.log) lock.id.partition lock.id.digest part) window-is ∙ ap (keep_ops h.schema.window (in_order h.schema.window h.log) lock.id.partition lock.id.digest) part-is))
+    ∙ ap (λ (w : ℕ). keep_ops w (in_order h.schema.window h.log) lock.id.partition lock.id.digest part) window-is ∙ ap (keep_ops h.schema.window (in_order h.schema.window h.log) lock.id.partition lock.id.digest) part-is)
 
 -- the table after a refusal that takes the lock
 pub after-refusal : (old new : Held) (lock : Lock) (x : CommitError) → TakesLock x → IsUnlocked old lock.id.partition lock.number new → AfterNoCommit old lock x new
@@ -200,3 +197,23 @@ after-refusal old new lock (commit.QuorumPending a) t u = u
 after-refusal old new lock (commit.Duplicate a) t u = u
 after-refusal old new lock (commit.LimitReached limit value) t u = u
 after-refusal old new lock commit.Memory t u = absurd t
+
+-- a table to which nothing was written, with other room for the numbers of its blocks
+pub unwritten : (h : Held) (tokens : List (Token Entry)) (counts : Counts) → IsTableTree h tokens counts → h.log ≡ entries tokens → (all : List (Token Entry)) → all ≡ tokens → (tree : TreeView) → tree ≡ h.tree → (numbers : List NumbersOf) → ((p : Option ℕ) → numbers_of numbers p ≡ numbers_of counts.numbers p)
+    → IsTableTree (record h { log = entries all; tree = tree }) all (record counts { numbers = numbers })
+unwritten h tokens counts k logged all all-is tree tree-is numbers numbers-are =
+    subst (λ (ts : List (Token Entry)). IsTableTree (record h { log = entries ts; tree = tree }) ts (record counts { numbers = numbers })) (sym all-is)
+    (subst (λ (t : TreeView). IsTableTree (record h { log = entries tokens; tree = t }) tokens (record counts { numbers = numbers })) (sym tree-is)
+    (subst (λ (log : List Entry). IsTableTree (record h { log = log }) tokens (record counts { numbers = numbers })) logged
+    (record {
+      held = k.held;
+      counted = record {
+        clients = k.counted.clients;
+        workers = k.counted.workers;
+        mutations = k.counted.mutations;
+        blocks = k.counted.blocks;
+        kept = k.counted.kept;
+        numbers = λ p. numbers-are p ∙ k.counted.numbers p;
+      };
+      places = k.places;
+    })))

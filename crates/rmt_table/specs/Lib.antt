@@ -6,3 +6,4 @@ pub mod TableTrees
 pub mod Refusals
 pub mod MutateEntries
 pub mod Choices
+pub mod MutationOps

@@ -58,7 +58,7 @@ pub(crate) fn entry_op(alloc: Global, entry: &Entry) -> Result<Op, AllocError>
 }
 
 /// The operation that writes the next entry of the log, alone. At an error no memory was left.
-pub(crate) fn entry_ops(alloc: Global, entry: &Entry) -> Result<Vec<Op>, AllocError>
+fn entry_ops(alloc: Global, entry: &Entry) -> Result<Vec<Op>, AllocError>
     requires in_range { EntryInRange entry.now }
     ensures { IfOk result (λ ops. ops.items ≡ entry_ops_of entry.now) }
 {
@@ -67,12 +67,43 @@ pub(crate) fn entry_ops(alloc: Global, entry: &Entry) -> Result<Vec<Op>, AllocEr
     Ok(ops)
 }
 
+/// The operation that writes this entry, the next one of the log. At an error no memory was left.
+pub(crate) fn write_op(alloc: Global, entry: Entry) -> Result<Op, AllocError>
+    requires in_range { EntryInRange entry }
+    ensures { IfOk result (λ made. made ≡ op.Create path_of_entries (entry_bytes entry) true None) }
+{
+    let write = entry_op(alloc, &entry)?;
+    Ok(write)
+}
+
 /// A number as decimal digits. At an error no memory was left.
 pub(crate) fn number_text(alloc: Global, number: u32) -> Result<Blob, AllocError>
     ensures { IfOk result (λ text. text ≡ decimal number) }
 {
     let digits = number.to_string(alloc)?;
     Ok(Blob::new(Vec::from_slice(alloc, digits.as_bytes())?))
+}
+
+/// Writes an entry, alone, and puts it into the log. Its token comes back.
+///
+/// At an error no memory was left, and tree and log are as they were.
+pub(crate) fn append_alone(
+    tree: &mut Tree,
+    log: &mut Vec<Seen<Entry>>,
+    alloc: Global,
+    entry: Entry,
+) -> Result<Seen<Entry>, AllocError>
+    requires in_range { EntryInRange entry }
+    requires fine { first_refusal tree.old (entry_ops_of entry) 0 ≡ None }
+    ensures tree { OnOk result (tree.new ≡ after_all tree.old (entry_ops_of entry)) }
+    ensures log { IfOk result (λ token. log.new.items ≡ log.old.items ++ token ∷ []) }
+    ensures token { IfOk result (λ token. token ≡ record { place = length log.old.items; value = entry; cell = length log.old.items }) }
+    ensures err_tree { OnErr result (tree.new ≡ tree.old) }
+    ensures err_log { OnErr result (log.new.items ≡ log.old.items) }
+{
+    let ops = entry_ops(alloc, &entry)?;
+    let token = append(tree, log, alloc, &ops, entry)?;
+    Ok(token)
 }
 
 /// Does the operations of an entry, and puts the entry into the log. Its token comes back.

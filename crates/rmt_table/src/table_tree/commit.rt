@@ -1,4 +1,4 @@
-ghost use Rattle.std.specs.Prelude.{◌≡◌, ◌∷◌, true, None, length, IfOk, IfErr, IfSome, OnOk};
+ghost use Rattle.std.specs.Prelude.{◌≡◌, ◌∷◌, true, None, length, [], IfOk, IfErr, IfSome, OnOk, OnErr};
 ghost use Rattle.rmt_tree.specs.Ops.{after_all};
 ghost use Rattle.rmt_tree.specs.declared.op.Op.TheVariants as op;
 ghost use Rattle.rmt_znodes.specs.declared.znode.Znode.TheVariants as ZnodeOf;
@@ -8,14 +8,15 @@ ghost use Rattle.rmt_table_model.specs.Kept.{in_order, with_id};
 ghost use Rattle.rmt_entries.specs.EntryBytes.{entry_bytes, EntryInRange};
 ghost use Rattle.rmt_entries.specs.declared.entry.Entry.TheVariants.{Get};
 ghost use Rattle.rmt_events.specs.TableCalls.{Commits, IsLocked};
-ghost use Rattle.rmt_table_model.specs.Held.{table_of};
+ghost use Rattle.rmt_table_model.specs.Held.{table_of, holders_in};
+ghost use Rattle.rmt_table_model.specs.Numbers.{IsLocked as IsHeldBy};
 ghost use Rattle.rmt_table_model.specs.Nodes.{commit_ops as commit_ops_of, keep_ops as keep_ops_of};
 ghost use Rattle.rmt_table.specs.TableTrees.{table_at, IsReplica, AfterNoCommit, kept_after as kept_after_of};
 ghost use Rattle.rmt_table.specs.Refusals.{NoCommit, IsAcceptable, TakesLock};
 
 use crate::commit_error::CommitError;
 use crate::lock::Lock;
-use crate::ops::{append, delete, entry_op};
+use crate::ops::{append, delete, write_op};
 use crate::table_tree::TableTree;
 use rmt_entries::Entry;
 use rmt_inserts::{keep_ops, kept};
@@ -31,6 +32,33 @@ fn kept_after(kept: u32, window: u32) -> u32
     ensures { result ≡ kept_after_of kept window }
 {
     if kept < window { kept + 1 } else { kept }
+}
+
+/// The entry of the block of a lock.
+fn entry_of(lock: &Lock, need: u32) -> Entry
+    ensures { result ≡ Get lock.now.id.partition lock.now.number lock.now.id.digest lock.now.replica need }
+{
+    Entry::Get {
+        partition: lock.id.partition,
+        number: lock.number,
+        digest: lock.id.digest,
+        source: lock.replica,
+        need,
+    }
+}
+
+/// The operations that remove a lock, whose path this is, and write the entry of its block. At an error no memory was left.
+fn block_ops(alloc: Global, lock: &Lock, path: Path, need: u32) -> Result<Vec<Op>, AllocError>
+    requires in_range { EntryInRange (Get lock.now.id.partition lock.now.number lock.now.id.digest lock.now.replica need) }
+    ensures { IfOk result (λ ops. ops.items ≡ op.Delete path None ∷ op.Create entry_path (entry_bytes (Get lock.now.id.partition lock.now.number lock.now.id.digest lock.now.replica need)) true None ∷ []) }
+{
+    let write = write_op(alloc, entry_of(lock, need))?;
+    let unlock = Op::Delete {
+        path,
+        version: None,
+    };
+    let ops = vec![in alloc; unlock, write]?;
+    Ok(ops)
 }
 
 impl TableTree {
@@ -70,20 +98,26 @@ impl TableTree {
         alloc: Global,
         lock: &Lock,
         path: Path,
-        entry: &Entry,
+        need: u32,
     ) -> Result<Vec<Op>, AllocError>
         requires path { path ≡ znode_path (ZnodeOf.Lock lock.now.id.partition lock.now.number) }
-        requires in_range { EntryInRange entry.now }
+        requires in_range { EntryInRange (Get lock.now.id.partition lock.now.number lock.now.id.digest lock.now.replica need) }
         requires unkept { with_id lock.now.id.partition lock.now.id.digest (in_order self.now.schema.window self.now.log) ≡ None }
-        ensures { IfOk result (λ ops. ops.items ≡ op.Delete (znode_path (ZnodeOf.Lock lock.now.id.partition lock.now.number)) None ∷ op.Create entry_path (entry_bytes entry.now) true None ∷ keep_ops_of self.now.schema.window (in_order self.now.schema.window self.now.log) lock.now.id.partition lock.now.id.digest (block_name_of lock.now.id.partition lock.now.number)) }
+        ensures { IfOk result (λ ops. ops.items ≡ op.Delete (znode_path (ZnodeOf.Lock lock.now.id.partition lock.now.number)) None ∷ op.Create entry_path (entry_bytes (Get lock.now.id.partition lock.now.number lock.now.id.digest lock.now.replica need)) true None ∷ keep_ops_of self.now.schema.window (in_order self.now.schema.window self.now.log) lock.now.id.partition lock.now.id.digest (block_name_of lock.now.id.partition lock.now.number)) }
+    {
+        let mut ops = block_ops(alloc, lock, path, need)?;
+        let mut keep = self.id_ops(alloc, lock)?;
+        ops.append(&mut keep)?;
+        Ok(ops)
+    }
+
+    /// The operations that keep the id of the block of a lock. At an error no memory was left.
+    fn id_ops(&self, alloc: Global, lock: &Lock) -> Result<Vec<Op>, AllocError>
+        requires unkept { with_id lock.now.id.partition lock.now.id.digest (in_order self.now.schema.window self.now.log) ≡ None }
+        ensures { IfOk result (λ ops. ops.items ≡ keep_ops_of self.now.schema.window (in_order self.now.schema.window self.now.log) lock.now.id.partition lock.now.id.digest (block_name_of lock.now.id.partition lock.now.number)) }
     {
         let part = block_name(lock.id.partition, lock.number);
-        let unlock = Op::Delete {
-            path,
-            version: None,
-        };
-        let write = entry_op(alloc, entry)?;
-        let mut keep = keep_ops(
+        let keep = keep_ops(
             &self.tree,
             alloc,
             &lock.id,
@@ -91,9 +125,7 @@ impl TableTree {
             self.schema.window(),
             self.kept,
         )?;
-        let mut ops = vec![in alloc; unlock, write]?;
-        ops.append(&mut keep)?;
-        Ok(ops)
+        Ok(keep)
     }
 
     /// Accepts the block of a lock: its entry and its id are written, and the lock goes. The entry's token comes back.
@@ -130,16 +162,36 @@ impl TableTree {
             delete(&mut self.tree, alloc, path)?;
             return Err(refused);
         }
-        let entry = Entry::Get {
-            partition: lock.id.partition,
-            number: lock.number,
-            digest: lock.id.digest,
-            source: lock.replica,
-            need,
-        };
+        let token = self.accept(alloc, lock, path, need, values)?;
+        Ok(token)
+    }
+
+    /// Accepts the block of a lock that is there, whose path this is, where nothing refuses the block.
+    ///
+    /// At an error no memory was left, and the table is as it was.
+    fn accept(
+        &mut self,
+        alloc: Global,
+        lock: &Lock,
+        path: Path,
+        need: u32,
+        values: u64,
+    ) -> Result<Seen<Entry>, AllocError>
+        requires here { IsReplica self.old lock.now.replica }
+        requires unasked { need ≡ 0 }
+        requires path { path ≡ znode_path (ZnodeOf.Lock lock.now.id.partition lock.now.number) }
+        requires locked { IsHeldBy (holders_in self.old.tree) lock.now.id.partition lock.now.number }
+        requires acceptable { IsAcceptable (table_at self.old) lock.now values }
+        ensures token { IfOk result (λ token. token ≡ record { place = length self.old.log; value = Get lock.now.id.partition lock.now.number lock.now.id.digest lock.now.replica need; cell = length self.old.log }) }
+        ensures commits { OnOk result (Commits (table_at self.old) lock.now.id.partition lock.now.number lock.now.id.digest lock.now.replica need values (table_at self.new)) }
+        ensures ops { OnOk result (self.new.tree ≡ after_all self.old.tree (commit_ops_of entry_bytes lock.now.id.partition lock.now.number lock.now.id.digest lock.now.replica need (table_of self.old))) }
+        ensures err { OnErr result (self.new ≡ self.old) }
+        ensures replicas { length self.new.sessions ≡ length self.old.sessions }
+    {
         is_id(&lock.id);
-        let ops = self.commit_ops(alloc, lock, path, &entry)?;
+        let ops = self.commit_ops(alloc, lock, path, need)?;
         self.numbers.reserve(alloc, lock.id.partition)?;
+        let entry = entry_of(lock, need);
         let token = append(&mut self.tree, &mut self.log, alloc, &ops, entry)?;
         self.numbers.push(lock.id.partition, self.blocks);
         self.clients += 1;

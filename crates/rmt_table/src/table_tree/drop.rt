@@ -2,6 +2,7 @@ ghost use Rattle.std.specs.Prelude.{◌≡◌, ◌<◌, ◌+◌, ◌∷◌, ◌+
 ghost use Rattle.std.specs.Option.{option_map};
 ghost use Rattle.std.specs.declared.option.Option.{Option};
 ghost use Rattle.rmt_tree.specs.declared.op.Op.{Op};
+ghost use Rattle.rmt_entries.specs.declared.entry.Entry.TheVariants.{DropRange};
 ghost use Rattle.rmt_tree.specs.declared.op.Op.TheVariants as op;
 ghost use Rattle.rmt_entries.specs.EntryBytes.{entry_bytes, EntryInRange};
 ghost use Rattle.rmt_znodes.specs.Znodes.{entry_path};
@@ -18,7 +19,7 @@ ghost use Rattle.rmt_table.specs.Refusals.{NoDrop};
 ghost use Rattle.rmt_table.specs.declared.change_error.ChangeError.TheVariants as change;
 
 use crate::change_error::ChangeError;
-use crate::ops::{append, entry_op};
+use crate::ops::{append, write_op};
 use crate::table_tree::TableTree;
 use rmt_entries::Entry;
 use rmt_inserts::{DropOps, drop_ops, number_ops};
@@ -28,7 +29,7 @@ use rmt_tree::Tree;
 use rmt_values::Limit;
 use std::alloc::{AllocError, Global};
 
-/// The operations that drop the numbers of a partition below its next one, which is this, and write the entry of the drop;
+/// The operations that drop the numbers of a partition below its next one, which is this, and write the entry of the drop,
 /// and how many kept ids go. `numbers` are the partition's numbers in the order of acceptance. At an error no memory was
 /// left.
 fn ops_of_drop(
@@ -36,22 +37,22 @@ fn ops_of_drop(
     alloc: Global,
     partition: PartitionId,
     number: u32,
-    entry: &Entry,
     numbers: &[u32],
 ) -> Result<DropOps, AllocError>
-    requires in_range { EntryInRange entry.now }
+    requires in_range { EntryInRange (DropRange partition number) }
     requires rising { Pairwise ◌<◌ numbers.now }
     requires kept { (ks : List Placed) × (count : ℕ) × HasKeptIds tree.now ks count × IncludeKept ks partition numbers.now }
     ensures ops { (next : Nexts) (holders : Holders) (ks : List Placed) (count : ℕ) → HasNumbers tree.now next holders → HasKeptIds tree.now ks count → next_of next partition ≡ Some number
         → IfOk result (λ d. (removals : List Op) × AreDropOps holders ks partition number removals
-        × (d.ops.items ≡ ops_of_number partition number ++ (removals ++ op.Create entry_path (entry_bytes entry.now) true None ∷ []))) }
+        × (d.ops.items ≡ ops_of_number partition number ++ (removals ++ op.Create entry_path (entry_bytes (DropRange partition number)) true None ∷ []))) }
     ensures forgotten { (ks : List Placed) (count : ℕ) → HasKeptIds tree.now ks count
         → IfOk result (λ d. d.forgotten + length (filter (outlives partition number) ks) ≡ length ks) }
 {
     let mut ops = number_ops(tree, alloc, partition)?;
     let mut dropped = drop_ops(tree, alloc, partition, number, numbers)?;
     ops.append(&mut dropped.ops)?;
-    ops.push(entry_op(alloc, entry)?)?;
+    let write = write_op(alloc, Entry::DropRange { partition, number })?;
+    ops.push(write)?;
     Ok(DropOps {
         ops,
         forgotten: dropped.forgotten,
@@ -80,10 +81,10 @@ impl TableTree {
         if let Some(error) = self.drop_refusal(number) {
             return Err(error);
         }
-        let entry = Entry::DropRange { partition, number };
-        let numbers = self.numbers.of(partition);
-        let drop = ops_of_drop(&self.tree, alloc, partition, number, &entry, numbers)?;
         self.partitions.reserve()?;
+        let numbers = self.numbers.of(partition);
+        let drop = ops_of_drop(&self.tree, alloc, partition, number, numbers)?;
+        let entry = Entry::DropRange { partition, number };
         let token = append(&mut self.tree, &mut self.log, alloc, &drop.ops, entry)?;
         self.partitions.take(partition);
         self.numbers.clear(partition);

@@ -5,7 +5,7 @@ ghost use Rattle.rmt_table.specs.Refusals.{NoMerge};
 
 use crate::counted::block_sum;
 use crate::merge_error::MergeError;
-use crate::ops::{append, entry_ops};
+use crate::ops::append_alone;
 use crate::table_tree::TableTree;
 use rmt_entries::Entry;
 use rmt_history::LogCopy;
@@ -80,8 +80,7 @@ impl TableTree {
             sources: List::new(Vec::from_slice(alloc, sources)?),
             count: block_sum(copy, sources),
         };
-        let ops = entry_ops(alloc, &entry)?;
-        let token = append(&mut self.tree, &mut self.log, alloc, &ops, entry)?;
+        let token = append_alone(&mut self.tree, &mut self.log, alloc, entry)?;
         self.workers += 1;
         Ok(token)
     }

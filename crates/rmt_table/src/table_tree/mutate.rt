@@ -8,7 +8,7 @@ ghost use Rattle.rmt_table.specs.Refusals.{NoMutate};
 
 use crate::counted::block_count;
 use crate::mutate_error::MutateError;
-use crate::ops::{append, entry_ops};
+use crate::ops::append_alone;
 use crate::table_tree::TableTree;
 use rmt_entries::Entry;
 use rmt_history::LogCopy;
@@ -89,8 +89,7 @@ impl TableTree {
             });
         }
         let entry = mutate_entry(copy, old, upto);
-        let ops = entry_ops(alloc, &entry)?;
-        let token = append(&mut self.tree, &mut self.log, alloc, &ops, entry)?;
+        let token = append_alone(&mut self.tree, &mut self.log, alloc, entry)?;
         self.workers += 1;
         Ok(token)
     }

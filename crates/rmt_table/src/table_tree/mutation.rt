@@ -2,7 +2,7 @@ ghost use Rattle.std.specs.Prelude.{◌≡◌, ◌∷◌, ◌++◌, [], length, 
 ghost use Rattle.std.specs.Option.{option_map};
 ghost use Rattle.std.specs.Fmt.{decimal};
 ghost use Rattle.rmt_values.specs.Commands.{CommandFits};
-ghost use Rattle.rmt_tree.specs.Ops.{after_all};
+ghost use Rattle.rmt_tree.specs.Ops.{first_refusal, after_all};
 ghost use Rattle.rmt_tree.specs.declared.op.Op.TheVariants as op;
 ghost use Rattle.rmt_znodes.specs.declared.znode.Znode.TheVariants.{MutationNode};
 ghost use Rattle.rmt_znodes.specs.Znodes.{znode_path, entry_path};
@@ -14,6 +14,7 @@ ghost use Rattle.rmt_events.specs.TableCalls.{CreatesMutation};
 ghost use Rattle.rmt_table_model.specs.Held.{table_of};
 ghost use Rattle.rmt_table_model.specs.Nodes.{mutation_ops, number_ops as ops_of_number, numbers_ops as ops_of_numbers};
 ghost use Rattle.rmt_table.specs.TableTrees.{table_at};
+ghost use Rattle.rmt_table.specs.MutationOps.{mutation_ops as mutation_ops_of};
 ghost use Rattle.rmt_table.specs.Refusals.{NoMutation};
 ghost use Rattle.rmt_table.specs.declared.change_error.ChangeError.TheVariants as change;
 
@@ -21,9 +22,10 @@ use crate::change_error::ChangeError;
 use crate::ops::{append, entry_op, number_text};
 use crate::table_tree::TableTree;
 use rmt_entries::Entry;
+use rmt_list::List;
 use rmt_names::PartitionId;
 use rmt_row::Seen;
-use rmt_tree::Op;
+use rmt_tree::{Op, Tree};
 use rmt_values::{Blob, CheckedMutation, Limit};
 use rmt_znodes::{Znode, lock_path};
 use std::alloc::{AllocError, Global};
@@ -90,6 +92,37 @@ fn push_entry(
     Ok(())
 }
 
+/// Appends the mutation of this id, which takes these numbers. Its entry, which goes to this place, comes back as a token.
+///
+/// At an error no memory was left, and tree and log are as they were.
+fn append_mutation(
+    tree: &mut Tree,
+    log: &mut Vec<Seen<Entry>>,
+    alloc: Global,
+    id: u32,
+    place: u32,
+    numbers: List<(PartitionId, u32)>,
+    command: CheckedMutation,
+) -> Result<Seen<Entry>, AllocError>
+    requires in_range { EntryInRange (Mutation id numbers command) }
+    requires fine { first_refusal tree.old (mutation_ops_of id place numbers command) 0 ≡ None }
+    ensures tree { OnOk result (tree.new ≡ after_all tree.old (mutation_ops_of id place numbers command)) }
+    ensures log { IfOk result (λ token. log.new.items ≡ log.old.items ++ token ∷ []) }
+    ensures token { IfOk result (λ token. token ≡ record { place = length log.old.items; value = Mutation id numbers command; cell = length log.old.items }) }
+    ensures err_tree { OnErr result (tree.new ≡ tree.old) }
+    ensures err_log { OnErr result (log.new.items ≡ log.old.items) }
+{
+    let mut ops = numbers_ops(alloc, numbers.as_slice())?;
+    let entry = Entry::Mutation {
+        id,
+        numbers,
+        command,
+    };
+    push_entry(&mut ops, alloc, id, place, &entry)?;
+    let token = append(tree, log, alloc, &ops, entry)?;
+    Ok(token)
+}
+
 impl TableTree {
     /// Appends a mutation, which takes a number in every partition that exists. Its entry's token comes back. The command
     /// applies to the blocks of lower number, also to those in flight.
@@ -113,14 +146,16 @@ impl TableTree {
             return Err(error);
         }
         let numbers = self.partitions.list(alloc)?;
-        let mut ops = numbers_ops(alloc, numbers.as_slice())?;
-        let entry = Entry::Mutation {
-            id: self.mutations,
+        let place = self.log_len();
+        let token = append_mutation(
+            &mut self.tree,
+            &mut self.log,
+            alloc,
+            self.mutations,
+            place,
             numbers,
             command,
-        };
-        push_entry(&mut ops, alloc, self.mutations, self.log_len(), &entry)?;
-        let token = append(&mut self.tree, &mut self.log, alloc, &ops, entry)?;
+        )?;
         self.partitions.take_each();
         self.mutations += 1;
         self.clients += 1;

@@ -37,29 +37,25 @@ pub block_sum-requires-clause-few : goal.block_sum-requires-clause-few
 block_sum-requires-clause-few c =
     merge-few (the_view c.self.inside) c.self.inside.log.items refl _ c.self.invariant c.args.self.now c.self.view_is c.args.copy.now (whole-copy (the_view c.self.inside) c.self.inside.log.items c.args.self.now c.self.view_is c.args.copy.now c.requires.of refl c.len-seen.result c.len-seen.ensures.len c.len.result (c.len.ensures ∙ c.self.inside.log.ok.0) c.if-seen-len.false) c.args.sources.now c.requires.neighbours c.in_default.ensures
 
-pub entry_ops-requires : goal.entry_ops-requires
-entry_ops-requires c =
-    record {
-      in_range = merge-in-range (the_view c.self.inside) c.self.inside.log.items refl _ c.self.invariant c.args.self.now c.self.view_is c.args.copy.now (whole-copy (the_view c.self.inside) c.self.inside.log.items c.args.self.now c.self.view_is c.args.copy.now c.requires.of refl c.len-seen.result c.len-seen.ensures.len c.len.result (c.len.ensures ∙ c.self.inside.log.ok.0) c.if-seen-len.false) c.args.sources.now c.requires.neighbours c.in_default.ensures c.in-Some-merged.new c.in-Some-merged.ensures (least-of (holders_in c.self.inside.tree) _ _ _ _ _ _ _ _ c.partition.ensures c.min.ensures c.max.ensures.value c.in_default-2.is (c.in_ok-number.ensures _ _ (held-numbers (the_view c.self.inside) c.self.invariant.held)))
-          c.if-self-ge32768.false c.block_sum.result c.block_sum.ensures _ (ap (λ (xs : List Name). Merge c.in-Some-merged.new xs c.block_sum.result) (c.new.ensures ∙ c.in_ok-from_slice.ensures.items));
-    }
+pub append_alone-requires-clause-in_range : goal.append_alone-requires-clause-in_range
+append_alone-requires-clause-in_range c =
+    merge-in-range (the_view c.self.inside) c.self.inside.log.items refl _ c.self.invariant c.args.self.now c.self.view_is c.args.copy.now (whole-copy (the_view c.self.inside) c.self.inside.log.items c.args.self.now c.self.view_is c.args.copy.now c.requires.of refl c.len-seen.result c.len-seen.ensures.len c.len.result (c.len.ensures ∙ c.self.inside.log.ok.0) c.if-seen-len.false) c.args.sources.now c.requires.neighbours c.in_default.ensures c.in-Some-merged.new c.in-Some-merged.ensures (least-of (holders_in c.self.inside.tree) _ _ _ _ _ _ _ _ c.partition.ensures c.min.ensures c.max.ensures.value c.in_default-2.is (c.in_ok-number.ensures _ _ (held-numbers (the_view c.self.inside) c.self.invariant.held)))
+    c.if-self-ge32768.false c.block_sum.result c.block_sum.ensures _ (ap (λ (xs : List Name). Merge c.in-Some-merged.new xs c.block_sum.result) (c.new.ensures ∙ c.in_ok-from_slice.ensures.items))
 
-pub append-requires : goal.append-requires
-append-requires c =
-    record {
-      fine = merge-fine (the_view c.self.inside) c.self.inside.log.items refl _ c.self.invariant c.args.self.now c.self.view_is c.args.copy.now (whole-copy (the_view c.self.inside) c.self.inside.log.items c.args.self.now c.self.view_is c.args.copy.now c.requires.of refl c.len-seen.result c.len-seen.ensures.len c.len.result (c.len.ensures ∙ c.self.inside.log.ok.0) c.if-seen-len.false) c.args.sources.now c.requires.neighbours c.in_default.ensures c.in-Some-merged.new c.in-Some-merged.ensures (least-of (holders_in c.self.inside.tree) _ _ _ _ _ _ _ _ c.partition.ensures c.min.ensures c.max.ensures.value c.in_default-2.is (c.in_ok-number.ensures _ _ (held-numbers (the_view c.self.inside) c.self.invariant.held)))
-          c.if-self-ge32768.false c.block_sum.result c.block_sum.ensures _ (ap (λ (xs : List Name). Merge c.in-Some-merged.new xs c.block_sum.result) (c.new.ensures ∙ c.in_ok-from_slice.ensures.items)) c.deref.result.now (c.deref.ensures.value ∙ c.in_ok-ops.ensures);
-    }
+pub append_alone-requires-clause-fine : goal.append_alone-requires-clause-fine
+append_alone-requires-clause-fine c =
+    merge-fine (the_view c.self.inside) c.self.inside.log.items refl _ c.self.invariant c.args.self.now c.self.view_is c.args.copy.now (whole-copy (the_view c.self.inside) c.self.inside.log.items c.args.self.now c.self.view_is c.args.copy.now c.requires.of refl c.len-seen.result c.len-seen.ensures.len c.len.result (c.len.ensures ∙ c.self.inside.log.ok.0) c.if-seen-len.false) c.args.sources.now c.requires.neighbours c.in_default.ensures c.in-Some-merged.new c.in-Some-merged.ensures (least-of (holders_in c.self.inside.tree) _ _ _ _ _ _ _ _ c.partition.ensures c.min.ensures c.max.ensures.value c.in_default-2.is (c.in_ok-number.ensures _ _ (held-numbers (the_view c.self.inside) c.self.invariant.held)))
+    c.if-self-ge32768.false c.block_sum.result c.block_sum.ensures _ (ap (λ (xs : List Name). Merge c.in-Some-merged.new xs c.block_sum.result) (c.new.ensures ∙ c.in_ok-from_slice.ensures.items)) _ refl
 
 pub invariant_of-self-2 : goal.invariant_of-self-2
 invariant_of-self-2 c =
     merge-tree (the_view c.self.inside) c.self.inside.log.items refl _ c.self.invariant c.args.self.now c.self.view_is c.args.copy.now (whole-copy (the_view c.self.inside) c.self.inside.log.items c.args.self.now c.self.view_is c.args.copy.now c.requires.of refl c.len-seen.result c.len-seen.ensures.len c.len.result (c.len.ensures ∙ c.self.inside.log.ok.0) c.if-seen-len.false) c.args.sources.now c.requires.neighbours c.in_default.ensures c.in-Some-merged.new c.in-Some-merged.ensures (least-of (holders_in c.self.inside.tree) _ _ _ _ _ _ _ _ c.partition.ensures c.min.ensures c.max.ensures.value c.in_default-2.is (c.in_ok-number.ensures _ _ (held-numbers (the_view c.self.inside) c.self.invariant.held)))
-    c.if-self-ge32768.false c.block_sum.result c.block_sum.ensures _ (ap (λ (xs : List Name). Merge c.in-Some-merged.new xs c.block_sum.result) (c.new.ensures ∙ c.in_ok-from_slice.ensures.items)) c.in_ok-token.token c.in_ok-token.ensures.token c.append.new.log.items c.in_ok-token.ensures.log c.append.new.tree c.deref.result.now (c.deref.ensures.value ∙ c.in_ok-ops.ensures) c.in_ok-token.ensures.tree
+    c.if-self-ge32768.false c.block_sum.result c.block_sum.ensures _ (ap (λ (xs : List Name). Merge c.in-Some-merged.new xs c.block_sum.result) (c.new.ensures ∙ c.in_ok-from_slice.ensures.items)) c.in_ok-token.token c.in_ok-token.ensures.token c.append_alone.new.log.items c.in_ok-token.ensures.log c.append_alone.new.tree _ refl c.in_ok-token.ensures.tree
 
 pub returns-clause-done : goal.returns-clause-done
 returns-clause-done c =
     merge-done (the_view c.self.inside) c.self.inside.log.items refl _ c.self.invariant c.args.self.now c.self.view_is c.args.copy.now (whole-copy (the_view c.self.inside) c.self.inside.log.items c.args.self.now c.self.view_is c.args.copy.now c.requires.of refl c.len-seen.result c.len-seen.ensures.len c.len.result (c.len.ensures ∙ c.self.inside.log.ok.0) c.if-seen-len.false) c.args.sources.now c.requires.neighbours c.in_default.ensures c.in-Some-merged.new c.in-Some-merged.ensures (least-of (holders_in c.self.inside.tree) _ _ _ _ _ _ _ _ c.partition.ensures c.min.ensures c.max.ensures.value c.in_default-2.is (c.in_ok-number.ensures _ _ (held-numbers (the_view c.self.inside) c.self.invariant.held)))
-    c.if-self-ge32768.false c.block_sum.result c.block_sum.ensures _ (ap (λ (xs : List Name). Merge c.in-Some-merged.new xs c.block_sum.result) (c.new.ensures ∙ c.in_ok-from_slice.ensures.items)) c.in_ok-token.token c.in_ok-token.ensures.token c.append.new.log.items c.in_ok-token.ensures.log c.append.new.tree c.deref.result.now (c.deref.ensures.value ∙ c.in_ok-ops.ensures) c.in_ok-token.ensures.tree
+    c.if-self-ge32768.false c.block_sum.result c.block_sum.ensures _ (ap (λ (xs : List Name). Merge c.in-Some-merged.new xs c.block_sum.result) (c.new.ensures ∙ c.in_ok-from_slice.ensures.items)) c.in_ok-token.token c.in_ok-token.ensures.token c.append_alone.new.log.items c.in_ok-token.ensures.log c.append_alone.new.tree _ refl c.in_ok-token.ensures.tree
 
 pub returns-clause-current : goal.returns-clause-current
 returns-clause-current c =

@@ -18,21 +18,21 @@ pub mutate_entry-entry-requires-clause-few : goal.mutate_entry-entry-requires-cl
 mutate_entry-entry-requires-clause-few c =
     mutate-few (the_view c.self.inside) c.self.inside.log.items refl _ c.self.invariant c.args.self.now c.self.view_is c.args.copy.now (whole-copy (the_view c.self.inside) c.self.inside.log.items c.args.self.now c.self.view_is c.args.copy.now c.requires.of refl c.len-seen.result c.len-seen.ensures.len c.len.result (c.len.ensures ∙ c.self.inside.log.ok.0) c.if-seen-len.false) c.args.old.now c.args.upto
 
-pub entry_ops-requires : goal.entry_ops-requires
-entry_ops-requires c =
-    record { in_range = mutate-in-range (the_view c.self.inside) c.self.inside.log.items refl _ c.self.invariant c.args.self.now c.self.view_is c.args.copy.now (whole-copy (the_view c.self.inside) c.self.inside.log.items c.args.self.now c.self.view_is c.args.copy.now c.requires.of refl c.len-seen.result c.len-seen.ensures.len c.len.result (c.len.ensures ∙ c.self.inside.log.ok.0) c.if-seen-len.false) c.args.old.now c.args.upto c.if-self-ge32768.false c.mutate_entry-entry.result c.mutate_entry-entry.ensures }
+pub append_alone-requires-clause-in_range : goal.append_alone-requires-clause-in_range
+append_alone-requires-clause-in_range c =
+    mutate-in-range (the_view c.self.inside) c.self.inside.log.items refl _ c.self.invariant c.args.self.now c.self.view_is c.args.copy.now (whole-copy (the_view c.self.inside) c.self.inside.log.items c.args.self.now c.self.view_is c.args.copy.now c.requires.of refl c.len-seen.result c.len-seen.ensures.len c.len.result (c.len.ensures ∙ c.self.inside.log.ok.0) c.if-seen-len.false) c.args.old.now c.args.upto c.if-self-ge32768.false c.mutate_entry-entry.result c.mutate_entry-entry.ensures
 
-pub append-requires : goal.append-requires
-append-requires c =
-    record { fine = mutate-fine (the_view c.self.inside) c.self.inside.log.items refl _ c.self.invariant c.args.self.now c.self.view_is c.args.copy.now (whole-copy (the_view c.self.inside) c.self.inside.log.items c.args.self.now c.self.view_is c.args.copy.now c.requires.of refl c.len-seen.result c.len-seen.ensures.len c.len.result (c.len.ensures ∙ c.self.inside.log.ok.0) c.if-seen-len.false) c.args.old.now c.args.upto c.if-self-ge32768.false c.mutate_entry-entry.result c.mutate_entry-entry.ensures c.deref.result.now (c.deref.ensures.value ∙ c.in_ok-ops.ensures) }
+pub append_alone-requires-clause-fine : goal.append_alone-requires-clause-fine
+append_alone-requires-clause-fine c =
+    mutate-fine (the_view c.self.inside) c.self.inside.log.items refl _ c.self.invariant c.args.self.now c.self.view_is c.args.copy.now (whole-copy (the_view c.self.inside) c.self.inside.log.items c.args.self.now c.self.view_is c.args.copy.now c.requires.of refl c.len-seen.result c.len-seen.ensures.len c.len.result (c.len.ensures ∙ c.self.inside.log.ok.0) c.if-seen-len.false) c.args.old.now c.args.upto c.if-self-ge32768.false c.mutate_entry-entry.result c.mutate_entry-entry.ensures _ refl
 
 pub invariant_of-self-2 : goal.invariant_of-self-2
 invariant_of-self-2 c =
-    mutate-tree (the_view c.self.inside) c.self.inside.log.items refl _ c.self.invariant c.args.self.now c.self.view_is c.args.copy.now (whole-copy (the_view c.self.inside) c.self.inside.log.items c.args.self.now c.self.view_is c.args.copy.now c.requires.of refl c.len-seen.result c.len-seen.ensures.len c.len.result (c.len.ensures ∙ c.self.inside.log.ok.0) c.if-seen-len.false) c.args.old.now c.args.upto c.if-self-ge32768.false c.mutate_entry-entry.result c.mutate_entry-entry.ensures c.in_ok-token.token c.in_ok-token.ensures.token c.append.new.log.items c.in_ok-token.ensures.log c.append.new.tree c.deref.result.now (c.deref.ensures.value ∙ c.in_ok-ops.ensures) c.in_ok-token.ensures.tree
+    mutate-tree (the_view c.self.inside) c.self.inside.log.items refl _ c.self.invariant c.args.self.now c.self.view_is c.args.copy.now (whole-copy (the_view c.self.inside) c.self.inside.log.items c.args.self.now c.self.view_is c.args.copy.now c.requires.of refl c.len-seen.result c.len-seen.ensures.len c.len.result (c.len.ensures ∙ c.self.inside.log.ok.0) c.if-seen-len.false) c.args.old.now c.args.upto c.if-self-ge32768.false c.mutate_entry-entry.result c.mutate_entry-entry.ensures c.in_ok-token.token c.in_ok-token.ensures.token c.append_alone.new.log.items c.in_ok-token.ensures.log c.append_alone.new.tree _ refl c.in_ok-token.ensures.tree
 
 pub returns-clause-done : goal.returns-clause-done
 returns-clause-done c =
-    mutate-done (the_view c.self.inside) c.self.inside.log.items refl _ c.self.invariant c.args.self.now c.self.view_is c.args.copy.now (whole-copy (the_view c.self.inside) c.self.inside.log.items c.args.self.now c.self.view_is c.args.copy.now c.requires.of refl c.len-seen.result c.len-seen.ensures.len c.len.result (c.len.ensures ∙ c.self.inside.log.ok.0) c.if-seen-len.false) c.args.old.now c.args.upto c.if-self-ge32768.false c.mutate_entry-entry.result c.mutate_entry-entry.ensures c.in_ok-token.token c.in_ok-token.ensures.token c.append.new.log.items c.in_ok-token.ensures.log c.append.new.tree c.deref.result.now (c.deref.ensures.value ∙ c.in_ok-ops.ensures) c.in_ok-token.ensures.tree
+    mutate-done (the_view c.self.inside) c.self.inside.log.items refl _ c.self.invariant c.args.self.now c.self.view_is c.args.copy.now (whole-copy (the_view c.self.inside) c.self.inside.log.items c.args.self.now c.self.view_is c.args.copy.now c.requires.of refl c.len-seen.result c.len-seen.ensures.len c.len.result (c.len.ensures ∙ c.self.inside.log.ok.0) c.if-seen-len.false) c.args.old.now c.args.upto c.if-self-ge32768.false c.mutate_entry-entry.result c.mutate_entry-entry.ensures c.in_ok-token.token c.in_ok-token.ensures.token c.append_alone.new.log.items c.in_ok-token.ensures.log c.append_alone.new.tree _ refl c.in_ok-token.ensures.tree
 
 pub returns-clause-current : goal.returns-clause-current
 returns-clause-current c =

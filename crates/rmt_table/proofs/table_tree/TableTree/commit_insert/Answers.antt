@@ -1,16 +1,11 @@
-use Rattle.std.proofs.Common.{◌≡◌, ◌∙◌, sym, ap, subst, refl, arith, List, Option, None}
+use Rattle.std.proofs.Common.{subst, refl, Option}
 use Rattle.std.specs.Prelude.{IfSome}
-use Rattle.rmt_values.specs.Rows.{Shape}
-use Rattle.rmt_tree.specs.Ops.{after_all, first_refusal}
-use Rattle.rmt_tree.specs.declared.op.Op.{Op}
-use Rattle.rmt_table_model.specs.Held.{Held}
+use Rattle.rmt_table_model.specs.Held.{Held, holders_in}
+use Rattle.rmt_table_model.specs.Numbers.{IsLocked}
 use Rattle.rmt_table.specs.declared.commit_error.CommitError.{CommitError}
 use Rattle.rmt_table.specs.Refusals.{TakesLock}
-use Rattle.rmt_table.specs.TableTrees.{kept_after}
-use Rattle.rmt_table.proofs.AppendLemmas.{token-next}
 use Rattle.rmt_table.proofs.Unlocked.{lock-fine, lock-gone, lock-seen, lock-held, unlocked-tree, unlocked-is}
-use Rattle.rmt_table.proofs.Committed.{after-refusal, in-range, unkept-now, ops-seen, ops-fine, committed-tree, committed-seen}
-use Rattle.rmt_table.proofs.OrderNumbers.{numbers-more, blocks-few}
+use Rattle.rmt_table.proofs.Committed.{after-refusal}
 use Rattle.rmt_table.specs.contracts.table_tree.TableTree.{the_view}
 use Rattle.rmt_table.proofs.table_tree.TableTree.commit_insert.Goals as goal
 
@@ -30,46 +25,10 @@ returns-in-Some-clause-err c =
     after-refusal c.args.self.now _ c.args.lock.now c.in-Some.refused (subst (λ (o : Option CommitError). IfSome o TakesLock) c.in-Some.is c.in_ok-refused.ensures.takes) (unlocked-is (the_view c.self.inside) c.self.inside.log.items _ c.self.invariant c.args.self.now c.self.view_is c.args.lock.now.id.partition c.args.lock.now.number c.path.ensures.in_range c.in_ok-path.path c.in_ok-path.ensures.path c.get.result c.get.ensures c.is_none.result c.is_none.ensures
     c.if-is_none.false c.delete.new.tree c.in_ok-delete.ensures.ok)
 
-pub commit_ops-requires-clause-in_range : goal.commit_ops-requires-clause-in_range
-commit_ops-requires-clause-in_range c =
-    in-range (the_view c.self.inside) c.self.inside.log.items _ c.self.invariant c.args.self.now c.self.view_is c.args.lock.now c.args.need c.args.values c.is_id.ensures c.requires.unasked
-    (lock-held (the_view c.self.inside) c.self.inside.log.items _ c.self.invariant c.args.self.now c.self.view_is c.args.lock.now.id.partition c.args.lock.now.number c.path.ensures.in_range c.in_ok-path.path c.in_ok-path.ensures.path c.get.result c.get.ensures c.is_none.result c.is_none.ensures c.if-is_none.false) (c.in_ok-refused.ensures.none c.in_default.is) c.requires.here
-
-pub commit_ops-requires-clause-unkept : goal.commit_ops-requires-clause-unkept
-commit_ops-requires-clause-unkept c =
-    unkept-now (the_view c.self.inside) c.self.inside.log.items _ c.self.invariant c.args.self.now c.self.view_is c.args.lock.now c.args.need c.args.values c.is_id.ensures c.requires.unasked
-    (lock-held (the_view c.self.inside) c.self.inside.log.items _ c.self.invariant c.args.self.now c.self.view_is c.args.lock.now.id.partition c.args.lock.now.number c.path.ensures.in_range c.in_ok-path.path c.in_ok-path.ensures.path c.get.result c.get.ensures c.is_none.result c.is_none.ensures c.if-is_none.false) (c.in_ok-refused.ensures.none c.in_default.is)
-
-pub invariant_of-self-2 : goal.invariant_of-self-2
-invariant_of-self-2 c =
-    committed-tree (the_view c.self.inside) c.self.inside.log.items _ c.self.invariant c.args.self.now c.self.view_is c.args.lock.now c.args.need c.args.values c.is_id.ensures c.requires.unasked
-    (lock-held (the_view c.self.inside) c.self.inside.log.items _ c.self.invariant c.args.self.now c.self.view_is c.args.lock.now.id.partition c.args.lock.now.number c.path.ensures.in_range c.in_ok-path.path c.in_ok-path.ensures.path c.get.result c.get.ensures c.is_none.result c.is_none.ensures c.if-is_none.false) (c.in_ok-refused.ensures.none c.in_default.is)
-    c.in_ok-ops.ops.items c.in_ok-ops.ensures c.append.new.tree (c.in_ok-token.ensures.tree ∙ ap (after_all c.self.inside.tree) c.deref.ensures.value) c.in_ok-token.token (token-next (the_view c.self.inside) (the_view c.self.inside) refl c.self.inside.log.items refl _ c.in_ok-token.token c.in_ok-token.ensures.token) c.append.new.log.items c.in_ok-token.ensures.log refl _ _ c.kept_after-self-inside.result refl refl (c.kept_after-self-inside.ensures ∙ ap (kept_after c.self.inside.kept) (c.window.ensures ∙ ap (λ (v : Shape). v.window) c.deref-2.ensures))
-    c.push.new.self
-    (numbers-more (the_view c.self.inside).log c.args.lock.now.id.partition c.args.lock.now.number c.args.lock.now.id.digest c.args.lock.now.replica c.args.need c.reserve.new.self c.push.new.self c.self.inside.blocks
-    (λ p. c.in_ok-reserve.ensures.numbers p ∙ c.self.invariant.counted.numbers p) c.self.invariant.counted.blocks c.push.ensures.numbers c.push.ensures.others)
-
-pub returns-clause-commits : goal.returns-clause-commits
-returns-clause-commits c =
-    committed-seen (the_view c.self.inside) c.self.inside.log.items _ c.self.invariant c.args.self.now c.self.view_is c.args.lock.now c.args.need c.args.values c.is_id.ensures c.requires.unasked
-    (lock-held (the_view c.self.inside) c.self.inside.log.items _ c.self.invariant c.args.self.now c.self.view_is c.args.lock.now.id.partition c.args.lock.now.number c.path.ensures.in_range c.in_ok-path.path c.in_ok-path.ensures.path c.get.result c.get.ensures c.is_none.result c.is_none.ensures c.if-is_none.false) (c.in_ok-refused.ensures.none c.in_default.is)
-    c.in_ok-ops.ops.items c.in_ok-ops.ensures c.append.new.tree (c.in_ok-token.ensures.tree ∙ ap (after_all c.self.inside.tree) c.deref.ensures.value) c.in_ok-token.token (token-next (the_view c.self.inside) (the_view c.self.inside) refl c.self.inside.log.items refl _ c.in_ok-token.token c.in_ok-token.ensures.token) c.append.new.log.items c.in_ok-token.ensures.log refl
-
-pub returns-clause-ops : goal.returns-clause-ops
-returns-clause-ops c =
-    c.in_ok-token.ensures.tree ∙ ap (after_all c.self.inside.tree) c.deref.ensures.value ∙ ap (λ (h : Held). after_all h.tree c.in_ok-ops.ops.items) c.self.view_is ∙ ap (after_all c.args.self.now.tree) (ops-seen (the_view c.self.inside) c.self.inside.log.items _ c.self.invariant c.args.self.now c.self.view_is c.args.lock.now c.args.need c.args.values c.is_id.ensures c.requires.unasked
-    (lock-held (the_view c.self.inside) c.self.inside.log.items _ c.self.invariant c.args.self.now c.self.view_is c.args.lock.now.id.partition c.args.lock.now.number c.path.ensures.in_range c.in_ok-path.path c.in_ok-path.ensures.path c.get.result c.get.ensures c.is_none.result c.is_none.ensures c.if-is_none.false) (c.in_ok-refused.ensures.none c.in_default.is)
-    c.in_ok-ops.ops.items c.in_ok-ops.ensures)
-
 pub delete-requires : goal.delete-requires
 delete-requires c = record { fine = lock-fine (the_view c.self.inside) c.self.inside.log.items _ c.self.invariant c.args.self.now c.self.view_is c.args.lock.now.id.partition c.args.lock.now.number c.path.ensures.in_range c.in_ok-path.path c.in_ok-path.ensures.path c.get.result c.get.ensures c.is_none.result c.is_none.ensures c.if-is_none.false }
 
-pub append-requires : goal.append-requires
-append-requires c = record {
-  fine = subst (λ (xs : List Op). first_refusal c.self.inside.tree xs 0 ≡ None) (sym c.deref.ensures.value) (ops-fine (the_view c.self.inside) c.self.inside.log.items _ c.self.invariant c.args.self.now c.self.view_is c.args.lock.now c.args.need c.args.values c.is_id.ensures c.requires.unasked
-      (lock-held (the_view c.self.inside) c.self.inside.log.items _ c.self.invariant c.args.self.now c.self.view_is c.args.lock.now.id.partition c.args.lock.now.number c.path.ensures.in_range c.in_ok-path.path c.in_ok-path.ensures.path c.get.result c.get.ensures c.is_none.result c.is_none.ensures c.if-is_none.false) (c.in_ok-refused.ensures.none c.in_default.is)
-      c.in_ok-ops.ops.items c.in_ok-ops.ensures);
-}
-
-pub overflow_add-self-2 : goal.overflow_add-self-2
-overflow_add-self-2 c = let few = blocks-few (the_view c.self.inside) c.self.inside.log.items _ c.self.invariant in omega (arith, few)
+pub accept-requires-clause-locked : goal.accept-requires-clause-locked
+accept-requires-clause-locked c =
+    subst (λ (w : Held). IsLocked (holders_in w.tree) c.args.lock.now.id.partition c.args.lock.now.number) c.self.view_is
+    (lock-held (the_view c.self.inside) c.self.inside.log.items _ c.self.invariant c.args.self.now c.self.view_is c.args.lock.now.id.partition c.args.lock.now.number c.path.ensures.in_range c.in_ok-path.path c.in_ok-path.ensures.path c.get.result c.get.ensures c.is_none.result c.is_none.ensures c.if-is_none.false)

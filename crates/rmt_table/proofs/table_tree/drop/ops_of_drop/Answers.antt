@@ -7,7 +7,7 @@ returns-clause-ops c next holders ks count numbers kept exists = (
   c.in_ok-dropped.dropped.ops.items,
   c.in_ok-dropped.ensures.ops next holders ks count numbers kept,
   one-behind c.in_ok-ops.ops.items c.in_ok-dropped.dropped.ops.items c.append.new.self.items c.push.new.self.items (number_ops c.args.partition c.args.number) _ _ c.in_ok-push.ensures.items c.in_ok-append.ensures.items
-      (c.in_ok-ops.ensures next holders c.args.number numbers exists) c.in_ok-entry_op.ensures,
+      (c.in_ok-ops.ensures next holders c.args.number numbers exists) c.in_ok-write.ensures,
 )
 
 pub returns-clause-forgotten : goal.returns-clause-forgotten
