@@ -14,7 +14,7 @@ ghost use Rattle.rmt_events.specs.TableCalls.{CreatesMutation};
 ghost use Rattle.rmt_table_model.specs.Held.{table_of};
 ghost use Rattle.rmt_table_model.specs.Nodes.{mutation_ops, number_ops as ops_of_number, numbers_ops as ops_of_numbers};
 ghost use Rattle.rmt_table.specs.TableTrees.{table_at};
-ghost use Rattle.rmt_table.specs.MutationOps.{mutation_ops as mutation_ops_of};
+ghost use Rattle.rmt_table.specs.MutationOps.{mutation_tail, mutation_ops as mutation_ops_of};
 ghost use Rattle.rmt_table.specs.Refusals.{NoMutation};
 ghost use Rattle.rmt_table.specs.declared.change_error.ChangeError.TheVariants as change;
 
@@ -112,12 +112,37 @@ fn append_mutation(
     ensures err_tree { OnErr result (tree.new ≡ tree.old) }
     ensures err_log { OnErr result (log.new.items ≡ log.old.items) }
 {
-    let mut ops = numbers_ops(alloc, numbers.as_slice())?;
+    let ops = numbers_ops(alloc, numbers.as_slice())?;
     let entry = Entry::Mutation {
         id,
         numbers,
         command,
     };
+    let token = append_after(tree, log, alloc, id, place, ops, entry)?;
+    Ok(token)
+}
+
+/// Appends the entry of the mutation of this id after these operations. Its token, which goes to this place, comes back.
+///
+/// At an error no memory was left, and tree and log are as they were.
+fn append_after(
+    tree: &mut Tree,
+    log: &mut Vec<Seen<Entry>>,
+    alloc: Global,
+    id: u32,
+    place: u32,
+    ops: Vec<Op>,
+    entry: Entry,
+) -> Result<Seen<Entry>, AllocError>
+    requires in_range { EntryInRange entry }
+    requires fine { first_refusal tree.old (ops.items ++ mutation_tail id place entry) 0 ≡ None }
+    ensures tree { OnOk result (tree.new ≡ after_all tree.old (ops.items ++ mutation_tail id place entry)) }
+    ensures log { IfOk result (λ token. log.new.items ≡ log.old.items ++ token ∷ []) }
+    ensures token { IfOk result (λ token. token ≡ record { place = length log.old.items; value = entry; cell = length log.old.items }) }
+    ensures err_tree { OnErr result (tree.new ≡ tree.old) }
+    ensures err_log { OnErr result (log.new.items ≡ log.old.items) }
+{
+    let mut ops = ops;
     push_entry(&mut ops, alloc, id, place, &entry)?;
     let token = append(tree, log, alloc, &ops, entry)?;
     Ok(token)
@@ -142,10 +167,7 @@ impl TableTree {
         ensures err { OnErr result (self.new ≡ self.old) }
         ensures replicas { length self.new.sessions ≡ length self.old.sessions }
     {
-        if let Some(error) = self.mutation_refusal() {
-            return Err(error);
-        }
-        let numbers = self.partitions.list(alloc)?;
+        let numbers = self.mutation_numbers(alloc)?;
         let place = self.log_len();
         let token = append_mutation(
             &mut self.tree,
@@ -160,6 +182,19 @@ impl TableTree {
         self.mutations += 1;
         self.clients += 1;
         Ok(token)
+    }
+
+    /// The numbers that a mutation takes, where nothing refuses it.
+    fn mutation_numbers(&self, alloc: Global) -> Result<List<(PartitionId, u32)>, ChangeError>
+        ensures numbers { IfOk result (λ numbers. numbers ≡ self.now.next) }
+        ensures all { OnOk result (mutation_limit self.now.next self.now.log ≡ None) }
+        ensures refused { IfErr result (NoMutation (table_at self.now)) }
+    {
+        if let Some(error) = self.mutation_refusal() {
+            return Err(error);
+        }
+        let numbers = self.partitions.list(alloc)?;
+        Ok(numbers)
     }
 
     /// Why a mutation isn't appended.
