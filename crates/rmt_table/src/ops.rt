@@ -101,9 +101,10 @@ pub(crate) fn append_alone(
     ensures err_tree { OnErr result (tree.new ≡ tree.old) }
     ensures err_log { OnErr result (log.new.items ≡ log.old.items) }
 {
-    let ops = entry_ops(alloc, &entry)?;
-    let token = append(tree, log, alloc, &ops, entry)?;
-    Ok(token)
+    let token = token_of(alloc, log.len(), entry)?;
+    let ops = entry_ops(alloc, token.value())?;
+    let answer = append_token(tree, log, &ops, token)?;
+    Ok(answer)
 }
 
 /// Does the operations of an entry, and puts the entry into the log. Its token comes back.
@@ -123,9 +124,37 @@ pub(crate) fn append(
     ensures err_tree { OnErr result (tree.new ≡ tree.old) }
     ensures err_log { OnErr result (log.new.items ≡ log.old.items) }
 {
-    let token = Seen::of(log.len(), Arc::new(alloc, entry)?);
-    let answer = token.copy()?;
+    let token = token_of(alloc, log.len(), entry)?;
+    let answer = append_token(tree, log, ops, token)?;
+    Ok(answer)
+}
+
+/// The token of an entry that is to go to this place. At an error no memory was left.
+fn token_of(alloc: Global, place: usize, entry: Entry) -> Result<Seen<Entry>, AllocError>
+    ensures { IfOk result (λ token. token ≡ record { place = place; value = entry; cell = place }) }
+{
+    let value = Arc::new(alloc, entry)?;
+    Ok(Seen::of(place, value))
+}
+
+/// Does the operations of an entry, and puts its token into the log. A copy of the token comes back.
+///
+/// At an error no memory was left, and tree and log are as they were.
+fn append_token(
+    tree: &mut Tree,
+    log: &mut Vec<Seen<Entry>>,
+    ops: &[Op],
+    token: Seen<Entry>,
+) -> Result<Seen<Entry>, AllocError>
+    requires fine { first_refusal tree.old ops.now 0 ≡ None }
+    ensures tree { OnOk result (tree.new ≡ after_all tree.old ops.now) }
+    ensures log { OnOk result (log.new.items ≡ log.old.items ++ token ∷ []) }
+    ensures token { IfOk result (λ answer. answer ≡ token) }
+    ensures err_tree { OnErr result (tree.new ≡ tree.old) }
+    ensures err_log { OnErr result (log.new.items ≡ log.old.items) }
+{
     log.reserve(1)?;
+    let answer = token.copy()?;
     multi(tree, ops)?;
     log.push(token).unwrap();
     Ok(answer)
