@@ -130,7 +130,7 @@ pub(crate) fn append(
 }
 
 /// The token of an entry that is to go to this place. At an error no memory was left.
-fn token_of(alloc: Global, place: usize, entry: Entry) -> Result<Seen<Entry>, AllocError>
+pub(crate) fn token_of(alloc: Global, place: usize, entry: Entry) -> Result<Seen<Entry>, AllocError>
     ensures { IfOk result (λ token. token ≡ record { place = place; value = entry; cell = place }) }
 {
     let value = Arc::new(alloc, entry)?;
@@ -140,7 +140,7 @@ fn token_of(alloc: Global, place: usize, entry: Entry) -> Result<Seen<Entry>, Al
 /// Does the operations of an entry, and puts its token into the log. A copy of the token comes back.
 ///
 /// At an error no memory was left, and tree and log are as they were.
-fn append_token(
+pub(crate) fn append_token(
     tree: &mut Tree,
     log: &mut Vec<Seen<Entry>>,
     ops: &[Op],

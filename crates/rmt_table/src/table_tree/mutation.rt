@@ -19,7 +19,7 @@ ghost use Rattle.rmt_table.specs.Refusals.{NoMutation};
 ghost use Rattle.rmt_table.specs.declared.change_error.ChangeError.TheVariants as change;
 
 use crate::change_error::ChangeError;
-use crate::ops::{append, entry_op, number_text};
+use crate::ops::{append_token, entry_op, number_text, token_of};
 use crate::table_tree::TableTree;
 use rmt_entries::Entry;
 use rmt_list::List;
@@ -142,10 +142,11 @@ fn append_after(
     ensures err_tree { OnErr result (tree.new ≡ tree.old) }
     ensures err_log { OnErr result (log.new.items ≡ log.old.items) }
 {
+    let token = token_of(alloc, log.len(), entry)?;
     let mut ops = ops;
-    push_entry(&mut ops, alloc, id, place, &entry)?;
-    let token = append(tree, log, alloc, &ops, entry)?;
-    Ok(token)
+    push_entry(&mut ops, alloc, id, place, token.value())?;
+    let answer = append_token(tree, log, &ops, token)?;
+    Ok(answer)
 }
 
 impl TableTree {
