@@ -25,7 +25,6 @@ use Rattle.rmt_znodes.specs.declared.znode.Znode.TheVariants as nodes
 use Rattle.rmt_znodes.specs.Znodes.{znode_path, entry_path}
 use Rattle.rmt_znodes.specs.ZnodeStates.{Makes}
 use Rattle.rmt_table_model.specs.Numbers.{IsLocked}
-use Rattle.rmt_paths.specs.Paths.{Names}
 use Rattle.rmt_table_model.specs.Kept.{Placed, in_order, get_count, with_id}
 use Rattle.rmt_table_model.specs.Inserts.{HasKeptIds, part_of}
 use Rattle.rmt_table_model.specs.Tables.{TableView}
