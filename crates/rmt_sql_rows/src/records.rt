@@ -7,6 +7,7 @@ ghost use Rattle.csv.specs.declared.reader.Trim.TheVariants as trim;
 ghost use Rattle.rmt_columns.specs.RowsByColumn.{kinds_in};
 ghost use Rattle.rmt_sql_rows.specs.InsertedRows.{field_value as field_value_of, cell_at, row_of as row_in, rows_from};
 ghost use Rattle.rmt_sql_rows.specs.Inserts.{AreCsvRows, IsBadCsvRow};
+ghost use Rattle.rmt_sql_rows.specs.PutRows.{IsAtStart};
 
 use crate::cells::{Cells, push_row};
 use crate::rows_error::RowsError;
@@ -65,9 +66,10 @@ fn read_record<R: Read>(reader: &mut Reader<R>, record: &mut ByteRecord) -> Resu
 }
 
 /// Puts the rows of an INSERT's data, whose fields are for the columns at these places. BadRow counts records from 1.
-fn push_data(
-    alloc: Global,
+fn push_records(
     builder: &mut RowsBuilder,
+    reader: &mut Reader<&[u8]>,
+    row: &mut ByteRecord,
     columns: &[Column],
     places: &[Option<usize>],
     named: usize,
@@ -76,23 +78,19 @@ fn push_data(
     requires places { length places.now ≡ length columns.now }
     requires some { 0 < length columns.now }
     requires empty { builder.old ≡ record { kinds = kinds_in columns.now; rows = []; begun = [] } }
+    requires start { IsAtStart bytes.now reader.old }
     ensures ok { OnOk result (AreCsvRows (row_in field_value_of columns.now places.now named) bytes.now builder.new.rows) }
     ensures begun { OnOk result (builder.new.begun ≡ []) }
     ensures kinds { OnOk result (builder.new.kinds ≡ kinds_in columns.now) }
     ensures refused { IfErr result (λ e. (e ≡ RowsError.Memory)
         ⊎ IsBadCsvRow (row_in field_value_of columns.now places.now named) bytes.now e) }
 {
-    let mut reader = ReaderBuilder::new()
-        .has_headers(false)
-        .flexible(true)
-        .from_reader(alloc, bytes);
-    let mut record = ByteRecord::new(alloc);
     // Each record has a byte at least, so there are no more records than bytes.
     'records: for i in 0..bytes.len() {
-        if !read_record(&mut reader, &mut record)? {
+        if !read_record(reader, row)? {
             return Ok(());
         }
-        if !push_row(builder, columns, places, named, &record)? {
+        if !push_row(builder, columns, places, named, row)? {
             return Err(RowsError::BadRow(i as u64 + 1));
         }
     }
@@ -115,6 +113,19 @@ pub fn rows_of_data(
         ⊎ IsBadCsvRow (row_in field_value_of columns.now places.now named) bytes.now e) }
 {
     let mut builder = RowsBuilder::new(alloc, columns)?;
-    push_data(alloc, &mut builder, columns, places, named, bytes)?;
+    let mut reader = ReaderBuilder::new()
+        .has_headers(false)
+        .flexible(true)
+        .from_reader(alloc, bytes);
+    let mut record = ByteRecord::new(alloc);
+    push_records(
+        &mut builder,
+        &mut reader,
+        &mut record,
+        columns,
+        places,
+        named,
+        bytes,
+    )?;
     Ok(builder.into_rows())
 }

@@ -6,14 +6,15 @@ use Rattle.rmt_sql_rows.specs.InsertedRows.{field_value, row_of, rows_from}
 use Rattle.rmt_sql_rows.proofs.Steps.{read_all, read_end, read_first, read_more}
 use Rattle.rmt_sql_rows.proofs.Fields.{row_more, row_bad}
 use Rattle.rmt_sql_rows.proofs.Puts.{puts-none, puts-some}
-use Rattle.rmt_sql_rows.proofs.records.push_data.Goals as goal
+use Rattle.rmt_sql_rows.proofs.records.push_records.Goals as goal
 
 pub records-init : goal.records-init
 records-init c =
     let begun = c.requires.empty in
+    let start = c.requires.start in
     let empty : rows_from (row_of field_value c.args.columns.now c.args.places.now c.args.named) 1 [] ≡ Ok c.args.builder.now.rows = ap (λ (v : BegunView). Ok v.rows) (sym begun) in (
       [],
-      read_first _ _ [] (search rules) (search rules) (search rules) (inr (inr (search rules, search rules))) (search rules) (search rules),
+      read_first _ _ [] start.config start.source start.state start.ready start.untrimmed start.flexible,
       empty,
       ap (λ (v : BegunView). v.begun) begun,
       ap (λ (v : BegunView). v.kinds) begun,

@@ -2,7 +2,7 @@ use Rattle.std.proofs.Common.{◌≡◌, ℕ, List, length, Ok, []}
 use Rattle.rmt_columns.specs.RowsByColumn.{kinds_in}
 use Rattle.rmt_sql_rows.specs.InsertedRows.{field_value, row_of, rows_from}
 use Rattle.rmt_sql_rows.proofs.Steps.{HasRead}
-use Rattle.rmt_sql_rows.proofs.records.push_data.Given as goal
+use Rattle.rmt_sql_rows.proofs.records.push_records.Given as goal
 
 abbrev pub invariant-records : goal.invariant-records
 invariant-records l =
