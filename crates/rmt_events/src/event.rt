@@ -6,7 +6,7 @@ use std::alloc::Global;
 use std::sync::Arc;
 
 /// One call on a table or on one of its replicas. Attempts are numbered from 0 in the order of their Allocate.
-#[derive(Debug, Drop)]
+#[derive(Drop)]
 pub enum Event {
     /// An attempt to insert a block begins: the block gets its number.
     Allocate {
