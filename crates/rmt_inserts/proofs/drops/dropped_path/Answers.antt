@@ -1,4 +1,4 @@
-use Rattle.std.proofs.Common.{◌≡◌, ◌≤◌, ◌<◌, ◌∙◌, Bool, true, false, not, sym, ap, subst, refl}
+use Rattle.std.proofs.Common.{◌≤◌, ◌<◌, ◌∙◌, true, false, not, sym, ap, subst}
 use Rattle.std.proofs.lemmas.Option.{none-some, same_Some}
 use Rattle.rmt_names.specs.Names.{Name}
 use Rattle.rmt_znodes.specs.declared.znode.Znode.TheVariants.{OrderOf}
