@@ -1,5 +1,4 @@
 //! Whether replicas that did the whole log agree with one another, and with a plain table.
-use crate::answers::Answer;
 use crate::expected::{client_entries, plain_rows};
 use crate::game::Game;
 use crate::reading::rows_read;
@@ -8,76 +7,65 @@ use rmt_granules::PartData;
 use rmt_names::PartName;
 use rmt_partset::Snapshot;
 use rmt_replica::Replica;
-use rmt_values::{ReplicaId, Row};
+use rmt_values::Row;
 use std::alloc::Global;
 use std::test::Fail;
 
-/// What a list of events came to otherwise.
-#[derive(Clone, Copy, Debug, PartialEq)]
-pub(crate) enum Difference {
-    /// An entry wasn't done, although all before it were.
-    Refused(Answer),
-    /// Not all that was accepted is in the log, or more is.
-    Log,
-    /// An entry isn't done at this replica.
-    Pending(ReplicaId),
-    /// The parts of this replica aren't the live ones of the log.
-    Live(ReplicaId),
-    /// The parts of this replica aren't those of the first.
-    Parts(ReplicaId),
-    /// The rows that are read at this replica aren't the plain ones.
-    Rows(ReplicaId),
-}
-
-/// Wakes the replicas, lets each do the whole log in order, and looks for the first difference.
-pub(crate) fn first_difference(alloc: Global, game: &mut Game) -> Result<Option<Difference>, Fail> {
-    game.wakes(alloc)?;
-    match game.drains(alloc)? {
-        Some(refused) => Ok(Some(Difference::Refused(refused))),
-        None => difference_of(alloc, game),
-    }
-}
-
-/// The first difference of replicas that did the whole log.
-pub(crate) fn difference_of(alloc: Global, game: &Game) -> Result<Option<Difference>, Fail> {
+/// What replicas differ in that did the whole log; none where they differ in nothing.
+pub(crate) fn difference_of(alloc: Global, game: &Game) -> Result<Option<&'static str>, Fail> {
     let state = game.cluster.state();
     let Some(first) = state.replicas().first() else {
         return Err("there are no replicas".into());
     };
     if client_entries(first.copy()) != game.record.accepted().len() {
-        return Ok(Some(Difference::Log));
+        return Ok(Some("what was accepted isn't what the log has"));
     }
     let plain = plain_rows(alloc, state.tree().schema(), &game.record, first.copy())?;
-    let expected = first.snapshot(alloc)?;
     for worker in state.replicas() {
-        if let Some(other) = difference_at(alloc, worker, &expected, &plain)? {
+        if let Some(other) = difference_at(alloc, worker, first, &plain)? {
             return Ok(Some(other));
         }
     }
     Ok(None)
 }
 
-/// The first difference of a replica from these parts and from the plain rows.
+/// What a replica has otherwise than the first one and than the plain rows.
 fn difference_at(
     alloc: Global,
     worker: &Replica,
-    expected: &Snapshot,
+    first: &Replica,
     plain: &[Row],
-) -> Result<Option<Difference>, Fail> {
-    let (number, snapshot) = (worker.number(), worker.snapshot(alloc)?);
+) -> Result<Option<&'static str>, Fail> {
     if !worker.drained() {
-        return Ok(Some(Difference::Pending(number)));
+        return Ok(Some("an entry isn't done"));
     }
-    if !are_live(&snapshot, worker.copy().live()) {
-        return Ok(Some(Difference::Live(number)));
+    if !has_live_parts(alloc, worker)? {
+        return Ok(Some("the parts aren't the live ones of the log"));
     }
-    if !have_equal_parts(&snapshot, expected)? {
-        return Ok(Some(Difference::Parts(number)));
+    if !has_parts_of(alloc, worker, first)? {
+        return Ok(Some("the parts aren't those of the first replica"));
     }
-    if !are_equal(&rows_read(alloc, &snapshot, worker.copy())?, plain) {
-        return Ok(Some(Difference::Rows(number)));
+    if !reads(alloc, worker, plain)? {
+        return Ok(Some("the rows that are read aren't the plain ones"));
     }
     Ok(None)
+}
+
+fn has_live_parts(alloc: Global, worker: &Replica) -> Result<bool, Fail> {
+    let snapshot = worker.snapshot(alloc)?;
+    Ok(are_live(&snapshot, worker.copy().live()))
+}
+
+fn has_parts_of(alloc: Global, worker: &Replica, first: &Replica) -> Result<bool, Fail> {
+    let parts = worker.snapshot(alloc)?;
+    let expected = first.snapshot(alloc)?;
+    have_equal_parts(&parts, &expected)
+}
+
+fn reads(alloc: Global, worker: &Replica, plain: &[Row]) -> Result<bool, Fail> {
+    let snapshot = worker.snapshot(alloc)?;
+    let rows = rows_read(alloc, &snapshot, worker.copy())?;
+    Ok(are_equal(&rows, plain))
 }
 
 /// Whether the parts have these names.
@@ -112,13 +100,19 @@ fn have_equal_rows(left: &PartData, right: &PartData) -> Result<bool, Fail> {
         return Ok(false);
     }
     for i in 0..left.rows() {
-        let (a, b) = (
-            left.row(i)?.ok_or("no row")?,
-            right.row(i)?.ok_or("no row")?,
-        );
-        if !are_same(&a, &b) {
+        if !have_equal_row(left, right, i)? {
             return Ok(false);
         }
     }
     Ok(true)
+}
+
+/// Whether two parts have the same row at a place.
+fn have_equal_row(left: &PartData, right: &PartData, i: usize) -> Result<bool, Fail> {
+    let one = left.row(i)?;
+    let other = right.row(i)?;
+    match (one, other) {
+        (Some(one), Some(other)) => Ok(are_same(&one, &other)),
+        _ => Err("no row".into()),
+    }
 }

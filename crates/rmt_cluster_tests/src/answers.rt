@@ -5,7 +5,7 @@ use rmt_values::Limit;
 use std::test::Fail;
 
 /// The reply to an event.
-#[derive(Clone, Copy, Debug, PartialEq)]
+#[derive(Clone, Copy, PartialEq)]
 pub(crate) enum Answer {
     /// The number of the attempt, and that of its block.
     Attempt(u32, u32),
@@ -22,7 +22,7 @@ pub(crate) enum Answer {
 }
 
 /// Why an event was refused. No event asks for a quorum or stops fetches, so none is refused for one.
-#[derive(Clone, Copy, Debug, PartialEq)]
+#[derive(Clone, Copy, PartialEq)]
 pub(crate) enum Refusal {
     /// The replica has no session.
     NoSession,

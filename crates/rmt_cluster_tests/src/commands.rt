@@ -8,18 +8,26 @@ ghost use Rattle.rmt_cluster_tests.specs.SmallCommands.{AreFew};
 use rmt_expr::check_mutation;
 use rmt_sql::{Parsed, next_statement};
 use rmt_statements::{Act, Statement};
-use rmt_values::{Checked, CheckedMutation, CheckedRight, Schema, Value};
+use rmt_values::{Checked, CheckedMutation, CheckedRight, Mutation, Schema, Value};
 use std::alloc::{AllocError, Global};
 use std::test::Fail;
 
-/// What a script's only statement asks of a replica.
-fn act_of(alloc: Global, script: &str) -> Result<Option<Act>, AllocError> {
+/// The command of a script's only statement; none where it isn't an ALTER.
+fn written(alloc: Global, script: &str) -> Result<Option<Mutation>, AllocError> {
     match next_statement(alloc, script.as_bytes(), 0)? {
         Parsed::Statement {
             statement: Statement::At(sent),
             ..
-        } => Ok(Some(sent.act)),
+        } => Ok(command_in(sent.act)),
         _ => Ok(None),
+    }
+}
+
+/// The command of an act.
+fn command_in(act: Act) -> Option<Mutation> {
+    match act {
+        Act::Mutate { command, .. } => Some(command),
+        _ => None,
     }
 }
 
@@ -32,10 +40,18 @@ pub(crate) fn command_of(
     ensures fits { IfOk result (CommandFits schema.now) }
     ensures in_range { IfOk result CommandInRange }
 {
-    let Some(Act::Mutate { command, .. }) = act_of(alloc, script)? else {
-        return Err("no command".into());
-    };
-    let Ok(checked) = check_mutation(alloc, &command, schema) else {
+    match written(alloc, script)? {
+        Some(command) => small(alloc, schema, &command),
+        None => Err("no command".into()),
+    }
+}
+
+/// The checked form of such a command.
+fn small(alloc: Global, schema: &Schema, command: &Mutation) -> Result<CheckedMutation, Fail>
+    ensures fits { IfOk result (CommandFits schema.now) }
+    ensures in_range { IfOk result CommandInRange }
+{
+    let Ok(checked) = check_mutation(alloc, command, schema) else {
         return Err("no command of the table".into());
     };
     if !is_small(&checked) {

@@ -46,22 +46,40 @@ fn accepted_of(
     };
     match (made, token.value()) {
         (Made::Block(rows, number), Entry::Get { number: taken, .. }) if number == *taken => {
-            Ok(Accepted::Block {
-                partition: partition_of(rows),
-                number,
-                rows: List::new(rows_of(alloc, rows)?),
-            })
+            block(alloc, rows, number)
         }
-        (Made::Mutation(script), Entry::Mutation { numbers, .. }) => Ok(Accepted::Mutation {
-            numbers: List::new(Vec::from_slice(alloc, numbers.as_slice())?),
-            command: command_of(alloc, schema, script)?,
-        }),
+        (Made::Mutation(script), Entry::Mutation { numbers, .. }) => {
+            mutation(alloc, schema, numbers.as_slice(), script)
+        }
         (Made::Drop(partition), Entry::DropRange { number, .. }) => Ok(Accepted::DropRange {
             partition,
             number: *number,
         }),
         _ => Err("another entry is in the log".into()),
     }
+}
+
+/// A block of these rows.
+fn block(alloc: Global, rows: Numbers, number: u32) -> Result<Accepted, Fail> {
+    let partition = partition_of(rows);
+    let rows = List::new(rows_of(alloc, rows)?);
+    Ok(Accepted::Block {
+        partition,
+        number,
+        rows,
+    })
+}
+
+/// A mutation of a command that took these numbers.
+fn mutation(
+    alloc: Global,
+    schema: &Schema,
+    numbers: &[(PartitionId, u32)],
+    script: &str,
+) -> Result<Accepted, Fail> {
+    let command = command_of(alloc, schema, script)?;
+    let numbers = List::new(Vec::from_slice(alloc, numbers)?);
+    Ok(Accepted::Mutation { numbers, command })
 }
 
 /// How many entries of the log are by clients.

@@ -1,4 +1,4 @@
-//! A cluster that is played with, with all that was done.
+//! A cluster that is played with.
 use crate::answers::Answer;
 use crate::draws::Draws;
 use crate::moves::{Move, has_replica, step};
@@ -12,28 +12,24 @@ use std::alloc::Global;
 use std::sync::Arc;
 use std::test::Fail;
 
-/// A cluster, a record of what it answered, and its events with their answers.
+/// A cluster, and a record of what it answered.
 #[derive(Drop)]
 pub(crate) struct Game {
     pub cluster: Cluster,
     pub record: Record,
-    pub told: Vec<(Move, Answer)>,
 }
 
 impl Game {
     /// A new cluster, whose replicas are up.
     pub fn new(alloc: Global, schema: Arc<Schema, Global>, up: &[bool]) -> Result<Game, Fail> {
-        Ok(Game {
-            cluster: new_cluster(alloc, schema, up)?,
-            record: Record::new(alloc),
-            told: Vec::new(alloc),
-        })
+        let cluster = new_cluster(alloc, schema, up)?;
+        let record = Record::new(alloc);
+        Ok(Game { cluster, record })
     }
 
     /// Does an event.
     pub fn does(&mut self, alloc: Global, next: Move) -> Result<Answer, Fail> {
         let answer = step(&mut self.cluster, alloc, next)?;
-        self.told.push((next, answer))?;
         self.record.note(next, answer)?;
         Ok(answer)
     }
@@ -85,25 +81,25 @@ impl Game {
         Ok(())
     }
 
-    /// Each replica pulls the log, and does its entries in order. The first answer to one that isn't done comes back.
-    pub fn drains(&mut self, alloc: Global) -> Result<Option<Answer>, Fail> {
+    /// Each replica pulls the log, and does its entries in order. Tells whether each was done.
+    pub fn drains(&mut self, alloc: Global) -> Result<bool, Fail> {
         for replica in 1..=self.last() {
-            if let Some(refused) = self.drains_one(alloc, replica)? {
-                return Ok(Some(refused));
+            if !self.drains_one(alloc, replica)? {
+                return Ok(false);
             }
         }
-        Ok(None)
+        Ok(true)
     }
 
-    fn drains_one(&mut self, alloc: Global, replica: ReplicaId) -> Result<Option<Answer>, Fail> {
+    fn drains_one(&mut self, alloc: Global, replica: ReplicaId) -> Result<bool, Fail> {
         let len = self.pulls(alloc, replica)?;
         for entry in 0..len {
             let answer = self.does(alloc, Move::Apply(replica, entry))?;
             if !matches!(answer, Answer::Applied(_)) {
-                return Ok(Some(answer));
+                return Ok(false);
             }
         }
-        Ok(None)
+        Ok(true)
     }
 
     /// So many background events happen, which a generator draws.

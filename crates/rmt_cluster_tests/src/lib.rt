@@ -1,12 +1,10 @@
-//! Tests of clusters, which need their public calls alone.
+//! Tests of clusters, which need public calls alone.
 #![tactic(auto)]
 
 #[cfg(test)]
 mod agreement;
 #[cfg(test)]
 mod answers;
-#[cfg(test)]
-mod applying;
 #[cfg(test)]
 mod blocks;
 #[cfg(test)]
@@ -18,7 +16,7 @@ mod expected;
 #[cfg(test)]
 mod game;
 #[cfg(test)]
-mod kinds;
+mod lists;
 #[cfg(test)]
 mod moves;
 #[cfg(test)]
@@ -34,10 +32,8 @@ mod record;
 #[cfg(test)]
 mod rows;
 #[cfg(test)]
-mod running;
-#[cfg(test)]
 mod tables;
 #[cfg(test)]
-mod turns;
+mod tests;
 #[cfg(test)]
-mod worked;
+mod turns;

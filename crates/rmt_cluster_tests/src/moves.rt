@@ -16,7 +16,7 @@ use std::alloc::{AllocError, Global};
 use std::test::Fail;
 
 /// An event. Attempts are numbered from 0, replicas from 1.
-#[derive(Clone, Copy, Debug)]
+#[derive(Clone, Copy)]
 pub(crate) enum Move {
     /// An attempt to insert a block of these rows begins at a replica.
     Allocate(ReplicaId, Numbers),

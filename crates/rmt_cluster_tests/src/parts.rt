@@ -5,7 +5,7 @@ use rmt_names::{PartName, PartitionId};
 use std::test::Fail;
 
 /// A part, by the fields of its name.
-#[derive(Clone, Copy, Debug, PartialEq)]
+#[derive(Clone, Copy, PartialEq)]
 pub(crate) struct Part {
     pub partition: PartitionId,
     pub min: u32,

@@ -1,4 +1,4 @@
-//! Tests as lists of events with their answers.
+//! Lists of steps that are played on a cluster.
 use crate::answers::Answer;
 use crate::moves::{Move, step};
 use crate::parts::Part;
@@ -11,7 +11,7 @@ use std::alloc::Global;
 use std::sync::Arc;
 use std::test::Fail;
 
-/// What a test does at a cluster, and what it expects.
+/// What a list does at a cluster, and what it expects.
 #[derive(Clone, Copy)]
 pub(crate) enum Step {
     /// An event, and its answer.
@@ -21,9 +21,6 @@ pub(crate) enum Step {
     /// The rows that are read at a replica, in order.
     Reads(ReplicaId, Numbers),
 }
-
-/// The first step that came otherwise: its place, and where it is an event, its answer.
-pub(crate) type Difference = (usize, Option<Answer>);
 
 /// A new cluster of a table. These replicas are up.
 pub(crate) fn new_cluster(
@@ -38,41 +35,60 @@ pub(crate) fn new_cluster(
     Ok(cluster)
 }
 
-/// Does these steps at a new cluster of the table of one column, whose replicas are up.
+/// Does these steps at a new cluster of the table of one column, of so many replicas that are up. The place of the
+/// first one that comes otherwise comes back.
 pub(crate) fn first_to_differ(
     alloc: Global,
-    up: &[bool],
+    replicas: usize,
     steps: &[Step],
-) -> Result<Option<Difference>, Fail> {
-    let mut cluster = new_cluster(alloc, Table::Whole.schema(alloc)?, up)?;
+) -> Result<Option<usize>, Fail> {
+    let schema = Table::Whole.schema(alloc)?;
+    let up = [true; 8];
+    let mut cluster = new_cluster(alloc, schema, &up[..replicas.min(8)])?;
+    first_of(&mut cluster, alloc, steps)
+}
+
+/// Does these steps, and tells the place of the first one that comes otherwise.
+fn first_of(cluster: &mut Cluster, alloc: Global, steps: &[Step]) -> Result<Option<usize>, Fail> {
     for (place, next) in steps.iter().enumerate() {
-        if let Some(other) = differs(&mut cluster, alloc, next)? {
-            return Ok(Some((place, other)));
+        if !comes_so(cluster, alloc, *next)? {
+            return Ok(Some(place));
         }
     }
     Ok(None)
 }
 
-/// Does a step. Where it comes otherwise, its answer comes back, if it is an event.
-fn differs(
-    cluster: &mut Cluster,
-    alloc: Global,
-    next: &Step,
-) -> Result<Option<Option<Answer>>, Fail> {
-    match *next {
-        Step::Does(event, expected) => {
-            let answer = step(cluster, alloc, event)?;
-            Ok((answer != expected).then_some(Some(answer)))
-        }
-        Step::Parts(replica, expected) => {
-            let parts = parts_of(alloc, &snapshot_of(cluster, alloc, replica)?)?;
-            Ok((parts.as_slice() != expected).then_some(None))
-        }
-        Step::Reads(replica, expected) => {
-            let snapshot = snapshot_of(cluster, alloc, replica)?;
-            let rows = rows_read(alloc, &snapshot, replica_of(cluster, replica)?.copy())?;
-            let expected = sorted(rows_of(alloc, expected)?)?;
-            Ok((!are_equal(&rows, &expected)).then_some(None))
-        }
+/// Does a step, and tells whether it comes as expected.
+fn comes_so(cluster: &mut Cluster, alloc: Global, next: Step) -> Result<bool, Fail> {
+    match next {
+        Step::Does(event, expected) => Ok(step(cluster, alloc, event)? == expected),
+        Step::Parts(replica, expected) => has_parts(cluster, alloc, replica, expected),
+        Step::Reads(replica, expected) => reads(cluster, alloc, replica, expected),
     }
+}
+
+/// Whether these are the active parts of a replica.
+fn has_parts(
+    cluster: &Cluster,
+    alloc: Global,
+    replica: ReplicaId,
+    expected: &[Part],
+) -> Result<bool, Fail> {
+    let snapshot = snapshot_of(cluster, alloc, replica)?;
+    let parts = parts_of(alloc, &snapshot)?;
+    Ok(parts.as_slice() == expected)
+}
+
+/// Whether these rows are read at a replica.
+fn reads(
+    cluster: &Cluster,
+    alloc: Global,
+    replica: ReplicaId,
+    expected: Numbers,
+) -> Result<bool, Fail> {
+    let copy = replica_of(cluster, replica)?.copy();
+    let snapshot = snapshot_of(cluster, alloc, replica)?;
+    let rows = rows_read(alloc, &snapshot, copy)?;
+    let expected = sorted(rows_of(alloc, expected)?)?;
+    Ok(are_equal(&rows, &expected))
 }

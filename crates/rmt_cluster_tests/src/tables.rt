@@ -4,27 +4,41 @@ use std::alloc::Global;
 use std::sync::Arc;
 use std::test::Fail;
 
-/// A table of these columns of UInt64, each of one letter. Its key is the first of them.
+/// Columns of UInt64, each of one letter.
+fn columns_of(alloc: Global, letters: &[u8]) -> Result<Vec<Column>, Fail> {
+    let mut columns = Vec::new(alloc);
+    for letter in letters {
+        let name = Name::from_slice(alloc, &[*letter])?;
+        let kind = Kind::UInt64;
+        columns.push(Column { name, kind })?;
+    }
+    Ok(columns)
+}
+
+/// A key of these columns.
+fn key_of(alloc: Global, letters: &[u8]) -> Result<Vec<Name>, Fail> {
+    let mut key = Vec::new(alloc);
+    for letter in letters {
+        let name = Name::from_slice(alloc, &[*letter])?;
+        key.push(name)?;
+    }
+    Ok(key)
+}
+
+/// A table of these columns, whose key is the first of them.
 fn schema_of(
     alloc: Global,
     letters: &[u8],
     partition: Option<(Name, u64)>,
     window: u32,
 ) -> Result<Arc<Schema, Global>, Fail> {
-    let mut columns = Vec::new(alloc);
-    for letter in letters {
-        let name = Name::from_slice(alloc, &[*letter])?;
-        columns.push(Column {
-            name,
-            kind: Kind::UInt64,
-        })?;
-    }
-    let mut key = Vec::new(alloc);
-    if let Some(letter) = letters.first() {
-        key.push(Name::from_slice(alloc, &[*letter])?)?;
-    }
+    let key = key_of(alloc, &letters[..letters.len().min(1)])?;
+    let columns = columns_of(alloc, letters)?;
     match Schema::new(alloc, columns, key, partition, 2, window) {
-        Ok(schema) => Ok(Arc::new(alloc, schema)?),
+        Ok(schema) => {
+            let shared = Arc::new(alloc, schema)?;
+            Ok(shared)
+        }
         Err(_) => Err("no schema".into()),
     }
 }

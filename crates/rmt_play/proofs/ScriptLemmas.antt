@@ -1,5 +1,5 @@
 -- What the playing of a script keeps from statement to statement.
-use Rattle.std.proofs.Common.{◌≡◌, ◌∙◌, ℕ, ◌+◌, List, [], ◌∷◌, ◌++◌, map, refl, ap, sym, subst, Bool, cond, Option, Some, None, arith, append_assoc, zero, suc, ◌&&◌, true, false, nat_lt}
+use Rattle.std.proofs.Common.{◌≡◌, ◌∙◌, ℕ, ◌+◌, ◌<◌, ◌≤◌, List, [], ◌∷◌, ◌++◌, length, map, refl, ap, sym, subst, Bool, cond, Option, Some, None, arith, append_assoc, zero, suc, ◌&&◌, true, false, nat_lt}
 use Rattle.std.proofs.Math.Path.{fun_ext}
 use Rattle.std.proofs.lemmas.Bool.Decides.{nat_tests}
 use Rattle.std.specs.Prelude.{count_by, if◌then◌else◌, nat_le, replicate, slice_index_or}
@@ -19,8 +19,10 @@ use Rattle.rmt_play.specs.declared.script_end.ScriptEnd.TheVariants as ends
 use Rattle.rmt_model.specs.Words.{Each}
 use Rattle.rmt_events.specs.Clusters.{Cluster}
 use Rattle.rmt_play.specs.Shown.{AreShown, HasReplicas}
-use Rattle.rmt_play.specs.PlayerSteps.{PlayerView, is_up, IsIn, IsEmptyPlayer}
-use Rattle.rmt_play.specs.ScriptEnds.{is_refusal, AdvancesScript, CutsReply, AreOfPlayer, IsScriptEnd, IsEndOf}
+use Rattle.rmt_play.specs.declared.progress.Progress.{Progress}
+use Rattle.rmt_play.specs.declared.progress.Progress.TheVariants as progress
+use Rattle.rmt_play.specs.PlayerSteps.{PlayerView, is_up, IsIn, IsEmptyPlayer, Moves, Steps}
+use Rattle.rmt_play.specs.ScriptEnds.{is_refusal, AdvancesScript, CutsReply, IsReply, IsProgress, AreOfPlayer, IsScriptEnd, IsEndOf}
 use Rattle.rmt_play.proofs.TableLemmas.{shown-clusters}
 
 -- the statements up to a place were played, their replies written and the refused ones counted
@@ -125,3 +127,14 @@ gives_some (Some bytes) P holds = record { script = bytes; given = refl; holds =
 -- nothing of the script was played
 pub none_played : (left written : Option (List ℕ)) → GivesScript left (PlayedInPart written written)
 none_played left written = gives_some left (PlayedInPart written written) (λ script. record { lines = []; at = 0; world = start; played = (refl, refl); written = Appends-nil written })
+
+-- the reply of a statement that was played makes the progress
+pub reply-progress : (script : List ℕ) (at end : ℕ) (line : Line) (old new : PlayerView) (before after : Option (List ℕ)) (p : Progress)
+    → IsReply line end before after p → Moves old (Steps script at line end) new → at < end → end ≤ length script
+    → IsProgress script at old new before after p
+reply-progress script at end line old new before after (progress.On place outcome) (same, written, counted) step further within =
+    subst (λ (e : ℕ). AdvancesScript script at old new before after e outcome) (sym same)
+    (record { line = line; step = step; written = written; counted = counted; further = further; within = within })
+reply-progress script at end line old new before after progress.WriteFault written step further within =
+    record { line = line; end = end; new = new; step = step; written = written }
+reply-progress script at end line old new before after progress.Memory kept step further within = kept

@@ -45,6 +45,14 @@ pub record CutsReply (script : List ℕ) (at : ℕ) (old : PlayerView) (before a
   pub step : Moves old (Steps script at line end) new
   pub written : AppendsPrefix before after (printed line)
 
+-- how far writing the reply of a statement comes, after which the script goes on at a place
+abbrev pub IsReply : Line → ℕ → Option (List ℕ) → Option (List ℕ) → Progress → Type 0
+IsReply line end before after progress.AtEnd = ⊥
+IsReply line end before after (progress.On place outcome) =
+    (place ≡ end) × Appends before after (printed line) × (is_refusal outcome ≡ is_refused line)
+IsReply line end before after progress.WriteFault = AppendsPrefix before after (printed line)
+IsReply line end before after progress.Memory = Keeps before after
+
 -- how far playing comes with the statement at a place
 abbrev pub IsProgress : List ℕ → ℕ → PlayerView → PlayerView → Option (List ℕ) → Option (List ℕ) → Progress → Type 0
 IsProgress script at old new before after progress.AtEnd = ReadsAt script at parsed.End × Keeps before after × (new ≡ old)

@@ -20,7 +20,7 @@ ghost use Rattle.rmt_reply.specs.Printed.{printed};
 ghost use Rattle.rmt_play.specs.declared.progress.Progress.TheVariants as progress;
 ghost use Rattle.rmt_play.specs.declared.script_end.ScriptEnd.TheVariants as ends;
 ghost use Rattle.rmt_outside.specs.Faults.{Rose};
-ghost use Rattle.rmt_play.specs.ScriptEnds.{is_refusal, IsProgress, IsEndOf, IsScriptEnd};
+ghost use Rattle.rmt_play.specs.ScriptEnds.{is_refusal, IsReply, IsProgress, IsEndOf, IsScriptEnd};
 
 use crate::outcome::Outcome;
 use crate::player::Player;
@@ -89,6 +89,26 @@ fn next_line(
     }
 }
 
+/// Writes the reply of a statement, after which the script goes on at a place.
+fn write_reply<K: Sink>(alloc: Global, line: &Line, end: usize, sink: &mut K) -> Progress
+    ensures reply { IsReply line.now end (K.written sink.old) (K.written sink.new) result }
+    ensures cause { result ≡ progress.WriteFault → Rose (K.faults sink.old) (K.faults sink.new) }
+    ensures quiet { result ≢ progress.WriteFault → K.faults sink.new ≡ K.faults sink.old }
+    ensures later { K.faults sink.old ≤ K.faults sink.new }
+{
+    let Ok(out) = print_line(alloc, line) else {
+        return Progress::Memory;
+    };
+    match write_all_of(sink, &out) {
+        Ok(()) => Progress::On {
+            end,
+            outcome: outcome_of(line),
+        },
+        Err(WriteError::WriteFault) => Progress::WriteFault,
+        Err(WriteError::Memory) => unreachable!(),
+    }
+}
+
 /// Plays the next statement, and writes its reply.
 fn play_next<K: Sink>(
     alloc: Global,
@@ -104,21 +124,10 @@ fn play_next<K: Sink>(
     ensures quiet { result ≢ progress.WriteFault → K.faults sink.new ≡ K.faults sink.old }
     ensures later { K.faults sink.old ≤ K.faults sink.new }
 {
-    let (line, end) = match next_line(alloc, player, script, at) {
-        Ok(Some(next)) => next,
-        Ok(None) => return Progress::AtEnd,
-        Err(AllocError) => return Progress::Memory,
-    };
-    let Ok(out) = print_line(alloc, &line) else {
-        return Progress::Memory;
-    };
-    match write_all_of(sink, &out) {
-        Ok(()) => Progress::On {
-            end,
-            outcome: outcome_of(&line),
-        },
-        Err(WriteError::WriteFault) => Progress::WriteFault,
-        Err(WriteError::Memory) => unreachable!(),
+    match next_line(alloc, player, script, at) {
+        Ok(Some((line, end))) => write_reply(alloc, &line, end, sink),
+        Ok(None) => Progress::AtEnd,
+        Err(AllocError) => Progress::Memory,
     }
 }
 

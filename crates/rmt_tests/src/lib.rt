@@ -1,19 +1,11 @@
-//! Tests of replies and of whole scripts, which need public calls alone.
+//! Tests of the program's call and of replies, which need public calls alone.
 #![tactic(auto)]
 
 #[cfg(test)]
-mod commands;
-#[cfg(test)]
-mod limits;
-#[cfg(test)]
-mod partitions;
+mod faults;
 #[cfg(test)]
 mod plain;
 #[cfg(test)]
 mod played;
 #[cfg(test)]
-mod replies;
-#[cfg(test)]
-mod runs;
-#[cfg(test)]
-mod sources;
+mod printed;

@@ -1,0 +1,34 @@
+//! A read and each write of a script that fail.
+use crate::played::played;
+use rmt_play::Status;
+use std::test::Fail;
+
+const SCRIPT: &str = "CREATE TABLE t (c UInt64) ENGINE = ReplicatedMergeTree ORDER BY c; \
+    @r1 INSERT INTO t VALUES (7),(8); @r2 SELECT count(), sum(c) FROM t SYNC;";
+
+const OUTPUT: &str = "ok\npart all_0_0_0\nrows 1\n2,15\n";
+
+/// Writes that fail, with the codes: each of the three, and one that doesn't come.
+const WRITES: &[(u64, u8)] = &[(0, 5), (1, 5), (2, 5), (3, 0)];
+
+/// The second read fails, which would have told the script's end.
+#[test]
+fn a_read_that_fails_writes_nothing(rt: HostRuntime) -> Result<(), Fail> {
+    let (status, page) = played(rt.alloc(), SCRIPT, &[1], &[])?;
+    let (code, refused) = (4, 0);
+    assert_eq!(rt; status, Status { code, refused });
+    assert_eq!(rt; page.written().len(), 0);
+    Ok(())
+}
+
+#[test]
+fn a_write_that_fails_leaves_a_prefix(rt: HostRuntime) -> Result<(), Fail> {
+    for (write, code) in WRITES {
+        let (status, page) = played(rt.alloc(), SCRIPT, &[], &[*write])?;
+        let (code, refused) = (*code, 0);
+        assert_eq!(rt; status, Status { code, refused });
+        assert!(rt; OUTPUT.as_bytes().starts_with(page.written()));
+        assert_eq!(rt; page.written().len() == OUTPUT.len(), code == 0);
+    }
+    Ok(())
+}
