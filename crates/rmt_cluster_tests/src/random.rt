@@ -24,23 +24,37 @@ fn played(alloc: Global, seed: u32, up: &[bool], window: u32) -> Result<Game, Fa
 /// the last one on before that.
 fn drained(alloc: Global, seed: u32) -> Result<Option<&'static str>, Fail> {
     let mut game = played(alloc, seed, &[true, true, false], 2)?;
+    drains(alloc, &mut game, seed % 2 == 1)
+}
+
+/// The same of a list that was played; it may have tried the entries from the last one on.
+fn drains(
+    alloc: Global,
+    game: &mut Game,
+    is_tried_backwards: bool,
+) -> Result<Option<&'static str>, Fail> {
     game.wakes(alloc)?;
-    if seed % 2 == 1 {
+    if is_tried_backwards {
         game.tries_backwards(alloc)?;
     }
     if !game.drains(alloc)? {
         return Ok(Some("an entry isn't done, although all before it are"));
     }
-    difference_of(alloc, &game)
+    difference_of(alloc, game)
 }
 
 /// What comes of a list that background events follow, once each replica was brought to the whole log.
 fn synced(alloc: Global, seed: u32) -> Result<Option<&'static str>, Fail> {
     let mut game = played(alloc, seed, &[true, true, true], 100)?;
+    syncs(alloc, &mut game, seed)
+}
+
+/// The same of a list that was played.
+fn syncs(alloc: Global, game: &mut Game, seed: u32) -> Result<Option<&'static str>, Fail> {
     game.runs(alloc, seed, 40)?;
     game.wakes(alloc)?;
     game.syncs(alloc)?;
-    difference_of(alloc, &game)
+    difference_of(alloc, game)
 }
 
 /// The third replica is down at first, and blocks leave the window and are accepted again.

@@ -1,5 +1,5 @@
 -- What the playing of a script keeps from statement to statement.
-use Rattle.std.proofs.Common.{◌≡◌, ◌∙◌, ℕ, ◌+◌, ◌<◌, ◌≤◌, List, [], ◌∷◌, ◌++◌, length, map, refl, ap, sym, subst, Bool, cond, Option, Some, None, arith, append_assoc, zero, suc, ◌&&◌, true, false, nat_lt}
+use Rattle.std.proofs.Common.{◌≡◌, ◌∙◌, ℕ, ◌+◌, ◌<◌, ◌≤◌, List, [], ◌∷◌, ◌++◌, length, refl, ap, sym, subst, Bool, cond, Option, Some, None, arith, append_assoc, zero, suc, ◌&&◌, true, false, nat_lt}
 use Rattle.std.proofs.Math.Path.{fun_ext}
 use Rattle.std.proofs.lemmas.Bool.Decides.{nat_tests}
 use Rattle.std.specs.Prelude.{count_by, if◌then◌else◌, nat_le, replicate, slice_index_or}
@@ -132,6 +132,7 @@ none_played left written = gives_some left (PlayedInPart written written) (λ sc
 pub reply-progress : (script : List ℕ) (at end : ℕ) (line : Line) (old new : PlayerView) (before after : Option (List ℕ)) (p : Progress)
     → IsReply line end before after p → Moves old (Steps script at line end) new → at < end → end ≤ length script
     → IsProgress script at old new before after p
+reply-progress script at end line old new before after progress.AtEnd written step further within = elim written [ ]
 reply-progress script at end line old new before after (progress.On place outcome) (same, written, counted) step further within =
     subst (λ (e : ℕ). AdvancesScript script at old new before after e outcome) (sym same)
     (record { line = line; step = step; written = written; counted = counted; further = further; within = within })
