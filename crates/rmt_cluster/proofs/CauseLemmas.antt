@@ -4,7 +4,7 @@ use Rattle.std.specs.declared.option.Option.{Option}
 use Rattle.std.specs.declared.option.Option.TheVariants.{Some, None}
 use Rattle.rmt_names.specs.Names.{Name}
 use Rattle.rmt_block.specs.declared.block_id.BlockId.{BlockId}
-use Rattle.rmt_limits.specs.EntryLimits.{allocate_limit, commit_limit}
+use Rattle.rmt_model.specs.EntryLimits.{allocate_limit, commit_limit}
 use Rattle.rmt_table_model.specs.Held.{Held}
 use Rattle.rmt_table.specs.declared.lock.Lock.{Lock}
 use Rattle.rmt_table.specs.declared.allocate_error.AllocateError.{AllocateError}

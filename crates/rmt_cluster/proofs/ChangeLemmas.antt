@@ -9,8 +9,8 @@ use Rattle.rmt_values.specs.declared.checked_mutation.CheckedMutation.{CheckedMu
 use Rattle.rmt_values.specs.declared.limit.Limit.{Limit}
 use Rattle.rmt_entries.specs.declared.entry.Entry.{Entry}
 use Rattle.rmt_model.specs.Lawful.{IsPrefix}
-use Rattle.rmt_limits.specs.BlockNumbers.{next_number}
-use Rattle.rmt_limits.specs.EntryLimits.{mutation_limit, drop_limit}
+use Rattle.rmt_model.specs.BlockNumbers.{next_number}
+use Rattle.rmt_model.specs.EntryLimits.{mutation_limit, drop_limit}
 use Rattle.rmt_table_model.specs.Held.{Held}
 use Rattle.rmt_row.specs.Token.{Token}
 use Rattle.rmt_table.specs.TableTrees.{table_at, Drops, IsDrop}

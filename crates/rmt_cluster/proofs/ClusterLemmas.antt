@@ -7,7 +7,7 @@ use Rattle.rmt_names.specs.Names.{rank}
 use Rattle.rmt_values.specs.Rows.{Shape}
 use Rattle.rmt_model.specs.Words.{Has, Each}
 use Rattle.rmt_model.proofs.Lists.{Each-at, Has-filter}
-use Rattle.rmt_limits.specs.BlockNumbers.{next_number, with_next, next_numbers_after}
+use Rattle.rmt_model.specs.BlockNumbers.{next_number, with_next, next_numbers_after}
 use Rattle.rmt_table.specs.TableTrees.{table_at}
 use Rattle.rmt_replica.specs.Replicas.{ReplicaView}
 use Rattle.rmt_replica_view.specs.Shown.{shown}

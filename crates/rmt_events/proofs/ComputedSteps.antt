@@ -9,11 +9,11 @@ use Rattle.rmt_names.specs.Names.{block_name}
 use Rattle.rmt_entries.specs.declared.entry.Entry.TheVariants.{Get, Mutation, DropRange}
 use Rattle.rmt_model.specs.Words.{Has}
 use Rattle.rmt_model.specs.Lawful.{mutation_count}
-use Rattle.rmt_quorums.specs.Quorum.{quorum_after_block, quorum_after_drop}
+use Rattle.rmt_model.specs.Quorum.{quorum_after_block, quorum_after_drop}
 use Rattle.rmt_queue.specs.Marks.{grown}
 use Rattle.rmt_events.specs.Views.{Block, Replica}
-use Rattle.rmt_limits.specs.BlockNumbers.{next_number, with_next, next_numbers_after}
-use Rattle.rmt_limits.specs.EntryLimits.{allocate_limit, commit_limit, mutation_limit, drop_limit}
+use Rattle.rmt_model.specs.BlockNumbers.{next_number, with_next, next_numbers_after}
+use Rattle.rmt_model.specs.EntryLimits.{allocate_limit, commit_limit, mutation_limit, drop_limit}
 use Rattle.rmt_events.specs.TableCalls.{with_lock, with_session, locks_without, locks_without_below, window_with, window_without, kept_part, IsLocked}
 use Rattle.rmt_events.specs.ReplicaCalls.{IsStaged, staged_with, staged_without}
 use Rattle.rmt_events.specs.Clusters.{Attempt, Cluster, without_kinds, with_replica, values_of}

@@ -13,7 +13,7 @@ use Rattle.rmt_model.specs.CopiedParts.{Copied}
 use Rattle.rmt_model.proofs.Lists.{Each-at, Each-all}
 use Rattle.rmt_model.proofs.Drops.{entry-below}
 use Rattle.rmt_events.specs.Views.{Block, Staged, Replica, Table}
-use Rattle.rmt_limits.specs.BlockNumbers.{next_number}
+use Rattle.rmt_model.specs.BlockNumbers.{next_number}
 use Rattle.rmt_events.specs.ReplicaCalls.{IsStanding}
 use Rattle.rmt_events.specs.Clusters.{Attempt, Cluster, block_of, committed_at, with_replica, Accepted, accepted, blocks_in, rows_of, values_in}
 use Rattle.rmt_events.specs.Whole.{IsBlockAt, HasItsBlocks, IsRightlyStaged, IsKeptAt, Follows, IsOpen, IsCommitted, HasReplica, IsWhole}

@@ -5,7 +5,7 @@ use Rattle.std.specs.declared.option.Option.{Option}
 use Rattle.rmt_names.specs.Names.{rank}
 use Rattle.rmt_model.specs.Words.{Has, Each, Pairwise}
 use Rattle.rmt_model.proofs.Lists.{Each-at, Each-all, rank-injective}
-use Rattle.rmt_limits.specs.BlockNumbers.{next_number, with_next, next_numbers_after}
+use Rattle.rmt_model.specs.BlockNumbers.{next_number, with_next, next_numbers_after}
 
 same-rank : (i j : ℕ) → nat_eq i j ≡ true → i ≡ j
 same-rank i j e = grind (arith, nat_tests)

@@ -12,11 +12,11 @@ use Rattle.rmt_model.specs.Words.{Has, Each}
 use Rattle.rmt_model.specs.Lawful.{Meets, AboveUsed, IsFresh, IsMutation, mutation_count}
 use Rattle.rmt_model.proofs.Lists.{Each-at, Each-all, Has-filter, rank-injective}
 use Rattle.rmt_model.proofs.Drops.{fresh}
-use Rattle.rmt_quorums.specs.Quorum.{quorum_after_block, quorum_after_drop, quorum_after_note}
-use Rattle.rmt_quorums.proofs.QuorumLemmas.{quorum-stays, quorum-block, quorum-drop, quorum-note}
+use Rattle.rmt_model.specs.Quorum.{quorum_after_block, quorum_after_drop, quorum_after_note}
+use Rattle.rmt_model.proofs.QuorumLemmas.{quorum-stays, quorum-block, quorum-drop, quorum-note}
 use Rattle.rmt_events.specs.Views.{Lock, Table}
-use Rattle.rmt_limits.specs.BlockNumbers.{next_number, with_next, next_numbers_after}
-use Rattle.rmt_limits.specs.EntryLimits.{client_count, commit_limit}
+use Rattle.rmt_model.specs.BlockNumbers.{next_number, with_next, next_numbers_after}
+use Rattle.rmt_model.specs.EntryLimits.{client_count, commit_limit}
 use Rattle.rmt_events.specs.TableCalls.{precedes, with_lock, with_session, IsLocked, holds_number, locks_without, locks_without_below, window_with, window_without, with_entry, Allocates, Commits, Unlocks, AssignsMerge, AssignsMutate, CreatesMutation, DropsPartition, Closes, Opens, Notes}
 use Rattle.rmt_events.specs.Sound.{IsFree, IsSoundTable}
 use Rattle.rmt_events.proofs.Numbers.{next-with, next-other, taken-with, ordered-with, next-advanced, next-past, ordered-advanced, taken-advanced, has-next, next-has}

@@ -14,7 +14,7 @@ use Rattle.rmt_model.specs.Fair.{CoveredBy}
 use Rattle.rmt_model.specs.CopiedParts.{Copied, names_of}
 use Rattle.rmt_model.proofs.Lists.{Each-at, Each-all, Has-filter, Has-kept}
 use Rattle.rmt_events.specs.Views.{Staged, Replica, Table}
-use Rattle.rmt_limits.specs.BlockNumbers.{next_number}
+use Rattle.rmt_model.specs.BlockNumbers.{next_number}
 use Rattle.rmt_events.specs.TableCalls.{with_session}
 use Rattle.rmt_events.specs.Sound.{IsSoundTable}
 use Rattle.rmt_events.specs.ReplicaCalls.{IsStanding, IsStaged}

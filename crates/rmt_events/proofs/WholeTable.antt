@@ -11,7 +11,7 @@ use Rattle.rmt_model.specs.Lawful.{Uses, Used, entry_at, IsPrefix}
 use Rattle.rmt_model.proofs.Lists.{Each-at, Each-all}
 use Rattle.rmt_model.proofs.Drops.{entry-cases}
 use Rattle.rmt_events.specs.Views.{Replica, Table}
-use Rattle.rmt_limits.specs.BlockNumbers.{next_number}
+use Rattle.rmt_model.specs.BlockNumbers.{next_number}
 use Rattle.rmt_events.specs.TableCalls.{AssignsMerge, AssignsMutate, CreatesMutation, DropsPartition}
 use Rattle.rmt_events.specs.Sound.{IsSoundTable}
 use Rattle.rmt_events.specs.Clusters.{blocks_in, Attempt, Cluster}

@@ -12,7 +12,7 @@ use Rattle.rmt_model.proofs.Lists.{Each-at, Each-all, Has-filter, Pairwise-filte
 use Rattle.rmt_model.proofs.LiveLaws.{Pairwise-cases}
 use Rattle.rmt_model.proofs.Drops.{some-same, entry-cases, entry-below, entry-has}
 use Rattle.rmt_events.specs.Views.{Block, Staged, Replica, Lock, Table}
-use Rattle.rmt_limits.specs.BlockNumbers.{next_number}
+use Rattle.rmt_model.specs.BlockNumbers.{next_number}
 use Rattle.rmt_events.specs.TableCalls.{locks_without}
 use Rattle.rmt_events.specs.Sound.{IsSoundTable}
 use Rattle.rmt_events.specs.ReplicaCalls.{IsStaged, Stages, comes_before, with_block, staged_without}

@@ -6,9 +6,9 @@ use Rattle.std.specs.Prelude.{◌≡◌, ℕ, ◌+◌, ◌<◌, ◌≤◌, ◌�
 use Rattle.std.specs.declared.option.Option.TheVariants.{Some, None}
 use Rattle.rmt_names.specs.Names.{Name}
 use Rattle.rmt_model.specs.Words.{Has}
-use Rattle.rmt_quorums.specs.Quorum.{Pending}
+use Rattle.rmt_model.specs.Quorum.{Pending}
 use Rattle.rmt_events.specs.Views.{Block, Replica, Table}
-use Rattle.rmt_limits.specs.EntryLimits.{allocate_limit, commit_limit}
+use Rattle.rmt_model.specs.EntryLimits.{allocate_limit, commit_limit}
 use Rattle.rmt_events.specs.TableCalls.{IsLocked, kept_part, Allocates, Commits, Unlocks}
 use Rattle.rmt_events.specs.ReplicaCalls.{IsStaged, Stages, Unstages}
 use Rattle.rmt_events.specs.Clusters.{values_of, Attempt, Cluster, with_replica}

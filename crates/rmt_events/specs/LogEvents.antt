@@ -11,8 +11,8 @@ use Rattle.rmt_model.specs.Words.{Has, Each}
 use Rattle.rmt_model.specs.Lawful.{entry_at, ver, AreNeighbours, IsMutationWith}
 use Rattle.rmt_model.specs.Live.{live}
 use Rattle.rmt_events.specs.Views.{Replica, Table}
-use Rattle.rmt_limits.specs.BlockNumbers.{next_number}
-use Rattle.rmt_limits.specs.EntryLimits.{worker_limit, mutation_limit, drop_limit}
+use Rattle.rmt_model.specs.BlockNumbers.{next_number}
+use Rattle.rmt_model.specs.EntryLimits.{worker_limit, mutation_limit, drop_limit}
 use Rattle.rmt_events.specs.TableCalls.{IsLocked, AssignsMerge, AssignsMutate}
 use Rattle.rmt_events.specs.Clusters.{Cluster}
 use Rattle.rmt_events.specs.ClusterChanges.{IsUp, IsDown, Appends}

@@ -6,9 +6,9 @@ use Rattle.rmt_names.specs.Names.{rank}
 use Rattle.rmt_model.specs.Words.{Each, Pairwise}
 use Rattle.rmt_model.specs.Lawful.{Used, IsFresh, Lawful}
 use Rattle.rmt_model.specs.Window.{kept}
-use Rattle.rmt_quorums.specs.Quorum.{IsQuorum}
+use Rattle.rmt_model.specs.Quorum.{IsQuorum}
 use Rattle.rmt_events.specs.Views.{Lock, Table}
-use Rattle.rmt_limits.specs.BlockNumbers.{next_number}
+use Rattle.rmt_model.specs.BlockNumbers.{next_number}
 
 -- a lock's number was taken, and a block may still be committed under it
 pub record IsFree (t : Table) (k : Lock) : Type 0 where

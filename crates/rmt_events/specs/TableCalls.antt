@@ -14,9 +14,9 @@ use Rattle.rmt_entries.specs.declared.entry.Entry.TheVariants.{Get, Merge, Mutat
 use Rattle.rmt_model.specs.Words.{Has, Each}
 use Rattle.rmt_model.specs.Lawful.{Meets, mutation_count}
 use Rattle.rmt_model.specs.Window.{Kept}
-use Rattle.rmt_limits.specs.BlockNumbers.{next_number, with_next, next_numbers_after}
-use Rattle.rmt_limits.specs.EntryLimits.{worker_limit, allocate_limit, commit_limit, mutation_limit, drop_limit}
-use Rattle.rmt_quorums.specs.Quorum.{quorum_after_block, quorum_after_drop, quorum_after_note}
+use Rattle.rmt_model.specs.BlockNumbers.{next_number, with_next, next_numbers_after}
+use Rattle.rmt_model.specs.EntryLimits.{worker_limit, allocate_limit, commit_limit, mutation_limit, drop_limit}
+use Rattle.rmt_model.specs.Quorum.{quorum_after_block, quorum_after_drop, quorum_after_note}
 use Rattle.rmt_events.specs.Views.{Lock, Table}
 
 -- the number n of p is held

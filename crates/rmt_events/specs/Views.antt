@@ -9,7 +9,7 @@ use Rattle.rmt_entries.specs.declared.entry.Entry.{Entry}
 use Rattle.rmt_model.specs.Content.{Row}
 use Rattle.rmt_model.specs.Window.{Kept}
 use Rattle.rmt_model.specs.CopiedParts.{Copied}
-use Rattle.rmt_quorums.specs.Quorum.{Quorum}
+use Rattle.rmt_model.specs.Quorum.{Quorum}
 
 -- a block: its partition, the digest of its bytes, its rows
 pub record Block : Type 0 where

@@ -12,7 +12,7 @@ use Rattle.rmt_model.specs.Fair.{CoveredBy}
 use Rattle.rmt_model.specs.Parts.{NumberedBlock}
 use Rattle.rmt_model.specs.CopiedParts.{Copied, names_of}
 use Rattle.rmt_events.specs.Views.{Block, Staged, Replica}
-use Rattle.rmt_limits.specs.BlockNumbers.{next_number}
+use Rattle.rmt_model.specs.BlockNumbers.{next_number}
 use Rattle.rmt_events.specs.Sound.{IsSoundTable}
 use Rattle.rmt_events.specs.ReplicaCalls.{IsStanding, IsStaged}
 use Rattle.rmt_events.specs.Clusters.{accepted, values_in, Attempt, Cluster, block_of, committed_at}

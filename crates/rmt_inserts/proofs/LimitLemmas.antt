@@ -7,7 +7,7 @@ use Rattle.std.specs.declared.option.Option.TheVariants.{Some, None}
 use Rattle.rmt_values.specs.declared.limit.Limit.TheVariants as limits
 use Rattle.rmt_names.specs.Names.{rank}
 use Rattle.rmt_names.specs.Texts.{partition_text}
-use Rattle.rmt_limits.specs.BlockNumbers.{next_number}
+use Rattle.rmt_model.specs.BlockNumbers.{next_number}
 use Rattle.rmt_model.specs.Words.{Has, Pairwise}
 use Rattle.rmt_model.proofs.Lists.{Each-at, Each-all}
 use Rattle.rmt_paths.specs.Paths.{Names, last_name}

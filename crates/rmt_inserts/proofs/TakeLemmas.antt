@@ -6,7 +6,7 @@ use Rattle.std.specs.declared.option.Option.{Option}
 use Rattle.std.specs.declared.option.Option.TheVariants.{Some, None}
 use Rattle.rmt_values.specs.declared.limit.Limit.{Limit}
 use Rattle.rmt_values.specs.declared.limit.Limit.TheVariants as limits
-use Rattle.rmt_limits.specs.BlockNumbers.{next_number}
+use Rattle.rmt_model.specs.BlockNumbers.{next_number}
 use Rattle.rmt_tree.specs.Trees.{TreeView, is_open}
 use Rattle.rmt_tree.specs.Ops.{after, Refusal, IsRefusal, first_refusal, last_counter}
 use Rattle.rmt_tree.specs.declared.cause.Cause.{Cause}

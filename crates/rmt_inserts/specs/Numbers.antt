@@ -5,7 +5,7 @@ use Rattle.std.specs.declared.option.Option.{Option}
 use Rattle.std.specs.declared.option.Option.TheVariants.{Some, None}
 use Rattle.rmt_values.specs.declared.limit.Limit.{Limit}
 use Rattle.rmt_values.specs.declared.limit.Limit.TheVariants as limits
-use Rattle.rmt_limits.specs.BlockNumbers.{next_number}
+use Rattle.rmt_model.specs.BlockNumbers.{next_number}
 use Rattle.rmt_inserts.specs.declared.number_error.NumberError.{NumberError}
 use Rattle.rmt_inserts.specs.declared.number_error.NumberError.TheVariants.{LimitReached, Memory}
 

@@ -3,7 +3,7 @@ ghost use Rattle.std.specs.Prelude.{◌≡◌, ℕ, true, Option, IfOk, IfErr, O
 ghost use Rattle.std.specs.declared.option.Option.TheVariants.{Some, None};
 ghost use Rattle.rmt_tree.specs.Trees.{is_open};
 ghost use Rattle.rmt_tree.specs.Ops.{after_all};
-ghost use Rattle.rmt_limits.specs.BlockNumbers.{next_number as number_after};
+ghost use Rattle.rmt_model.specs.BlockNumbers.{next_number as number_after};
 ghost use Rattle.rmt_table_model.specs.Numbers.{Nexts, Holders, next_of};
 ghost use Rattle.rmt_table_model.specs.Inserts.{HasNumbers};
 ghost use Rattle.rmt_table_model.specs.Nodes.{take_ops as ops_of_taking, partition_ops as ops_of_partition, number_ops as ops_of_number};

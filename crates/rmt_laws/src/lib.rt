@@ -5,6 +5,6 @@
 mod laws;
 
 pub use laws::{
-    blocks_live_once, content_stays, covers_none_but_itself, fair_live, later_covers,
-    pending_above, reads_plain_rows,
+    a_quorum_follows_its_log, blocks_live_once, content_stays, covers_none_but_itself, fair_live,
+    later_covers, pending_above, reads_plain_rows,
 };

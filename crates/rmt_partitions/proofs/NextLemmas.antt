@@ -10,7 +10,7 @@ use Rattle.std.specs.declared.option.Option.TheVariants.{Some, None}
 use Rattle.rmt_names.specs.Names.{rank}
 use Rattle.rmt_model.specs.Words.{Each}
 use Rattle.rmt_model.proofs.Drops.{some-same}
-use Rattle.rmt_limits.specs.BlockNumbers.{next_number, with_next, next_numbers_after}
+use Rattle.rmt_model.specs.BlockNumbers.{next_number, with_next, next_numbers_after}
 use Rattle.rmt_history.specs.Mutations.{AreInOrder, number_among}
 use Rattle.rmt_history.proofs.NumberLemmas.{number-found}
 use Rattle.rmt_partitions.specs.NumbersInOrder.{place_of, StandsAt, BelongsAt}

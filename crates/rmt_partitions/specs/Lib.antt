@@ -1,3 +1,3 @@
-pub use Rattle.rmt_limits.specs.BlockNumbers
+pub use Rattle.rmt_model.specs.BlockNumbers
 pub mod KeptNumbers
 pub mod NumbersInOrder

@@ -1,7 +1,7 @@
 ghost use Rattle.std.specs.Prelude.{◌≡◌, ◌+◌, ◌<◌, ◌^◌, nat_lt, [], length, OnOk, IfOk};
 ghost use Rattle.rmt_names.specs.Names.{rank};
 ghost use Rattle.rmt_model.specs.Words.{Each};
-ghost use Rattle.rmt_limits.specs.BlockNumbers.{next_number, with_next, next_numbers_after};
+ghost use Rattle.rmt_model.specs.BlockNumbers.{next_number, with_next, next_numbers_after};
 ghost use Rattle.rmt_history.specs.Mutations.{AreInOrder, number_among};
 ghost use Rattle.rmt_partitions.specs.NumbersInOrder.{first_at, IsPlace};
 

@@ -10,7 +10,7 @@ use Rattle.rmt_names.specs.Names.{Name}
 use Rattle.rmt_block.specs.declared.block.Block.{Block as Raw}
 use Rattle.rmt_model.specs.Words.{Has}
 use Rattle.rmt_model.proofs.Lists.{Each-at}
-use Rattle.rmt_limits.specs.BlockNumbers.{next_number, with_next}
+use Rattle.rmt_model.specs.BlockNumbers.{next_number, with_next}
 use Rattle.rmt_events.specs.Views.{Block, Replica, Lock, Table}
 use Rattle.rmt_events.specs.TableCalls.{with_lock, kept_part}
 use Rattle.rmt_events.specs.Clusters.{without_kinds, Attempt, Cluster}

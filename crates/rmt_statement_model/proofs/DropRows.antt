@@ -8,8 +8,8 @@ use Rattle.rmt_entries.specs.declared.entry.Entry.{Entry}
 use Rattle.rmt_entries.specs.declared.entry.Entry.TheVariants.{DropRange}
 use Rattle.rmt_model.specs.Lawful.{entry_at}
 use Rattle.rmt_model.proofs.Drops.{some-same, entry-below}
-use Rattle.rmt_limits.specs.BlockNumbers.{next_number, with_next}
-use Rattle.rmt_limits.specs.EntryLimits.{drop_limit}
+use Rattle.rmt_model.specs.BlockNumbers.{next_number, with_next}
+use Rattle.rmt_model.specs.EntryLimits.{drop_limit}
 use Rattle.rmt_events.specs.Views.{Replica}
 use Rattle.rmt_events.specs.Clusters.{Cluster}
 use Rattle.rmt_events.specs.Whole.{IsWhole}

@@ -6,8 +6,8 @@ use Rattle.rmt_values.specs.declared.limit.Limit.{Limit}
 use Rattle.rmt_entries.specs.declared.entry.Entry.{Entry}
 use Rattle.rmt_entries.specs.declared.entry.Entry.TheVariants.{Mutation}
 use Rattle.rmt_model.specs.Lawful.{mutation_count}
-use Rattle.rmt_limits.specs.BlockNumbers.{next_numbers_after}
-use Rattle.rmt_limits.specs.EntryLimits.{mutation_limit}
+use Rattle.rmt_model.specs.BlockNumbers.{next_numbers_after}
+use Rattle.rmt_model.specs.EntryLimits.{mutation_limit}
 use Rattle.rmt_events.specs.Views.{Table}
 use Rattle.rmt_events.specs.Clusters.{Cluster}
 use Rattle.rmt_events.specs.Whole.{IsWhole}

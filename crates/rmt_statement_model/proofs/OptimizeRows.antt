@@ -10,7 +10,7 @@ use Rattle.rmt_entries.specs.declared.entry.Entry.TheVariants.{Merge}
 use Rattle.rmt_model.specs.Words.{Has}
 use Rattle.rmt_model.specs.Lawful.{Merges, Lawful}
 use Rattle.rmt_model.proofs.Lists.{Each-at}
-use Rattle.rmt_limits.specs.EntryLimits.{worker_limit}
+use Rattle.rmt_model.specs.EntryLimits.{worker_limit}
 use Rattle.rmt_reply.specs.declared.refusal.Refusal.{Refusal}
 use Rattle.rmt_reply.specs.declared.refusal.Refusal.TheVariants.{LimitReached, Unmergeable}
 use Rattle.rmt_events.specs.Views.{Table}

@@ -7,7 +7,7 @@ use Rattle.rmt_entries.specs.declared.entry.Entry.{Entry}
 use Rattle.rmt_entries.specs.declared.entry.Entry.TheVariants.{Get, Merge, Mutate, Mutation, DropRange}
 use Rattle.rmt_model.specs.Words.{Each}
 use Rattle.rmt_model.specs.Lawful.{Lawful}
-use Rattle.rmt_limits.specs.EntryLimits.{worker_limit}
+use Rattle.rmt_model.specs.EntryLimits.{worker_limit}
 use Rattle.rmt_events.specs.Views.{Table}
 use Rattle.rmt_events.specs.Sound.{IsSoundTable}
 use Rattle.rmt_events.specs.Clusters.{Cluster}

@@ -4,7 +4,7 @@ use Rattle.std.specs.declared.option.Option.{Option}
 use Rattle.rmt_values.specs.Rows.{Shape}
 use Rattle.rmt_entries.specs.declared.entry.Entry.{Entry}
 use Rattle.rmt_model.specs.Window.{Kept, kept}
-use Rattle.rmt_limits.specs.EntryLimits.{allocate_limit, commit_limit}
+use Rattle.rmt_model.specs.EntryLimits.{allocate_limit, commit_limit}
 use Rattle.rmt_events.specs.Views.{Block, Table}
 use Rattle.rmt_events.specs.TableCalls.{kept_part}
 use Rattle.rmt_events.specs.Sound.{IsSoundTable}

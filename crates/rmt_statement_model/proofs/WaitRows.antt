@@ -10,7 +10,7 @@ use Rattle.rmt_names.specs.Names.{Name}
 use Rattle.rmt_entries.specs.declared.entry.Entry.{Entry}
 use Rattle.rmt_entries.specs.declared.entry.Entry.TheVariants.{Mutate, Mutation}
 use Rattle.rmt_model.specs.Lawful.{Lawful, entry_at}
-use Rattle.rmt_limits.specs.EntryLimits.{worker_limit}
+use Rattle.rmt_model.specs.EntryLimits.{worker_limit}
 use Rattle.rmt_events.specs.Views.{Replica, Table}
 use Rattle.rmt_events.specs.Clusters.{Cluster, committed_at, blocks_in}
 use Rattle.rmt_events.specs.Whole.{IsWhole}

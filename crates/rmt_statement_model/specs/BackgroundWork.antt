@@ -7,7 +7,7 @@ use Rattle.rmt_entries.specs.declared.entry.Entry.{Entry}
 use Rattle.rmt_entries.specs.declared.entry.Entry.TheVariants.{Get, Merge, Mutate, Mutation, DropRange}
 use Rattle.rmt_model.specs.Words.{Each}
 use Rattle.rmt_model.specs.Lawful.{Lawful}
-use Rattle.rmt_limits.specs.EntryLimits.{worker_limit}
+use Rattle.rmt_model.specs.EntryLimits.{worker_limit}
 use Rattle.rmt_statement_model.specs.TableStates.{TableState}
 
 -- the entry is one of background work: it merges or mutates parts

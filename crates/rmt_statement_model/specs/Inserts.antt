@@ -8,8 +8,8 @@ use Rattle.std.specs.declared.option.Option.TheVariants.{Some, None}
 use Rattle.rmt_values.specs.declared.limit.Limit.{Limit}
 use Rattle.rmt_names.specs.Names.{block_name}
 use Rattle.rmt_entries.specs.declared.entry.Entry.TheVariants.{Get}
-use Rattle.rmt_limits.specs.BlockNumbers.{next_number, with_next}
-use Rattle.rmt_limits.specs.EntryLimits.{allocate_limit, commit_limit}
+use Rattle.rmt_model.specs.BlockNumbers.{next_number, with_next}
+use Rattle.rmt_model.specs.EntryLimits.{allocate_limit, commit_limit}
 use Rattle.rmt_events.specs.Views.{Block}
 use Rattle.rmt_events.specs.Clusters.{values_of, values_in}
 use Rattle.rmt_reply.specs.declared.piece.Piece.{Piece}

@@ -7,8 +7,8 @@ use Rattle.rmt_values.specs.declared.checked_mutation.CheckedMutation.{CheckedMu
 use Rattle.rmt_values.specs.declared.limit.Limit.{Limit}
 use Rattle.rmt_entries.specs.declared.entry.Entry.TheVariants.{Mutation}
 use Rattle.rmt_model.specs.Lawful.{mutation_count}
-use Rattle.rmt_limits.specs.BlockNumbers.{next_numbers_after}
-use Rattle.rmt_limits.specs.EntryLimits.{mutation_limit}
+use Rattle.rmt_model.specs.BlockNumbers.{next_numbers_after}
+use Rattle.rmt_model.specs.EntryLimits.{mutation_limit}
 use Rattle.rmt_reply.specs.declared.refusal.Refusal.{Refusal}
 use Rattle.rmt_reply.specs.declared.refusal.Refusal.TheVariants.{LimitReached}
 use Rattle.rmt_statement_model.specs.TableStates.{TableState}

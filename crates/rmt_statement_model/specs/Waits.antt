@@ -12,7 +12,7 @@ use Rattle.rmt_entries.specs.declared.entry.Entry.TheVariants.{Get, Merge, Mutat
 use Rattle.rmt_model.specs.Words.{Has, Each}
 use Rattle.rmt_model.specs.Live.{live}
 use Rattle.rmt_model.specs.Lawful.{Lawful, entry_at}
-use Rattle.rmt_limits.specs.EntryLimits.{worker_limit}
+use Rattle.rmt_model.specs.EntryLimits.{worker_limit}
 use Rattle.rmt_reply.specs.declared.refusal.Refusal.{Refusal}
 use Rattle.rmt_reply.specs.declared.refusal.Refusal.TheVariants.{LimitReached}
 use Rattle.rmt_statement_model.specs.TableStates.{TableState, synced}

@@ -12,8 +12,8 @@ use Rattle.rmt_row.specs.Token.{Token}
 use Rattle.rmt_entries.specs.declared.entry.Entry.{Entry}
 use Rattle.rmt_entries.specs.EntryBytes.{entry_bytes}
 use Rattle.rmt_model.specs.Words.{Has}
-use Rattle.rmt_limits.specs.BlockNumbers.{next_number, with_next}
-use Rattle.rmt_limits.specs.EntryLimits.{client_count, client_limit, allocate_limit}
+use Rattle.rmt_model.specs.BlockNumbers.{next_number, with_next}
+use Rattle.rmt_model.specs.EntryLimits.{client_count, client_limit, allocate_limit}
 use Rattle.rmt_tree.specs.Trees.{TreeView, is_open}
 use Rattle.rmt_tree.specs.Ops.{after_all}
 use Rattle.rmt_znodes.specs.Znodes.{IsPartition}

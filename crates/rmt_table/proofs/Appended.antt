@@ -7,7 +7,7 @@ use Rattle.rmt_row.specs.Token.{Token}
 use Rattle.rmt_entries.specs.declared.entry.Entry.{Entry}
 use Rattle.rmt_entries.specs.declared.entry.Entry.TheVariants.{Get, Merge, Mutate, Mutation, DropRange}
 use Rattle.rmt_model.specs.Lawful.{is_mutation, mutation_count}
-use Rattle.rmt_limits.specs.EntryLimits.{is_client, client_count, worker_count}
+use Rattle.rmt_model.specs.EntryLimits.{is_client, client_count, worker_count}
 use Rattle.rmt_names.specs.Names.{block_name}
 use Rattle.rmt_table_model.specs.Kept.{outlives, in_order, get_count, is_get}
 use Rattle.rmt_table.specs.TableTrees.{ArePlaced}

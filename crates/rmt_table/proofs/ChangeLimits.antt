@@ -9,8 +9,8 @@ use Rattle.rmt_values.specs.declared.limit.Limit.TheVariants as limits
 use Rattle.rmt_entries.specs.declared.entry.Entry.{Entry}
 use Rattle.rmt_model.specs.Words.{Has}
 use Rattle.rmt_model.specs.Lawful.{mutation_count}
-use Rattle.rmt_limits.specs.EntryLimits.{client_count, client_limit, numbers_limit, mutation_limit, drop_limit}
-use Rattle.rmt_limits.specs.BlockNumbers.{next_number}
+use Rattle.rmt_model.specs.EntryLimits.{client_count, client_limit, numbers_limit, mutation_limit, drop_limit}
+use Rattle.rmt_model.specs.BlockNumbers.{next_number}
 use Rattle.rmt_partitions.specs.NumbersInOrder.{first_at}
 use Rattle.rmt_table_model.specs.Numbers.{Nexts}
 use Rattle.rmt_table.specs.declared.change_error.ChangeError.{ChangeError}

@@ -13,10 +13,10 @@ use Rattle.rmt_entries.specs.declared.entry.Entry.{Entry}
 use Rattle.rmt_entries.specs.declared.entry.Entry.TheVariants.{Get}
 use Rattle.rmt_entries.specs.EntryBytes.{entry_bytes, EntryInRange}
 use Rattle.rmt_model.specs.Lawful.{mutation_count}
-use Rattle.rmt_limits.specs.EntryLimits.{client_count, worker_count, commit_limit}
+use Rattle.rmt_model.specs.EntryLimits.{client_count, worker_count, commit_limit}
 use Rattle.rmt_history.specs.Copies.{entries}
 use Rattle.rmt_history.proofs.Copied.{entries-snoc, length-entries}
-use Rattle.rmt_quorums.specs.Quorum.{Quorum, quorum_after_block}
+use Rattle.rmt_model.specs.Quorum.{Quorum, quorum_after_block}
 use Rattle.rmt_tree.specs.Trees.{TreeView}
 use Rattle.rmt_tree.specs.Ops.{after_all, first_refusal}
 use Rattle.rmt_tree.specs.declared.op.Op.{Op}

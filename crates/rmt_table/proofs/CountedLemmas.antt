@@ -9,7 +9,7 @@ use Rattle.rmt_model.specs.Words.{Has}
 use Rattle.rmt_model.specs.Live.{before, inserted, placed, in_drop, live}
 use Rattle.rmt_model.specs.Lawful.{Merges, IsMutate, Lawful, gets_block_of, block_count, is_mutation, mutation_count, mutations_through}
 use Rattle.rmt_model.proofs.LiveLaws.{Tight, tight, supplants-merge, supplants-mutate, source-live, covers-holds}
-use Rattle.rmt_limits.specs.EntryLimits.{is_client, client_count, worker_count}
+use Rattle.rmt_model.specs.EntryLimits.{is_client, client_count, worker_count}
 
 -- ---- entries
 

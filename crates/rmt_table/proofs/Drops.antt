@@ -7,10 +7,10 @@ use Rattle.rmt_row.specs.Token.{Token}
 use Rattle.rmt_entries.specs.declared.entry.Entry.{Entry}
 use Rattle.rmt_entries.specs.declared.entry.Entry.TheVariants.{DropRange}
 use Rattle.rmt_entries.specs.EntryBytes.{entry_bytes}
-use Rattle.rmt_limits.specs.EntryLimits.{client_count, drop_limit}
-use Rattle.rmt_limits.specs.BlockNumbers.{next_number, with_next}
+use Rattle.rmt_model.specs.EntryLimits.{client_count, drop_limit}
+use Rattle.rmt_model.specs.BlockNumbers.{next_number, with_next}
 use Rattle.rmt_history.specs.Mutations.{number_among}
-use Rattle.rmt_quorums.specs.Quorum.{Quorum, quorum_after_drop}
+use Rattle.rmt_model.specs.Quorum.{Quorum, quorum_after_drop}
 use Rattle.rmt_tree.specs.Trees.{TreeView}
 use Rattle.rmt_tree.specs.Ops.{after_all, first_refusal}
 use Rattle.rmt_tree.specs.declared.op.Op.{Op}

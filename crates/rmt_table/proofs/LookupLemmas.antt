@@ -3,7 +3,7 @@ use Rattle.std.proofs.Common.{◌≡◌, ℕ, cond, [], ◌∷◌, refl, ap, nat
 use Rattle.std.specs.declared.option.Option.{Option}
 use Rattle.std.specs.declared.option.Option.TheVariants.{Some}
 use Rattle.rmt_names.specs.Names.{rank}
-use Rattle.rmt_limits.specs.BlockNumbers.{next_number}
+use Rattle.rmt_model.specs.BlockNumbers.{next_number}
 use Rattle.rmt_history.specs.Mutations.{number_among}
 use Rattle.rmt_table_model.specs.Numbers.{Nexts, next_of, AreNexts}
 use Rattle.rmt_table_model.proofs.NumberLemmas.{number-is, next-has}

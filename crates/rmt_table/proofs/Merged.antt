@@ -16,7 +16,7 @@ use Rattle.rmt_model.specs.Lawful.{Merges, block_count, is_mutation}
 use Rattle.rmt_model.proofs.Lists.{Each-at, Each-all}
 use Rattle.rmt_model.proofs.LiveLaws.{Tight, tight, source-live, sources-lined}
 use Rattle.rmt_model.proofs.VersionLaws.{live-made, highest-reached}
-use Rattle.rmt_limits.specs.EntryLimits.{is_client, worker_count}
+use Rattle.rmt_model.specs.EntryLimits.{is_client, worker_count}
 use Rattle.rmt_history.specs.Copies.{History, entries}
 use Rattle.rmt_tree.specs.Trees.{TreeView}
 use Rattle.rmt_tree.specs.Ops.{first_refusal, after_all}

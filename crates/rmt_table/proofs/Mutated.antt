@@ -15,7 +15,7 @@ use Rattle.rmt_entries.specs.declared.entry.Entry.TheVariants.{Mutate, Mutation}
 use Rattle.rmt_model.specs.Lawful.{Lawful, IsMutationWith, is_mutation, entry_at, block_count, mutations_through}
 use Rattle.rmt_model.proofs.Lists.{rank-injective}
 use Rattle.rmt_model.proofs.Drops.{some-same, entry-below}
-use Rattle.rmt_limits.specs.EntryLimits.{is_client}
+use Rattle.rmt_model.specs.EntryLimits.{is_client}
 use Rattle.rmt_history.specs.Copies.{History, entries}
 use Rattle.rmt_history.specs.Mutations.{number_among, number_in}
 use Rattle.rmt_history.proofs.NumberLemmas.{with-in, log-order, option-differs}

@@ -13,8 +13,8 @@ use Rattle.rmt_entries.specs.EntryBytes.{entry_bytes, EntryInRange, CommandInRan
 use Rattle.rmt_model.specs.Words.{Each}
 use Rattle.rmt_model.specs.Lawful.{mutation_count}
 use Rattle.rmt_model.proofs.Lists.{Each-all}
-use Rattle.rmt_limits.specs.EntryLimits.{mutation_limit}
-use Rattle.rmt_limits.specs.BlockNumbers.{next_numbers_after}
+use Rattle.rmt_model.specs.EntryLimits.{mutation_limit}
+use Rattle.rmt_model.specs.BlockNumbers.{next_numbers_after}
 use Rattle.rmt_tree.specs.Trees.{TreeView}
 use Rattle.rmt_tree.specs.Ops.{after_all, first_refusal}
 use Rattle.rmt_tree.specs.declared.op.Op.{Op}

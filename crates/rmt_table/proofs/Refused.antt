@@ -7,7 +7,7 @@ use Rattle.rmt_values.specs.declared.limit.Limit.{Limit}
 use Rattle.rmt_values.specs.declared.limit.Limit.TheVariants as limits
 use Rattle.rmt_names.specs.Names.{Name}
 use Rattle.rmt_entries.specs.declared.entry.Entry.{Entry}
-use Rattle.rmt_limits.specs.EntryLimits.{client_count, commit_limit}
+use Rattle.rmt_model.specs.EntryLimits.{client_count, commit_limit}
 use Rattle.rmt_table_model.specs.Kept.{in_order}
 use Rattle.rmt_table_model.specs.Inserts.{part_of}
 use Rattle.rmt_table_model.specs.Held.{Held}

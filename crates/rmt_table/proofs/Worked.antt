@@ -9,7 +9,7 @@ use Rattle.rmt_row.specs.Token.{Token}
 use Rattle.rmt_entries.specs.declared.entry.Entry.{Entry}
 use Rattle.rmt_entries.specs.EntryBytes.{entry_bytes}
 use Rattle.rmt_model.specs.Lawful.{IsPrefix, is_mutation, mutation_count}
-use Rattle.rmt_limits.specs.EntryLimits.{is_client, client_count, worker_count, worker_limit}
+use Rattle.rmt_model.specs.EntryLimits.{is_client, client_count, worker_count, worker_limit}
 use Rattle.rmt_history.specs.Copies.{History, entries}
 use Rattle.rmt_history.proofs.Copied.{length-entries}
 use Rattle.rmt_tree.specs.Trees.{TreeView}

@@ -7,8 +7,8 @@ use Rattle.std.specs.declared.option.Option.TheVariants.{Some, None}
 use Rattle.rmt_names.specs.Names.{Name}
 use Rattle.rmt_block.specs.declared.block_id.BlockId.{BlockId}
 use Rattle.rmt_model.specs.Words.{Has}
-use Rattle.rmt_limits.specs.BlockNumbers.{next_number}
-use Rattle.rmt_limits.specs.EntryLimits.{allocate_limit, commit_limit, mutation_limit, drop_limit, worker_limit}
+use Rattle.rmt_model.specs.BlockNumbers.{next_number}
+use Rattle.rmt_model.specs.EntryLimits.{allocate_limit, commit_limit, mutation_limit, drop_limit, worker_limit}
 use Rattle.rmt_events.specs.Views.{Table}
 use Rattle.rmt_events.specs.TableCalls.{IsLocked, kept_part}
 use Rattle.rmt_events.specs.InsertEvents.{AreTooFew, MeetsPending, HasQuorum}

@@ -8,7 +8,7 @@ use Rattle.rmt_entries.specs.declared.entry.Entry.{Entry}
 use Rattle.rmt_entries.specs.declared.entry.Entry.TheVariants.{Get, Merge, Mutate, Mutation, DropRange}
 use Rattle.rmt_entries.specs.EntryBytes.{entry_bytes}
 use Rattle.rmt_model.specs.Lawful.{IsPrefix, mutation_count}
-use Rattle.rmt_limits.specs.EntryLimits.{client_count, worker_count}
+use Rattle.rmt_model.specs.EntryLimits.{client_count, worker_count}
 use Rattle.rmt_table_model.specs.Kept.{in_order, get_count}
 use Rattle.rmt_partitions.specs.KeptNumbers.{NumbersOf, numbers_of}
 use Rattle.rmt_table_model.specs.Tables.{session_of}
@@ -23,7 +23,7 @@ use Rattle.rmt_znodes.specs.declared.znode.Znode.TheVariants.{Lock, LogPointer, 
 use Rattle.rmt_znodes.specs.Znodes.{znode_path, entry_path}
 use Rattle.rmt_events.specs.Views.{Table}
 use Rattle.rmt_events.specs.TableCalls.{Unlocks, DropsPartition, AssignsMerge, AssignsMutate}
-use Rattle.rmt_limits.specs.BlockNumbers.{next_number}
+use Rattle.rmt_model.specs.BlockNumbers.{next_number}
 use Rattle.rmt_names.specs.Names.{Name, rank}
 use Rattle.rmt_table_model.specs.Nodes.{AreLocks, drop_ops}
 use Rattle.rmt_table.specs.declared.lock.Lock as lock

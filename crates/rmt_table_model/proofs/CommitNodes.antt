@@ -19,7 +19,7 @@ use Rattle.rmt_znodes.specs.Znodes.{znode_path, IsZnode}
 use Rattle.rmt_znodes.specs.ZnodeStates.{ZnodeStates, with_state, without_state, Limits, HasZnodes, Makes}
 use Rattle.rmt_znodes.proofs.ZnodeStateLemmas.{has_znodes-as, Does, creates, with_counted, deletes, makes-none, makes-more}
 use Rattle.rmt_table_model.specs.Numbers.{unlocked}
-use Rattle.rmt_quorums.specs.Quorum.{Pending, quorum_blocks}
+use Rattle.rmt_model.specs.Quorum.{Pending, quorum_blocks}
 use Rattle.rmt_table_model.specs.Tables.{TableView, IsSound}
 use Rattle.rmt_table_model.specs.Changes.{after_commit, after_abandon, MayCommit}
 use Rattle.std.specs.Prelude.{take}

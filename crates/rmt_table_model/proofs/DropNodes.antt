@@ -5,7 +5,7 @@ use Rattle.std.specs.declared.option.Option.{Option}
 use Rattle.std.specs.declared.option.Option.TheVariants.{Some, None}
 use Rattle.std.specs.Option.{option_map}
 use Rattle.rmt_znodes.specs.Znodes.{entry_path, lock_path}
-use Rattle.rmt_limits.specs.BlockNumbers.{next_number}
+use Rattle.rmt_model.specs.BlockNumbers.{next_number}
 use Rattle.rmt_names.specs.Names.{Name, rank}
 use Rattle.rmt_names.specs.Texts.{text_of}
 use Rattle.rmt_entries.specs.declared.entry.Entry.{Entry}
@@ -21,7 +21,7 @@ use Rattle.rmt_znodes.specs.declared.znode.Znode.TheVariants.{Log, LogEntry, Blo
 use Rattle.rmt_znodes.specs.Znodes.{znode_path, IsZnode, IsPartition}
 use Rattle.rmt_znodes.specs.ZnodeStates.{ZnodeStates, same_znode, with_state, without_state, Limits, HasZnodes, Makes}
 use Rattle.rmt_table_model.specs.Numbers.{Holders, IsLocked, next_of, taken, unlocked, unlocked_below}
-use Rattle.rmt_quorums.specs.Quorum.{QuorumBlock, Pending, quorum_blocks}
+use Rattle.rmt_model.specs.Quorum.{QuorumBlock, Pending, quorum_blocks}
 use Rattle.rmt_table_model.specs.Tables.{TableView, IsSound}
 use Rattle.rmt_table_model.specs.Changes.{after_drop, MayDrop}
 use Rattle.rmt_table_model.proofs.NumberLemmas.{number-is, next-has}
@@ -32,7 +32,7 @@ use Rattle.rmt_znodes.specs.ZnodeStates.{IsWithin}
 use Rattle.rmt_znodes.proofs.ZnodeStateLemmas.{same-znode, znode-itself, has_znodes-as, Does, with_counted, creates-numbered, deletes, makes-none, makes-more, not-found}
 use Rattle.rmt_tree.specs.Trees.{Node, node_at}
 use Rattle.rmt_model.proofs.Lists.{Each-all}
-use Rattle.rmt_quorums.specs.Quorum.{is_dropped_by, pending_after_drop, last_after_drop}
+use Rattle.rmt_model.specs.Quorum.{is_dropped_by, pending_after_drop, last_after_drop}
 use Rattle.rmt_table_model.specs.Nodes.{plain, counting, owned, status_text, numbered_of, order_count, expected, noted_count, met_count, version_limits, IsTreeOf, kept_states, forget_ops, number_ops, unlock_ops, pending_drop_ops, last_drop_ops, drop_ops, lock_states, AreLocks}
 use Rattle.rmt_table_model.proofs.NodeLemmas.{does-as, makes-one, next-taken, not-locked}
 use Rattle.rmt_table_model.proofs.StepNodes.{unlocks, appends, appended, no-entry}

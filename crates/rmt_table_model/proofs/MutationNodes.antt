@@ -19,7 +19,7 @@ use Rattle.rmt_znodes.specs.declared.znode.Znode.{Znode}
 use Rattle.rmt_znodes.specs.declared.znode.Znode.TheVariants.{Log, LogEntry, Blocks, Block, Order, OrderOf, Numbers, Partition, Lock, Mutations, MutationNode, Quorum, Status, LastPart, Replicas, Replica, LogPointer, IsActive}
 use Rattle.rmt_znodes.specs.Znodes.{znode_path, IsZnode, IsPartition}
 use Rattle.rmt_znodes.specs.ZnodeStates.{ZnodeStates, with_state, Limits, HasZnodes, Makes}
-use Rattle.rmt_limits.specs.BlockNumbers.{next_numbers_after}
+use Rattle.rmt_model.specs.BlockNumbers.{next_numbers_after}
 use Rattle.rmt_table_model.specs.Numbers.{Nexts, AreNexts, next_of}
 use Rattle.rmt_table_model.specs.Tables.{TableView, IsSound}
 use Rattle.rmt_table_model.specs.Changes.{after_mutation, MayMutate}

@@ -5,7 +5,7 @@ use Rattle.std.specs.declared.option.Option.{Option}
 use Rattle.std.specs.declared.option.Option.TheVariants.{Some, None}
 use Rattle.std.specs.Option.{option_map}
 use Rattle.rmt_znodes.specs.Znodes.{lock_path}
-use Rattle.rmt_limits.specs.BlockNumbers.{next_number}
+use Rattle.rmt_model.specs.BlockNumbers.{next_number}
 use Rattle.rmt_names.specs.Names.{rank}
 use Rattle.rmt_entries.specs.declared.entry.Entry.{Entry}
 use Rattle.rmt_model.proofs.Lists.{rank-injective}
@@ -18,7 +18,7 @@ use Rattle.rmt_znodes.specs.declared.znode.Znode.TheVariants.{Log, LogEntry, Blo
 use Rattle.rmt_znodes.specs.Znodes.{znode_path, IsZnode}
 use Rattle.rmt_znodes.specs.ZnodeStates.{ZnodeStates, with_state, Limits, Makes}
 use Rattle.rmt_znodes.proofs.ZnodeStateLemmas.{znode-itself, has_znodes-as, Does, creates, with_counted, creates-numbered, makes-none, makes-more}
-use Rattle.rmt_quorums.specs.Quorum.{quorum_blocks}
+use Rattle.rmt_model.specs.Quorum.{quorum_blocks}
 use Rattle.rmt_table_model.specs.Numbers.{Nexts, AreNexts, next_of, taken, locked}
 use Rattle.rmt_table_model.specs.Tables.{TableView, IsSound}
 use Rattle.rmt_table_model.specs.Changes.{after_allocate, MayAllocate}

@@ -19,8 +19,8 @@ use Rattle.rmt_table_model.specs.Changes.{after_note}
 use Rattle.rmt_znodes.proofs.ZnodeStateLemmas.{Does, creates, sets, deletes, makes-more}
 use Rattle.rmt_table_model.proofs.NodeLemmas.{does-as, makes-one}
 use Rattle.rmt_table_model.specs.Nodes.{plain, status_text, expected, noted_count, met_count, version_limits, IsTreeOf, last_ops, noted_ops}
-use Rattle.rmt_quorums.specs.Quorum.{Pending, Quorum as QuorumOf, quorum_blocks, IsPending, IsQuorum, noted_with, noted_by}
-use Rattle.rmt_quorums.proofs.QuorumLemmas.{noted-length}
+use Rattle.rmt_model.specs.Quorum.{Pending, Quorum as QuorumOf, quorum_blocks, IsPending, IsQuorum, noted_with, noted_by}
+use Rattle.rmt_model.proofs.QuorumLemmas.{noted-length}
 use Rattle.rmt_table_model.proofs.DropNodes.{makes-as}
 
 module _ (bytes : Entry → List ℕ) (t : TreeView) (v : TableView) (of : IsTreeOf bytes t v) (sound : IsSound v) (r : ℕ) (q : Pending) (is : v.quorum.pending ≡ Some q) (new : Has q.noted r → ⊥) (small : length q.noted < 4294967295) (few : length (quorum_blocks v.log) < 4294967295) where

@@ -3,7 +3,7 @@ use Rattle.std.proofs.Common.{◌≡◌, ◌≢◌, ℕ, ◌+◌, ◌<◌, ◌�
 use Rattle.std.proofs.lemmas.Bool.Decides.{nat_tests}
 use Rattle.std.specs.declared.option.Option.{Option}
 use Rattle.std.specs.declared.option.Option.TheVariants.{Some, None}
-use Rattle.rmt_limits.specs.BlockNumbers.{next_number, next_numbers_after}
+use Rattle.rmt_model.specs.BlockNumbers.{next_number, next_numbers_after}
 use Rattle.rmt_names.specs.Names.{rank}
 use Rattle.rmt_model.specs.Words.{Has, Each, Pairwise}
 use Rattle.rmt_model.proofs.Lists.{Each-at, Each-all, rank-injective}

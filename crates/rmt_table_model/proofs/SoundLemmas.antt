@@ -5,8 +5,8 @@ use Rattle.std.proofs.lemmas.List.Sums.{sum_by-cons}
 use Rattle.std.proofs.lemmas.List.{get_or-set_same, get_or-set_other, set_past}
 use Rattle.std.specs.declared.option.Option.{Option}
 use Rattle.std.specs.declared.option.Option.TheVariants.{Some, None}
-use Rattle.rmt_limits.specs.EntryLimits.{is_client, client_count, worker_count}
-use Rattle.rmt_limits.specs.BlockNumbers.{next_number}
+use Rattle.rmt_model.specs.EntryLimits.{is_client, client_count, worker_count}
+use Rattle.rmt_model.specs.BlockNumbers.{next_number}
 use Rattle.rmt_values.specs.declared.checked_mutation.CheckedMutation.{CheckedMutation}
 use Rattle.rmt_names.specs.Names.{Name, merged_name}
 use Rattle.rmt_entries.specs.declared.entry.Entry.{Entry}
@@ -16,14 +16,14 @@ use Rattle.rmt_model.proofs.Lists.{Each-all}
 use Rattle.rmt_model.proofs.Drops.{fresh}
 use Rattle.rmt_znodes.specs.Znodes.{IsPartition}
 use Rattle.rmt_table_model.specs.Numbers.{Holders, IsLocked, IsPast, taken, unlocked}
-use Rattle.rmt_quorums.specs.Quorum.{IsQuorum}
+use Rattle.rmt_model.specs.Quorum.{IsQuorum}
 use Rattle.rmt_table_model.specs.Tables.{TableView, IsSound, IsOpen, session_of}
 use Rattle.rmt_table_model.specs.Changes.{after_allocate, after_commit, after_abandon, after_mutation, after_drop, after_merge, after_mutate, after_open, after_close, after_pull, after_note, MayAllocate, MayCommit, MayMutate, MayDrop, MayMerge, MayMutateOne, MayOpen}
 use Rattle.rmt_table_model.proofs.FreshLemmas.{fresh-get, fresh-merge, fresh-mutate, fresh-mutation, fresh-drop}
 use Rattle.rmt_table_model.proofs.NumberLemmas.{number-is, next-has, taken-length, each-length, past-number, taken-from, taken-nexts, taken-past, taken-given, each-more, each-from, each-nexts, each-past, locked-from, unlocked-from, unlocked_below-from, unlocked_by-from}
 use Rattle.rmt_table_model.specs.Kept.{is_get, in_order}
 use Rattle.rmt_table_model.proofs.KeptLemmas.{kept-get, kept-stays, kept-drop}
-use Rattle.rmt_quorums.proofs.QuorumLemmas.{quorum-stays, quorum-block, quorum-drop, quorum-note}
+use Rattle.rmt_model.proofs.QuorumLemmas.{quorum-stays, quorum-block, quorum-drop, quorum-note}
 
 -- ---- counts
 

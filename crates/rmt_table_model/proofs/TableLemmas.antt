@@ -10,8 +10,8 @@ use Rattle.std.specs.declared.option.Option.{Option}
 use Rattle.std.specs.declared.option.Option.TheVariants.{Some, None}
 use Rattle.std.specs.Fmt.{decimal}
 use Rattle.rmt_znodes.specs.Znodes.{entry_path}
-use Rattle.rmt_limits.specs.EntryLimits.{is_client, client_count, worker_count}
-use Rattle.rmt_limits.specs.BlockNumbers.{next_number}
+use Rattle.rmt_model.specs.EntryLimits.{is_client, client_count, worker_count}
+use Rattle.rmt_model.specs.BlockNumbers.{next_number}
 use Rattle.rmt_names.specs.Names.{Name, block_name, merged_name}
 use Rattle.rmt_entries.specs.declared.entry.Entry.{Entry}
 use Rattle.rmt_entries.specs.declared.entry.Entry.TheVariants.{Get, Merge, Mutate, Mutation, DropRange}
@@ -27,7 +27,7 @@ use Rattle.rmt_znodes.specs.Znodes.{znode_path}
 use Rattle.rmt_znodes.specs.ZnodeStates.{Makes, HasZnodes}
 use Rattle.rmt_znodes.proofs.ZnodeStateLemmas.{has_znodes-sessions}
 use Rattle.rmt_table_model.specs.Numbers.{IsLocked}
-use Rattle.rmt_quorums.specs.Quorum.{Pending, quorum_blocks, noted_with}
+use Rattle.rmt_model.specs.Quorum.{Pending, quorum_blocks, noted_with}
 use Rattle.rmt_table_model.specs.Kept.{get_count, is_get}
 use Rattle.rmt_table_model.specs.Tables.{TableView, IsSound, IsOpen, session_of}
 use Rattle.rmt_table_model.specs.Changes.{after_allocate, after_commit, after_abandon, after_mutation, after_drop, after_merge, after_mutate, after_open, after_close, after_pull, after_note, MayAllocate, MayCommit, MayMutate, MayDrop, MayMerge, MayMutateOne, MayOpen}

@@ -4,8 +4,8 @@
 use Rattle.std.specs.Prelude.{◌≡◌, ℕ, ◌+◌, ◌<◌, ◌≤◌, List, [], ◌∷◌, length, slice_set, replicate}
 use Rattle.std.specs.declared.option.Option.{Option}
 use Rattle.std.specs.declared.option.Option.TheVariants.{Some, None}
-use Rattle.rmt_limits.specs.EntryLimits.{client_count, worker_count}
-use Rattle.rmt_limits.specs.BlockNumbers.{next_number, next_numbers_after}
+use Rattle.rmt_model.specs.EntryLimits.{client_count, worker_count}
+use Rattle.rmt_model.specs.BlockNumbers.{next_number, next_numbers_after}
 use Rattle.rmt_values.specs.declared.checked_mutation.CheckedMutation.{CheckedMutation}
 use Rattle.rmt_values.specs.Rows.{Shape}
 use Rattle.rmt_values.specs.Commands.{CommandFits}
@@ -18,7 +18,7 @@ use Rattle.rmt_block.specs.Blocks.{IsId}
 use Rattle.rmt_znodes.specs.Znodes.{IsPartition}
 use Rattle.rmt_table_model.specs.Kept.{in_order, with_id}
 use Rattle.rmt_table_model.specs.Numbers.{IsLocked, next_of, taken, locked, unlocked, unlocked_below, unlocked_by}
-use Rattle.rmt_quorums.specs.Quorum.{quorum_after_block, quorum_after_drop, quorum_after_note}
+use Rattle.rmt_model.specs.Quorum.{quorum_after_block, quorum_after_drop, quorum_after_note}
 use Rattle.rmt_table_model.specs.Tables.{TableView, IsOpen}
 
 -- session s holds a lock on the next number of p

@@ -9,7 +9,7 @@ use Rattle.rmt_tree.specs.Trees.{Node, TreeView, node_at}
 use Rattle.rmt_znodes.specs.declared.znode.Znode.TheVariants.{Lock}
 use Rattle.rmt_znodes.specs.Znodes.{znode_path}
 use Rattle.rmt_table_model.specs.Numbers.{Nexts, Holders}
-use Rattle.rmt_quorums.specs.Quorum.{Quorum}
+use Rattle.rmt_model.specs.Quorum.{Quorum}
 use Rattle.rmt_table_model.specs.Tables.{TableView}
 use Rattle.rmt_table_model.specs.Nodes.{IsTable}
 

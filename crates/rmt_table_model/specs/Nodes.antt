@@ -5,7 +5,7 @@ use Rattle.std.specs.Fmt.{decimal}
 use Rattle.std.specs.declared.option.Option.{Option}
 use Rattle.std.specs.declared.option.Option.TheVariants.{Some, None}
 use Rattle.std.specs.Option.{option_map, option_and_then}
-use Rattle.rmt_limits.specs.BlockNumbers.{next_number}
+use Rattle.rmt_model.specs.BlockNumbers.{next_number}
 use Rattle.rmt_names.specs.Names.{Name, block_name}
 use Rattle.rmt_names.specs.Texts.{text_of}
 use Rattle.rmt_entries.specs.declared.entry.Entry.{Entry}
@@ -20,7 +20,7 @@ use Rattle.rmt_znodes.specs.ZnodeStates.{ZnodeState, ZnodeStates, Limits, HasZno
 use Rattle.rmt_model.specs.Words.{Has, Each, Pairwise}
 use Rattle.rmt_values.specs.declared.checked_mutation.CheckedMutation.{CheckedMutation}
 use Rattle.rmt_table_model.specs.Numbers.{Nexts, Holders, IsLocked, next_of}
-use Rattle.rmt_quorums.specs.Quorum.{QuorumBlock, Pending, quorum_blocks, is_dropped_by}
+use Rattle.rmt_model.specs.Quorum.{QuorumBlock, Pending, quorum_blocks, is_dropped_by}
 use Rattle.rmt_table_model.specs.Kept.{Placed, outlives, in_order, get_count, with_id, with_number}
 use Rattle.rmt_table_model.specs.Tables.{TableView, IsSound, IsOpen}
 

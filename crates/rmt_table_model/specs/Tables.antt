@@ -6,11 +6,11 @@ use Rattle.std.specs.declared.option.Option.TheVariants.{Some, None}
 use Rattle.rmt_values.specs.Rows.{Shape}
 use Rattle.rmt_entries.specs.declared.entry.Entry.{Entry}
 use Rattle.rmt_model.specs.Words.{Has}
-use Rattle.rmt_limits.specs.EntryLimits.{client_count, worker_count}
+use Rattle.rmt_model.specs.EntryLimits.{client_count, worker_count}
 use Rattle.rmt_model.specs.Lawful.{Lawful, Used, IsFresh, mutation_count}
 use Rattle.rmt_table_model.specs.Numbers.{Nexts, Holders, IsLocked, IsPast, AreNexts}
 use Rattle.rmt_znodes.specs.Znodes.{IsPartition}
-use Rattle.rmt_quorums.specs.Quorum.{Quorum, IsQuorum}
+use Rattle.rmt_model.specs.Quorum.{Quorum, IsQuorum}
 use Rattle.rmt_table_model.specs.Kept.{AreKept}
 
 -- what a table has: its schema, its log, the newest entry first, its numbers and locks, the session of each replica that

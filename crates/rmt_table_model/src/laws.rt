@@ -13,8 +13,8 @@ ghost use Rattle.rmt_entries.specs.declared.entry.Entry.TheVariants.{Merge, Muta
 ghost use Rattle.rmt_model.specs.Words.{Has};
 ghost use Rattle.rmt_model.specs.Live.{live};
 ghost use Rattle.rmt_model.specs.Lawful.{Lawful, Merges, entry_at, block_count, mutations_through};
-ghost use Rattle.rmt_limits.specs.BlockNumbers.{next_number};
-ghost use Rattle.rmt_quorums.specs.Quorum.{Pending, noted_with};
+ghost use Rattle.rmt_model.specs.BlockNumbers.{next_number};
+ghost use Rattle.rmt_model.specs.Quorum.{Pending, noted_with};
 ghost use Rattle.rmt_tree.specs.Trees.{TreeView, IsLeastFree, is_open, opened, ended, empty_tree};
 ghost use Rattle.rmt_tree.specs.declared.op.Op.TheVariants as op;
 ghost use Rattle.rmt_znodes.specs.declared.znode.Znode.TheVariants.{Lock, LogPointer, IsActive};

@@ -10,8 +10,8 @@ use Rattle.rmt_names.specs.Names.{Name, rank, Spans, merged_name}
 use Rattle.rmt_model.specs.Words.{Has}
 use Rattle.rmt_model.specs.Lawful.{block_count, mutations_through}
 use Rattle.rmt_model.proofs.Lists.{Each-all, Has-filter, Has-kept, Pairwise-filter, rank-injective}
-use Rattle.rmt_limits.specs.BlockNumbers.{next_number, with_next}
-use Rattle.rmt_limits.specs.EntryLimits.{client_count}
+use Rattle.rmt_model.specs.BlockNumbers.{next_number, with_next}
+use Rattle.rmt_model.specs.EntryLimits.{client_count}
 use Rattle.rmt_table_model.specs.Numbers.{Nexts, Holders, locked, owner_but}
 use Rattle.rmt_table_model.specs.Kept.{Placed, in_order, with_id}
 use Rattle.rmt_table_model.specs.Tables as tables

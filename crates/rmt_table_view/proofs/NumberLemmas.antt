@@ -11,8 +11,8 @@ use Rattle.rmt_model.specs.Words.{Has, Each}
 use Rattle.rmt_model.specs.Lawful.{mutation_count}
 use Rattle.rmt_model.specs.Window.{Kept, kept}
 use Rattle.rmt_model.proofs.Lists.{Each-at, Each-all, rank-injective}
-use Rattle.rmt_limits.specs.BlockNumbers.{next_number, with_next}
-use Rattle.rmt_limits.specs.EntryLimits.{client_count, worker_count, client_limit, worker_limit, allocate_limit, commit_limit, numbers_limit, mutation_limit, drop_limit}
+use Rattle.rmt_model.specs.BlockNumbers.{next_number, with_next}
+use Rattle.rmt_model.specs.EntryLimits.{client_count, worker_count, client_limit, worker_limit, allocate_limit, commit_limit, numbers_limit, mutation_limit, drop_limit}
 use Rattle.rmt_table_model.specs.Numbers.{Nexts, AreNexts, next_of, taken}
 use Rattle.rmt_table_model.specs.Kept.{Placed, in_order, has_id, with_id}
 use Rattle.rmt_table_model.specs.Nodes.{or_zero}

@@ -6,8 +6,8 @@ ghost use Rattle.rmt_values.specs.declared.checked_mutation.CheckedMutation.{Che
 ghost use Rattle.rmt_names.specs.Names.{Name, merged_name};
 ghost use Rattle.rmt_model.specs.Words.{Has, Pairwise};
 ghost use Rattle.rmt_model.specs.Lawful.{block_count, mutations_through};
-ghost use Rattle.rmt_limits.specs.BlockNumbers.{next_number};
-ghost use Rattle.rmt_limits.specs.EntryLimits.{client_count};
+ghost use Rattle.rmt_model.specs.BlockNumbers.{next_number};
+ghost use Rattle.rmt_model.specs.EntryLimits.{client_count};
 ghost use Rattle.rmt_table_model.specs.Numbers as numbers;
 ghost use Rattle.rmt_table_model.specs.Kept.{in_order, with_id};
 ghost use Rattle.rmt_table_model.specs.Inserts.{part_of};

@@ -1,6 +1,6 @@
 //! The calls of an insert on the table, and on the replica that it is made at.
 ghost use Rattle.std.specs.Prelude.{◌≡◌, ◌↔◌, IfOk, IfErr, IsTrue, OnErr, OnOk, length};
-ghost use Rattle.rmt_limits.specs.BlockNumbers.{next_number};
+ghost use Rattle.rmt_model.specs.BlockNumbers.{next_number};
 ghost use Rattle.rmt_events.specs.TableCalls.{IsLocked, Allocates, Commits, Unlocks};
 ghost use Rattle.rmt_events.specs.Clusters.{values_of as values_in};
 ghost use Rattle.rmt_table.specs.TableTrees.{table_at, AfterNoCommit, IsReplica};

@@ -1,8 +1,8 @@
 ghost use Rattle.std.specs.Prelude.{◌≡◌, ◌≤◌, IfOk, IfErr, OnErr, length};
 ghost use Rattle.std.specs.Option.{option_map};
 ghost use Rattle.std.specs.declared.option.Option.TheVariants.{Some};
-ghost use Rattle.rmt_limits.specs.BlockNumbers.{next_number};
-ghost use Rattle.rmt_limits.specs.EntryLimits.{client_count, allocate_limit};
+ghost use Rattle.rmt_model.specs.BlockNumbers.{next_number};
+ghost use Rattle.rmt_model.specs.EntryLimits.{client_count, allocate_limit};
 ghost use Rattle.rmt_values.specs.declared.limit.Limit.TheVariants.{ClientEntries};
 ghost use Rattle.rmt_table.specs.declared.allocate_error.AllocateError.TheVariants.{LimitReached};
 ghost use Rattle.rmt_tree.specs.Ops.{after_all};

@@ -2,7 +2,7 @@ ghost use Rattle.std.specs.Prelude.{◌≤◌, ℕ, length};
 ghost use Rattle.std.specs.declared.option.Option.{Option};
 ghost use Rattle.rmt_model.specs.Words.{Has};
 ghost use Rattle.rmt_model.specs.Lawful.{mutation_count};
-ghost use Rattle.rmt_limits.specs.EntryLimits.{client_count, worker_count};
+ghost use Rattle.rmt_model.specs.EntryLimits.{client_count, worker_count};
 
 use crate::table_tree::TableTree;
 

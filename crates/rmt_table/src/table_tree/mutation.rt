@@ -9,7 +9,7 @@ ghost use Rattle.rmt_znodes.specs.Znodes.{znode_path, entry_path};
 ghost use Rattle.rmt_entries.specs.EntryBytes.{entry_bytes, EntryInRange, CommandInRange};
 ghost use Rattle.rmt_entries.specs.declared.entry.Entry.TheVariants.{Mutation};
 ghost use Rattle.rmt_model.specs.Lawful.{mutation_count};
-ghost use Rattle.rmt_limits.specs.EntryLimits.{mutation_limit};
+ghost use Rattle.rmt_model.specs.EntryLimits.{mutation_limit};
 ghost use Rattle.rmt_events.specs.TableCalls.{CreatesMutation};
 ghost use Rattle.rmt_table_model.specs.Held.{table_of};
 ghost use Rattle.rmt_table_model.specs.Nodes.{mutation_ops, number_ops as ops_of_number, numbers_ops as ops_of_numbers};

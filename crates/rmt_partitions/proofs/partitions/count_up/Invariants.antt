@@ -1,5 +1,5 @@
 use Rattle.std.proofs.Common.{◌≡◌, ◌++◌, drop, take}
-use Rattle.rmt_limits.specs.BlockNumbers.{next_numbers_after}
+use Rattle.rmt_model.specs.BlockNumbers.{next_numbers_after}
 use Rattle.rmt_partitions.proofs.partitions.count_up.Given as goal
 
 abbrev pub invariant-loop-pair : goal.invariant-loop-pair

@@ -3,7 +3,7 @@ use Rattle.std.specs.Result.{is_ok}
 use Rattle.std.specs.List.{insert}
 use Rattle.std.proofs.lemmas.Option.{slice_get_within}
 use Rattle.std.proofs.lemmas.List.Sums.{prefix_len-le-length}
-use Rattle.rmt_limits.specs.BlockNumbers.{next_number, with_next}
+use Rattle.rmt_model.specs.BlockNumbers.{next_number, with_next}
 use Rattle.rmt_history.specs.Mutations.{AreInOrder}
 use Rattle.rmt_history.proofs.NumberLemmas.{is_early}
 use Rattle.rmt_partitions.specs.NumbersInOrder.{NumbersInOrder, StandsAt, BelongsAt}

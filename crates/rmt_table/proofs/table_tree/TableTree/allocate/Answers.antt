@@ -1,5 +1,5 @@
 use Rattle.std.proofs.Common.{◌∙◌, ◌+◌, ◌<◌, sym, ap, subst, ℕ, List, Option}
-use Rattle.rmt_limits.specs.BlockNumbers.{next_number, with_next}
+use Rattle.rmt_model.specs.BlockNumbers.{next_number, with_next}
 use Rattle.rmt_tree.specs.Ops.{after_all}
 use Rattle.rmt_table_model.specs.Nodes.{allocate_ops}
 use Rattle.rmt_table_model.specs.Held.{Held, table_of, holders_in}

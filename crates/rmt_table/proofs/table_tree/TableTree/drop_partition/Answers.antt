@@ -7,7 +7,7 @@ use Rattle.rmt_row.specs.Token.{Token}
 use Rattle.rmt_entries.specs.declared.entry.Entry.{Entry}
 use Rattle.rmt_entries.specs.declared.entry.Entry.TheVariants.{DropRange}
 use Rattle.rmt_history.specs.Copies.{entries}
-use Rattle.rmt_limits.specs.BlockNumbers.{next_number, with_next}
+use Rattle.rmt_model.specs.BlockNumbers.{next_number, with_next}
 use Rattle.rmt_tree.specs.Ops.{after_all, first_refusal}
 use Rattle.rmt_table_model.specs.Numbers.{Nexts}
 use Rattle.rmt_table_model.specs.Held.{Held}

@@ -1,6 +1,6 @@
 use Rattle.std.proofs.Common.{sym, ap, ◌∙◌}
 use Rattle.rmt_values.specs.declared.limit.Limit.TheVariants.{Numbers, ClientEntries}
-use Rattle.rmt_limits.specs.EntryLimits.{mutation_limit}
+use Rattle.rmt_model.specs.EntryLimits.{mutation_limit}
 use Rattle.rmt_table.specs.contracts.table_tree.TableTree.{the_view}
 use Rattle.rmt_table.proofs.ChangeLimits.{limit-is, limit_error}
 use Rattle.rmt_table.proofs.Mutations.{refused-number, refused-clients, refused-not}

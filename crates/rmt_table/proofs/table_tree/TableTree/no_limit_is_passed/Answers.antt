@@ -2,7 +2,7 @@ use Rattle.std.proofs.Common.{ℕ, ◌≤◌, length, subst}
 use Rattle.std.specs.declared.option.Option.{Option}
 use Rattle.rmt_model.specs.Words.{Has}
 use Rattle.rmt_model.specs.Lawful.{mutation_count}
-use Rattle.rmt_limits.specs.EntryLimits.{client_count, worker_count}
+use Rattle.rmt_model.specs.EntryLimits.{client_count, worker_count}
 use Rattle.rmt_table_model.specs.Held.{Held, table_of}
 use Rattle.rmt_table.proofs.SoundRanges.{sound-length}
 use Rattle.rmt_table.specs.contracts.table_tree.TableTree.{the_view}

@@ -8,7 +8,7 @@ use Rattle.rmt_values.specs.declared.limit.Limit.TheVariants as limits
 use Rattle.rmt_entries.specs.declared.entry.Entry.{Entry}
 use Rattle.rmt_entries.specs.declared.entry.Entry.TheVariants.{Get, Merge, Mutate, Mutation, DropRange}
 use Rattle.rmt_model.specs.Lawful.{mutation_count}
-use Rattle.rmt_limits.specs.BlockNumbers.{next_number}
+use Rattle.rmt_model.specs.BlockNumbers.{next_number}
 
 -- the entry is of a client
 abbrev pub is_client : Entry → Bool

@@ -1,5 +1,5 @@
-use Rattle.rmt_quorums.proofs.QuorumLemmas.{quorum-block, quorum-drop, quorum-note}
-use Rattle.rmt_quorums.proofs.laws.a_quorum_follows_its_log.Goals as goal
+use Rattle.rmt_model.proofs.QuorumLemmas.{quorum-block, quorum-drop, quorum-note}
+use Rattle.rmt_laws.proofs.laws.a_quorum_follows_its_log.Goals as goal
 
 pub returns-clause-block : goal.returns-clause-block
 returns-clause-block c = λ schema log p n digest source need q l none h. quorum-block schema p n digest source need log q l none h

@@ -13,7 +13,7 @@ use Rattle.rmt_model.specs.Lawful.{Used, Lawful}
 use Rattle.rmt_model.proofs.Lists.{Each-at, Each-all, rank-injective}
 use Rattle.rmt_model.proofs.Drops.{dropped-made}
 use Rattle.rmt_model.proofs.VersionLaws.{made-used}
-use Rattle.rmt_quorums.specs.Quorum.{QuorumBlock, Pending, Quorum, quorum_blocks, IsPending, IsLast, IsNewest, IsQuorum, is_dropped_by, pending_after_drop, last_after_drop, quorum_after_drop, quorum_after_block, noted_with, noted_by, quorum_after_note}
+use Rattle.rmt_model.specs.Quorum.{QuorumBlock, Pending, Quorum, quorum_blocks, IsPending, IsLast, IsNewest, IsQuorum, is_dropped_by, pending_after_drop, last_after_drop, quorum_after_drop, quorum_after_block, noted_with, noted_by, quorum_after_note}
 use Rattle.rmt_entries.specs.Entries.{result_name}
 use Rattle.rmt_model.specs.Laws.{Supersedes}
 use Rattle.rmt_model.proofs.LiveLaws.{later-covers}

@@ -1,2 +1,0 @@
-pub mod BlockNumbers
-pub mod EntryLimits
