@@ -4,7 +4,7 @@ ghost use Rattle.std.specs.List.{All};
 ghost use Rattle.rmt_values.specs.Rows.{fits};
 ghost use Rattle.rmt_events.specs.Clusters.{without_kinds};
 ghost use Rattle.rmt_events.specs.Whole.{IsWhole};
-ghost use Rattle.rmt_cluster.specs.Clusters.{IsNumber};
+ghost use Rattle.rmt_state.specs.States.{IsNumber};
 ghost use Rattle.rmt_statement_model.specs.TableStates.{TableState, learned};
 ghost use Rattle.rmt_statement_model.specs.Shows.{HoldsNone, IsIdle, Shows, Leads, ups};
 ghost use Rattle.rmt_statement_model.specs.Attempts.{IsAllocateReply, IsCommitReply};

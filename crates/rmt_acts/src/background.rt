@@ -1,6 +1,6 @@
 //! Background work, and replicas whose sessions end and begin.
 ghost use Rattle.std.specs.Prelude.{◌≡◌, ◌<◌, ◌^◌, ℕ, cond, nat_eq, true, false, length, OnOk};
-ghost use Rattle.rmt_cluster.specs.Clusters.{IsNumber};
+ghost use Rattle.rmt_state.specs.States.{IsNumber};
 ghost use Rattle.rmt_cluster.specs.Runs.{RunsAll};
 ghost use Rattle.rmt_statement_model.specs.TableStates.{TableState};
 ghost use Rattle.rmt_statement_model.specs.BackgroundWork.{Works};

@@ -2,7 +2,7 @@
 ghost use Rattle.std.specs.Prelude.{◌≡◌, length, map, true, IfOk};
 ghost use Rattle.std.specs.List.{All};
 ghost use Rattle.rmt_format.specs.PartBytes.{HasPartBytes};
-ghost use Rattle.rmt_cluster.specs.Clusters.{IsNumber};
+ghost use Rattle.rmt_state.specs.States.{IsNumber};
 ghost use Rattle.rmt_statement_model.specs.TableStates.{TableState};
 ghost use Rattle.rmt_statement_model.specs.Shows.{Shows, Leads, ups};
 ghost use Rattle.rmt_acts.specs.Checking.{AreDigests, digest_in};

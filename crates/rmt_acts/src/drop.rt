@@ -1,6 +1,6 @@
 //! ALTER .. DROP PARTITION.
 ghost use Rattle.std.specs.Prelude.{◌≡◌, length, IfOk};
-ghost use Rattle.rmt_cluster.specs.Clusters.{IsNumber};
+ghost use Rattle.rmt_state.specs.States.{IsNumber};
 ghost use Rattle.rmt_statement_model.specs.Shows.{IsIdle, ups};
 ghost use Rattle.rmt_acts.specs.Changing.{DropsTo, HasDrop, HasDropAt, IsNumberAt, DoesDrop};
 

@@ -6,7 +6,7 @@ ghost use Rattle.rmt_names.specs.Names.{Name};
 ghost use Rattle.rmt_entries.specs.declared.entry.Entry.TheVariants.{Merge as MergeOf};
 ghost use Rattle.rmt_model.specs.Words.{Has};
 ghost use Rattle.rmt_model.specs.Lawful.{entry_at};
-ghost use Rattle.rmt_cluster.specs.Clusters.{IsNumber};
+ghost use Rattle.rmt_state.specs.States.{IsNumber};
 ghost use Rattle.rmt_statement_model.specs.TableStates.{TableState};
 ghost use Rattle.rmt_statement_model.specs.Optimizes.{live_of, OptimizesTable};
 ghost use Rattle.rmt_statement_model.specs.Shows.{IsIdle, IsUpToDate, Shows, Leads, ups};

@@ -2,7 +2,7 @@
 ghost use Rattle.std.specs.Prelude.{◌≡◌, ℕ, length, slice_get, true, IfOk};
 ghost use Rattle.std.specs.declared.option.Option.TheVariants.{Some};
 ghost use Rattle.std.specs.List.{All, filter};
-ghost use Rattle.rmt_cluster.specs.Clusters.{IsNumber};
+ghost use Rattle.rmt_state.specs.States.{IsNumber};
 ghost use Rattle.rmt_row.specs.Token.{Token};
 ghost use Rattle.rmt_model.specs.Lawful.{is_mutation, mutation_count};
 ghost use Rattle.rmt_changes.specs.Changes.{entries_of};

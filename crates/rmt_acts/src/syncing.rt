@@ -1,6 +1,6 @@
 //! A replica is brought up to date.
 ghost use Rattle.std.specs.Prelude.{◌≡◌, ◌≢◌, length, IfOk, OnOk};
-ghost use Rattle.rmt_cluster.specs.Clusters.{IsNumber};
+ghost use Rattle.rmt_state.specs.States.{IsNumber};
 ghost use Rattle.rmt_cluster.specs.declared.sync_error.SyncError.TheVariants.{ReplicaDown};
 ghost use Rattle.rmt_statement_model.specs.Shows.{IsIdle, ups};
 ghost use Rattle.rmt_acts.specs.Syncing.{HasDoneGets, IsSynced, IsToldAs, SyncsReplica};

@@ -3,7 +3,7 @@ ghost use Rattle.std.specs.Prelude.{◌≡◌, ◌<◌, length, IfOk};
 ghost use Rattle.rmt_model.specs.Words.{Has};
 ghost use Rattle.rmt_model.specs.Live.{live};
 ghost use Rattle.rmt_model.specs.Lawful.{mutation_count};
-ghost use Rattle.rmt_cluster.specs.Clusters.{IsNumber};
+ghost use Rattle.rmt_state.specs.States.{IsNumber};
 ghost use Rattle.rmt_events.specs.LogEvents.{IsMutable};
 ghost use Rattle.rmt_statement_model.specs.Shows.{IsIdle, IsUpToDate, ups};
 ghost use Rattle.rmt_acts.specs.Waiting.{IsPlaceOf, MutatesOne, Settles, WaitsTo};

@@ -24,7 +24,7 @@ use Rattle.rmt_events.specs.declared.event.Event.TheVariants as ev
 use Rattle.rmt_events.specs.declared.reply.Reply.{Reply}
 use Rattle.rmt_events.specs.declared.reply.Reply.TheVariants as rp
 use Rattle.rmt_supply.specs.PartSources.{IsAccepted}
-use Rattle.rmt_cluster.specs.States.{StateView, cluster_of}
+use Rattle.rmt_state.specs.States.{StateView, cluster_of}
 use Rattle.rmt_cluster.specs.Attempts.{OpenAttempts}
 use Rattle.rmt_cluster.specs.Acting.{KeepsAccepted}
 use Rattle.rmt_cluster.specs.Clusters.{IsTaken, IsCluster}

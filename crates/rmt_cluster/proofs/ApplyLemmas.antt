@@ -45,13 +45,12 @@ use Rattle.rmt_events.specs.declared.applied.Applied.TheVariants as came
 use Rattle.rmt_supply.specs.declared.found.Found.{Found}
 use Rattle.rmt_supply.specs.declared.found.Found.TheVariants as found
 use Rattle.rmt_supply.specs.PartSources.{AreOfOneTable, IsClusterOf, Does, Suits, IsMissing, IsFoundFor}
-use Rattle.rmt_cluster.specs.States.{StateView, Belongs, AreNumbered, IsState, cluster_of, Acts}
+use Rattle.rmt_state.specs.States.{StateView, Belongs, AreNumbered, IsState, cluster_of, Acts}
 use Rattle.rmt_cluster.specs.Acting.{KeepsAccepted}
 use Rattle.rmt_cluster.specs.Causes.{IsApplyReply, what_came}
-use Rattle.rmt_cluster.proofs.StateLemmas.{at-place}
-use Rattle.rmt_cluster.proofs.PullLemmas.{changed-at, down-in}
-use Rattle.rmt_cluster.proofs.StageLemmas.{KeepsCopy}
-use Rattle.rmt_cluster.proofs.AssignLemmas.{IsWorker, up-at, declined}
+use Rattle.rmt_state.proofs.StateLemmas.{at-place}
+use Rattle.rmt_state.proofs.PullLemmas.{changed-at, down-in}
+use Rattle.rmt_state.proofs.AssignLemmas.{IsWorker, up-at, declined}
 
 -- ---- what is refused
 
@@ -200,15 +199,6 @@ pub suits-of-table : (rs : List ReplicaView) (x : ReplicaView) (i : ℕ) (supply
 suits-of-table rs x i Nothing u = tt
 suits-of-table rs x i (Built p) u = u.0.of_table
 suits-of-table rs x i (Fetched p) u = u.0.of_table
-
-same-copy : (x y z : ReplicaView) → z ≡ y → KeepsCopy x y → KeepsCopy x z
-same-copy x y z e k = subst (KeepsCopy x) (sym e) k
-
-pub change-keeps : (x y : ReplicaView) (i : ℕ) (supply : Supply) (r : Result Done ApplyError) → own.IsChange x i supply r y → KeepsCopy x y
-change-keeps x y i supply (Err e) c = same-copy x x y c (record { number = refl; schema = refl; log = refl })
-change-keeps x y i supply (Ok done.Already) c = same-copy x (own.settled x i) y c (record { number = refl; schema = refl; log = refl })
-change-keeps x y i supply (Ok done.Dropped) c = same-copy x (own.settled x i) y c (record { number = refl; schema = refl; log = refl })
-change-keeps x y i supply (Ok done.Installed) c = same-copy x (record (own.settled x i) { parts = y.parts }) y c.others (record { number = refl; schema = refl; log = refl })
 
 pub missing-found : (rs qs : List ReplicaView) (x : ReplicaView) (i : ℕ) (a : Name) (f : Found) → qs ≡ rs → IsFoundFor qs x i f → f ≡ found.Missing a → IsMissing rs x i a
 missing-found rs qs x i a f e h q = subst (λ (l : List ReplicaView). IsMissing l x i a) e (subst (λ (g : Found). IsFoundFor qs x i g) q h)

@@ -24,10 +24,11 @@ use Rattle.rmt_events.specs.declared.reply.Reply.TheVariants as rp
 use Rattle.rmt_events.proofs.WholeReplica.{whole-copies}
 use Rattle.rmt_events.proofs.WholeSessions.{whole-kills}
 use Rattle.rmt_events.proofs.WholeSteps.{whole-step}
-use Rattle.rmt_cluster.specs.States.{StateView, IsState, cluster_of}
+use Rattle.rmt_state.specs.States.{StateView, IsState, cluster_of}
 use Rattle.rmt_cluster.specs.Attempts.{OpenAttempts}
 use Rattle.rmt_cluster.specs.Acting.{ActsWith, AreSame, SuitAttempts}
-use Rattle.rmt_cluster.specs.Clusters.{numbers_given, IsNumber, IsTaken, IsCluster, MayStep, MayAct, Stops, AfterError}
+use Rattle.rmt_state.specs.States.{numbers_given, IsNumber}
+use Rattle.rmt_cluster.specs.Clusters.{IsTaken, IsCluster, MayStep, MayAct, Stops, AfterError}
 
 -- ---- numbers given
 
@@ -46,10 +47,6 @@ given-next (x ∷ xs) p = go (nat_lt (rank x.0) (rank p)) refl (nat_eq (rank x.0
 pub given-after : (xs : List (Option ℕ × ℕ)) → numbers_given xs ≤ numbers_given (next_numbers_after xs)
 given-after [] = omega arith
 given-after (x ∷ xs) = let i = given-after xs in omega (arith, i)
-
-pub given-few : (xs : List (Option ℕ × ℕ)) → ((p : Option ℕ) (n : ℕ) → Has xs (p, n) → n ≤ 65536) → numbers_given xs ≤ length xs * 65536
-given-few [] f = omega arith
-given-few (x ∷ xs) f = let a = f x.0 x.1 (inl refl) in let i = given-few xs (λ p n h. f p n (inr h)) in omega (arith, a, i)
 
 -- ---- replicas
 

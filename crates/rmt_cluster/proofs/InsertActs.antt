@@ -19,7 +19,7 @@ use Rattle.rmt_events.specs.declared.event.Event.TheVariants as ev
 use Rattle.rmt_events.specs.declared.reply.Reply.TheVariants as rp
 use Rattle.rmt_events.specs.declared.step_refused.StepRefused.{StepRefused}
 use Rattle.rmt_events.specs.declared.step_refused.StepRefused.TheVariants as rf
-use Rattle.rmt_cluster.specs.States.{StateView, cluster_of, ActsAt, HasSomeBlockAt}
+use Rattle.rmt_state.specs.States.{StateView, cluster_of, ActsAt, HasSomeBlockAt}
 use Rattle.rmt_cluster.specs.Attempts.{OpenAttempts, HoldsBlock}
 use Rattle.rmt_cluster.specs.Acting.{ActsWith, SuitAttempts, EndsAt}
 use Rattle.rmt_cluster.proofs.CauseLemmas.{IsLostFor, IsGone}

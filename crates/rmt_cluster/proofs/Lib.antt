@@ -1,17 +1,9 @@
-pub mod StateLemmas
 pub mod AttemptLemmas
-pub mod SessionLemmas
-pub mod PullLemmas
-pub mod StageLemmas
-pub mod ChangeLemmas
-pub mod AssignLemmas
 pub mod ApplyLemmas
 pub mod AcceptedLemmas
 pub mod PartSizes
-pub mod InsertLemmas
 pub mod CauseLemmas
 pub mod InsertActs
-pub mod NewLemmas
 pub mod NewClusterLemmas
 pub mod ClusterLemmas
 pub mod SyncLemmas

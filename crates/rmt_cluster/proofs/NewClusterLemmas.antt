@@ -9,12 +9,12 @@ use Rattle.rmt_events.specs.Clusters.{Attempt}
 use Rattle.rmt_events.specs.Whole.{IsWhole}
 use Rattle.rmt_events.specs.declared.event.Event.{Event}
 use Rattle.rmt_events.specs.declared.reply.Reply.{Reply}
-use Rattle.rmt_cluster.specs.States.{StateView, AreNumbered, Belongs, cluster_of}
-use Rattle.rmt_cluster.specs.NewStates.{IsNewState}
+use Rattle.rmt_state.specs.States.{StateView, AreNumbered, Belongs, cluster_of}
+use Rattle.rmt_state.specs.NewStates.{IsNewState}
 use Rattle.rmt_cluster.specs.Attempts.{OpenAttempts}
 use Rattle.rmt_cluster.specs.NewClusters.{AreCounted, IsNewCluster}
 use Rattle.rmt_cluster.specs.Clusters.{IsTaken, IsCluster}
-use Rattle.rmt_cluster.proofs.NewLemmas.{new-cluster, new-is-whole}
+use Rattle.rmt_state.proofs.NewLemmas.{new-cluster, new-is-whole}
 
 -- nothing stands beside the state
 nothing-beside : (s : StateView) (a : OpenAttempts) (events : List (Event × Reply)) → a.made ≡ 0 → a.open_ones ≡ [] → events ≡ [] → cluster_of s a.made a.open_ones events ≡ cluster_of s 0 [] []

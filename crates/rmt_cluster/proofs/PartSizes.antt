@@ -23,7 +23,7 @@ use Rattle.rmt_events.specs.Whole.{Follows, IsWhole}
 use Rattle.rmt_events.specs.declared.event.Event.{Event}
 use Rattle.rmt_events.specs.declared.reply.Reply.{Reply}
 use Rattle.rmt_events.proofs.Converge.{part-content}
-use Rattle.rmt_cluster.specs.States.{StateView, cluster_of}
+use Rattle.rmt_state.specs.States.{StateView, cluster_of}
 use Rattle.rmt_cluster.specs.Attempts.{OpenAttempts}
 use Rattle.rmt_cluster.specs.Clusters.{IsCluster}
 

@@ -34,11 +34,11 @@ use Rattle.rmt_events.specs.Views.{Replica}
 use Rattle.rmt_events.specs.Clusters.{Cluster}
 use Rattle.rmt_events.specs.Whole.{HasReplica, IsWhole}
 use Rattle.rmt_events.specs.ClusterChanges.{IsNumbered, IsDown}
-use Rattle.rmt_cluster.specs.States.{StateView, AreNumbered, IsState}
-use Rattle.rmt_cluster.specs.Clusters.{IsNumber}
+use Rattle.rmt_state.specs.States.{StateView, AreNumbered, IsState}
+use Rattle.rmt_state.specs.States.{IsNumber}
 use Rattle.rmt_cluster.specs.Readings.{parts_read}
-use Rattle.rmt_cluster.proofs.StateLemmas.{at-place}
-use Rattle.rmt_cluster.proofs.StageLemmas.{one-numbered}
+use Rattle.rmt_state.proofs.StateLemmas.{at-place}
+use Rattle.rmt_state.proofs.StageLemmas.{one-numbered}
 use Rattle.rmt_cluster.proofs.PartSizes.{small-parts}
 
 -- ---- the replica of a number

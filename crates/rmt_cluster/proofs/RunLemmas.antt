@@ -23,8 +23,9 @@ use Rattle.rmt_events.specs.declared.event.Event.{Event}
 use Rattle.rmt_events.specs.declared.event.Event.TheVariants as ev
 use Rattle.rmt_events.specs.declared.reply.Reply.{Reply}
 use Rattle.rmt_draws.specs.Turns.{IsTurn}
-use Rattle.rmt_cluster.specs.States.{StateView, AreNumbered, IsState, cluster_of}
-use Rattle.rmt_cluster.specs.Clusters.{IsNumber, IsTaken, MayStep}
+use Rattle.rmt_state.specs.States.{StateView, AreNumbered, IsState, cluster_of}
+use Rattle.rmt_state.specs.States.{IsNumber}
+use Rattle.rmt_cluster.specs.Clusters.{IsTaken, MayStep}
 use Rattle.rmt_cluster.specs.Runs.{TakesTurn}
 
 -- ---- copies of the log

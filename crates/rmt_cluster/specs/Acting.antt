@@ -16,7 +16,7 @@ use Rattle.rmt_events.specs.declared.event.Event.{Event}
 use Rattle.rmt_events.specs.declared.reply.Reply.{Reply}
 use Rattle.rmt_table.specs.declared.lock.Lock.{Lock}
 use Rattle.rmt_table.specs.TableTrees.{IsReplica}
-use Rattle.rmt_cluster.specs.States.{StateView, cluster_of, ChangesAt}
+use Rattle.rmt_state.specs.States.{StateView, cluster_of, ChangesAt}
 use Rattle.rmt_cluster.specs.Attempts.{OpenAttempts}
 
 -- the event was done, whatever events there are

@@ -1,10 +1,9 @@
--- Why a call on the table did nothing, as an event is answered; out of memory is no answer.
-use Rattle.std.specs.Prelude.{◌≡◌, ℕ, Bool, true, false, IsErr, MatchOption}
+-- Why a call on the state did nothing, as an event is answered; out of memory is no answer.
+-- No public source: this program's own.
+use Rattle.std.specs.Prelude.{◌≡◌, Bool, true, false, IsErr, MatchOption}
 use Rattle.std.specs.declared.result.Result.{Result}
 use Rattle.std.specs.declared.result.Result.TheVariants.{Ok, Err}
 use Rattle.std.specs.declared.alloc.AllocError.{AllocError}
-use Rattle.rmt_row.specs.Token.{Token}
-use Rattle.rmt_entries.specs.declared.entry.Entry.{Entry}
 use Rattle.rmt_events.specs.declared.reply.Reply.{Reply}
 use Rattle.rmt_events.specs.declared.reply.Reply.TheVariants as rp
 use Rattle.std.specs.declared.option.Option.{Option}
@@ -13,10 +12,6 @@ use Rattle.rmt_table.specs.declared.allocate_error.AllocateError.{AllocateError}
 use Rattle.rmt_table.specs.declared.allocate_error.AllocateError.TheVariants as allocate
 use Rattle.rmt_table.specs.declared.commit_error.CommitError.{CommitError}
 use Rattle.rmt_table.specs.declared.commit_error.CommitError.TheVariants as commit
-use Rattle.rmt_table.specs.declared.merge_error.MergeError.{MergeError}
-use Rattle.rmt_table.specs.declared.merge_error.MergeError.TheVariants as merge
-use Rattle.rmt_table.specs.declared.mutate_error.MutateError.{MutateError}
-use Rattle.rmt_table.specs.declared.mutate_error.MutateError.TheVariants as mutate
 use Rattle.rmt_events.specs.declared.applied.Applied.{Applied}
 use Rattle.rmt_events.specs.declared.applied.Applied.TheVariants as came
 use Rattle.rmt_replica.specs.declared.applied.Applied.{Applied as Done}
@@ -52,26 +47,6 @@ is_final (commit.TooFewLive live need) = true
 is_final (commit.QuorumPending part) = true
 is_final (commit.Duplicate part) = true
 is_final (commit.LimitReached limit value) = true
-
--- why a merge isn't in the log
-abbrev pub merge_cause : MergeError → Option StepRefused
-merge_cause (merge.LogMoved seen found) = Some (rf.LogMoved seen found)
-merge_cause (merge.Differ left right) = Some (rf.Differ left right)
-merge_cause (merge.InFlight number) = Some (rf.InFlight number)
-merge_cause (merge.LimitReached limit value) = Some (rf.LimitReached limit value)
-merge_cause merge.Memory = None
-
--- the reply to a merge whose entry was to stand at a place; none where no memory was left
-abbrev pub IsMergeReply : ℕ → Result (Token Entry) MergeError → Result Reply AllocError → Type 0
-IsMergeReply place (Ok token) reply = reply ≡ Ok (rp.Entry place)
-IsMergeReply place (Err error) reply = MatchOption (merge_cause error) (IsErr reply) (λ why. reply ≡ Ok (rp.Refused why))
-
--- the same of the mutation of a part
-abbrev pub IsMutateReply : ℕ → Result (Token Entry) MutateError → Result Reply AllocError → Type 0
-IsMutateReply place (Ok token) reply = reply ≡ Ok (rp.Entry place)
-IsMutateReply place (Err (mutate.LogMoved seen found)) reply = reply ≡ Ok (rp.Refused (rf.LogMoved seen found))
-IsMutateReply place (Err (mutate.LimitReached limit value)) reply = reply ≡ Ok (rp.Refused (rf.LimitReached limit value))
-IsMutateReply place (Err mutate.Memory) reply = IsErr reply
 
 -- what an entry came to at its replica
 abbrev pub what_came : Done → Applied

@@ -18,20 +18,10 @@ use Rattle.rmt_events.specs.declared.event.Event.{Event}
 use Rattle.rmt_events.specs.declared.event.Event.TheVariants as ev
 use Rattle.rmt_events.specs.declared.reply.Reply.{Reply}
 use Rattle.rmt_events.specs.declared.reply.Reply.TheVariants as rp
-use Rattle.rmt_cluster.specs.States.{StateView, cluster_of, Acts}
-use Rattle.rmt_cluster.specs.Pulls.{PullsTo, PullsSome}
+use Rattle.rmt_state.specs.States.{StateView, numbers_given, IsNumber, cluster_of, Acts}
+use Rattle.rmt_state.specs.Pulls.{PullsTo, PullsSome}
 use Rattle.rmt_cluster.specs.Attempts.{OpenAttempts}
 use Rattle.rmt_cluster.specs.Acting.{AreSame}
-
--- how many numbers the partitions have given
-abbrev pub numbers_given : List (Option ℕ × ℕ) → ℕ
-numbers_given [] = 0
-numbers_given (x ∷ rest) = x.1 + numbers_given rest
-
--- replicas are numbered from 1 up to their count
-pub record IsNumber (k count : ℕ) : Type 0 where
-  pub first : 1 ≤ k
-  pub last : k ≤ count
 
 -- the event is one that a table of this schema with so many replicas takes: its replica is there, its block's rows fit the
 -- table's columns, its command is one of the schema. No replica is asked for, and no event that stops fetches is among them yet

@@ -2,9 +2,7 @@ pub use Rattle.rmt_format.specs.PartBytes
 pub use Rattle.rmt_events.specs.Steps
 pub use Rattle.rmt_events.specs.Draws
 pub use Rattle.rmt_table.specs.TableTrees
-pub mod States
-pub mod NewStates
-pub mod Pulls
+pub use Rattle.rmt_state.specs.States
 pub mod Attempts
 pub mod Causes
 pub mod Acting

@@ -6,8 +6,9 @@ ghost use Rattle.rmt_cluster.specs.Clusters.{MayAct, AfterError};
 
 use crate::attempts::Attempts;
 use crate::commands::copy_command;
+use crate::entries;
 use crate::inserts;
-use crate::state::State;
+use rmt_state::State;
 use rmt_events::{Event, Reply};
 use std::alloc::{AllocError, Global};
 
@@ -35,7 +36,7 @@ pub(crate) fn act(
         Event::Commit { attempt } => inserts::commit(alloc, state, attempts, *attempt),
         Event::Abandon { attempt } => inserts::abandon(alloc, state, attempts, *attempt),
         Event::Pull { replica } => state.pull(alloc, *replica),
-        Event::Apply { replica, entry } => state.apply(alloc, *replica, *entry),
+        Event::Apply { replica, entry } => entries::apply(alloc, state, *replica, *entry),
         Event::Merge { replica, sources } => state.merge(alloc, *replica, sources.as_slice()),
         Event::Mutate { replica, old, upto } => state.mutate(alloc, *replica, old, *upto),
         Event::CreateMutation { command } => {

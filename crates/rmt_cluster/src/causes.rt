@@ -1,12 +1,10 @@
-//! Why a call on the table did nothing, as an event is answered.
+//! Why a call on the state did nothing, as an event is answered.
 ghost use Rattle.std.specs.Prelude.{◌≡◌};
-ghost use Rattle.rmt_cluster.specs.Causes.{allocate_cause, commit_cause, merge_cause, IsMergeReply, IsMutateReply, IsApplyReply, apply_cause, what_came, is_final as ends_attempt};
+ghost use Rattle.rmt_cluster.specs.Causes.{allocate_cause, commit_cause, IsApplyReply, apply_cause, what_came, is_final as ends_attempt};
 
-use rmt_entries::Entry;
 use rmt_events::{Applied, Reply, StepRefused};
 use rmt_replica::{Applied as Done, ApplyError};
-use rmt_row::Seen;
-use rmt_table::{AllocateError, CommitError, MergeError, MutateError};
+use rmt_table::{AllocateError, CommitError};
 use std::alloc::AllocError;
 
 /// Why a block got no number; `None` where no memory was left.
@@ -55,64 +53,6 @@ pub(crate) fn is_final(error: &CommitError) -> bool
         | CommitError::QuorumPending(_)
         | CommitError::Duplicate(_)
         | CommitError::LimitReached { .. } => true,
-    }
-}
-
-/// Why a merge isn't in the log; `None` where no memory was left.
-fn no_merge(error: &MergeError) -> Option<StepRefused>
-    ensures { result ≡ merge_cause error.now }
-{
-    match error {
-        MergeError::LogMoved { seen, found } => Some(StepRefused::LogMoved {
-            seen: *seen,
-            found: *found,
-        }),
-        MergeError::Differ { left, right } => Some(StepRefused::Differ {
-            left: *left,
-            right: *right,
-        }),
-        MergeError::InFlight(number) => Some(StepRefused::InFlight(*number)),
-        MergeError::LimitReached { limit, value } => Some(StepRefused::LimitReached {
-            limit: *limit,
-            value: *value,
-        }),
-        MergeError::Memory => None,
-    }
-}
-
-/// The reply to a merge whose entry was to stand at a place. At an error no memory was left.
-pub(crate) fn merge_reply(
-    place: u32,
-    assigned: Result<Seen<Entry>, MergeError>,
-) -> Result<Reply, AllocError>
-    ensures { IsMergeReply place assigned result }
-{
-    let error = match assigned {
-        Ok(_) => return Ok(Reply::Entry(place)),
-        Err(error) => error,
-    };
-    match no_merge(&error) {
-        Some(why) => Ok(Reply::Refused(why)),
-        None => Err(AllocError),
-    }
-}
-
-/// The reply to the mutation of a part whose entry was to stand at a place. At an error no memory was left.
-pub(crate) fn mutate_reply(
-    place: u32,
-    assigned: Result<Seen<Entry>, MutateError>,
-) -> Result<Reply, AllocError>
-    ensures { IsMutateReply place assigned result }
-{
-    match assigned {
-        Ok(_) => Ok(Reply::Entry(place)),
-        Err(MutateError::LogMoved { seen, found }) => {
-            Ok(Reply::Refused(StepRefused::LogMoved { seen, found }))
-        }
-        Err(MutateError::LimitReached { limit, value }) => {
-            Ok(Reply::Refused(StepRefused::LimitReached { limit, value }))
-        }
-        Err(MutateError::Memory) => Err(AllocError),
     }
 }
 

@@ -12,7 +12,8 @@ ghost use Rattle.rmt_events.specs.Whole.{HasReplica, IsWhole};
 ghost use Rattle.rmt_table.specs.TableTrees.{table_at};
 ghost use Rattle.rmt_replica_view.specs.Shown.{shown};
 ghost use Rattle.rmt_cluster.specs.NewClusters.{IsNewCluster};
-ghost use Rattle.rmt_cluster.specs.Clusters.{IsNumber, MayStep, Stops};
+ghost use Rattle.rmt_state.specs.States.{IsNumber};
+ghost use Rattle.rmt_cluster.specs.Clusters.{MayStep, Stops};
 
 mod reading;
 mod running;
@@ -20,7 +21,7 @@ mod syncing;
 
 use crate::acting::act;
 use crate::attempts::Attempts;
-use crate::state::State;
+use rmt_state::State;
 use rmt_events::{Event, Reply};
 use rmt_values::Schema;
 use std::alloc::{AllocError, Global};
@@ -42,7 +43,7 @@ impl Model for Cluster {
     ghost use Rattle.rmt_values.specs.contracts.checked.Checked as filter;
     ghost use Rattle.rmt_tree.specs.Trees.{tree_code};
     ghost use Rattle.rmt_events.specs.Clusters.{Cluster as ClusterView};
-    ghost use Rattle.rmt_cluster.specs.States.{cluster_of};
+    ghost use Rattle.rmt_state.specs.States.{cluster_of};
     ghost use Rattle.rmt_cluster.specs.Clusters.{IsCluster};
 
     ghost Value = { ClusterView };

@@ -6,7 +6,7 @@ ghost use Rattle.rmt_cluster.specs.Acting.{ActsWith, AreSame, SuitAttempts, Ends
 
 use crate::attempts::Attempts;
 use crate::causes::{is_final, no_commit, no_number};
-use crate::state::State;
+use rmt_state::State;
 use rmt_block::{Block, id};
 use rmt_events::{Reply, StepRefused};
 use rmt_replica::ReplicaError;

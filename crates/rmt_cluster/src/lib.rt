@@ -7,10 +7,9 @@ mod attempts;
 mod causes;
 mod cluster;
 mod commands;
+mod entries;
 mod inserts;
-mod state;
 mod sync_error;
 
 pub use cluster::Cluster;
-pub use state::State;
 pub use sync_error::SyncError;

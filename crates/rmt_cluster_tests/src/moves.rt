@@ -1,6 +1,7 @@
 //! Events as plain data, which constants hold.
 ghost use Rattle.std.specs.Prelude.{IfOk, OnOk, length};
-ghost use Rattle.rmt_cluster.specs.Clusters.{IsNumber, MayStep};
+ghost use Rattle.rmt_state.specs.States.{IsNumber};
+ghost use Rattle.rmt_cluster.specs.Clusters.{MayStep};
 
 use crate::answers::Answer;
 use crate::blocks::block_of;

@@ -1,4 +1,3 @@
 pub mod PendingLemmas
-pub mod RunLemmas
 pub mod MutationLemmas
 pub mod TurnLemmas

@@ -1,11 +1,10 @@
 //! A turn of the generator.
 ghost use Rattle.std.specs.Prelude.{◌≡◌, ◌<◌, ◌≤◌, ◌^◌, IfOk, IfSome, cond, length, slice_get};
 ghost use Rattle.rmt_model.specs.Words.{Has};
-ghost use Rattle.rmt_model.specs.Live.{live};
 ghost use Rattle.rmt_replica.specs.Replicas.{ReplicaView};
 ghost use Rattle.rmt_replica_view.specs.Shown.{shown};
 ghost use Rattle.rmt_events.specs.declared.event.Event.TheVariants as ev;
-ghost use Rattle.rmt_events.specs.Draws.{chosen, next_mutation_among, pending, turn_at as turn_at_replica, apply_or_pull as apply_or_pull_turn, merge_or_pull as merge_or_pull_event, mutate_or_pull as mutate_or_pull_event};
+ghost use Rattle.rmt_events.specs.Draws.{chosen, next_mutation as mutation_next, pending, turn_at as turn_at_replica, apply_or_pull as apply_or_pull_turn, merge_or_pull as merge_or_pull_event, mutate_or_pull as mutate_or_pull_event};
 ghost use Rattle.rmt_draws.specs.Turns.{IsTurn};
 
 use crate::generator::{drawn, stepped};
@@ -131,7 +130,7 @@ fn merge_or_pull(alloc: Global, worker: &Replica) -> Result<Event, AllocError>
 /// A mutation of the first part for which one is pending, up to the last one; a pull where there is none.
 fn mutate_or_pull(worker: &Replica) -> Event
     requires { length worker.now.log ≤ 65536 }
-    ensures { result ≡ mutate_or_pull_event worker.now.number (next_mutation_among worker.now.log (live worker.now.log)) }
+    ensures { result ≡ mutate_or_pull_event worker.now.number (mutation_next worker.now.log) }
 {
     let replica = worker.number();
     let copy = worker.copy();

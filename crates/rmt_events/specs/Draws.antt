@@ -1,14 +1,13 @@
 -- Background events that a generator draws, each from the state before it.
 -- The generator is the example of rand() in the C standard (ISO/IEC 9899, section on pseudo-random sequences), modulo 2^31
 -- and with draws below 2^15. Which event a draw gives, and which parts are merged, is this program's own.
-use Rattle.std.specs.Prelude.{◌≡◌, ℕ, zero, suc, ◌+◌, ◌*◌, ◌/◌, ◌%◌, ◌^◌, ◌-◌, ◌&&◌, Bool, true, false, cond, nat_eq, nat_lt, nat_le, List, [], ◌∷◌, length, slice_get, slice_index_or}
+use Rattle.std.specs.Prelude.{◌≡◌, ℕ, zero, suc, ◌+◌, ◌*◌, ◌/◌, ◌%◌, ◌^◌, Bool, true, false, cond, nat_eq, nat_le, List, [], ◌∷◌, length, slice_get, slice_index_or}
 use Rattle.std.specs.declared.option.Option.{Option}
 use Rattle.std.specs.declared.option.Option.TheVariants.{Some, None}
-use Rattle.rmt_names.specs.Names.{Name, rank, highest}
+use Rattle.rmt_names.specs.Names.{Name}
 use Rattle.rmt_entries.specs.declared.entry.Entry.{Entry}
-use Rattle.rmt_entries.specs.declared.entry.Entry.TheVariants.{Get, Merge, Mutate, Mutation, DropRange}
 use Rattle.rmt_model.specs.Live.{live}
-use Rattle.rmt_model.specs.Lawful.{ver}
+use Rattle.rmt_model.specs.BackgroundWork.{best_run, next_among}
 use Rattle.rmt_events.specs.Views.{Replica}
 use Rattle.rmt_events.specs.Clusters.{Cluster}
 use Rattle.rmt_events.specs.Steps.{Step}
@@ -43,54 +42,13 @@ pending_from (false ∷ done) i = i ∷ pending_from done (i + 1)
 abbrev pub pending : Replica → List ℕ
 pending r = pending_from r.done 0
 
--- the names that go on from one: of its partition and its version
-abbrev pub run_from : List Entry → Name → ℕ → List Name → List Name
-run_from log a zero rest = []
-run_from log a (suc k) [] = []
-run_from log a (suc k) (b ∷ rest) =
-    cond (nat_eq (rank b.partition) (rank a.partition) && nat_eq (ver log b) (ver log a)) (b ∷ run_from log a k rest) []
-
--- the better of a run and the best of those after it: the one whose greatest level is less, the first among equals; a run
--- has two names or more
-abbrev pub better : Name → List Name → Option (List Name) → Option (List Name)
-better a [] best = best
-better a (b ∷ rest) None = Some (a ∷ b ∷ rest)
-better a (b ∷ rest) (Some []) = Some (a ∷ b ∷ rest)
-better a (b ∷ rest) (Some (x ∷ xs)) =
-    cond (nat_le (highest (λ n. n.level) a (b ∷ rest)) (highest (λ n. n.level) x xs)) (Some (a ∷ b ∷ rest)) (Some (x ∷ xs))
-
--- the run to merge among these names, of at most so many
-abbrev pub chosen_among : List Entry → ℕ → List Name → Option (List Name)
-chosen_among log most [] = None
-chosen_among log most (a ∷ names) = better a (run_from log a (most - 1) names) (chosen_among log most names)
-
--- the run to merge among the live names
+-- the run to merge among the live names, of at most so many
 abbrev pub chosen : List Entry → ℕ → Option (List Name)
-chosen log most = chosen_among log most (live log)
+chosen log most = best_run log most (live log)
 
--- whether one of the numbers is of the name's partition and above its version
-abbrev pub has_pending : List Entry → Name → List (Option ℕ × ℕ) → Bool
-has_pending log a [] = false
-has_pending log a (x ∷ xs) = cond (nat_eq (rank x.0) (rank a.partition) && nat_lt (ver log a) x.1) true (has_pending log a xs)
-
--- the last place of a mutation that is pending for the name
-abbrev pub last_pending : List Entry → Name → List Entry → Option ℕ
-last_pending log a [] = None
-last_pending log a (Mutation id numbers command ∷ rest) = cond (has_pending log a numbers) (Some (length rest)) (last_pending log a rest)
-last_pending log a (Get p n digest source need ∷ rest) = last_pending log a rest
-last_pending log a (Merge name sources count ∷ rest) = last_pending log a rest
-last_pending log a (Mutate old name upto count mcount ∷ rest) = last_pending log a rest
-last_pending log a (DropRange p n ∷ rest) = last_pending log a rest
-
--- the name with the place, where there is one
-abbrev pub or_next : Name → Option ℕ → Option (Name × ℕ) → Option (Name × ℕ)
-or_next a None other = other
-or_next a (Some i) other = Some (a, i)
-
--- the first live name with one, and that place
-abbrev pub next_mutation_among : List Entry → List Name → Option (Name × ℕ)
-next_mutation_among log [] = None
-next_mutation_among log (a ∷ names) = or_next a (last_pending log a log) (next_mutation_among log names)
+-- the first live name for which a mutation is pending, and the last place of such a mutation
+abbrev pub next_mutation : List Entry → Option (Name × ℕ)
+next_mutation log = next_among log (length log) (live log)
 
 -- ---- a turn
 
@@ -120,7 +78,7 @@ turn_at a x r =
     cond (nat_le a 1) (record { event = ev.Pull r.number; state = x })
     (cond (nat_le a 4) (apply_or_pull x r.number (pending r))
     (cond (nat_eq a 5) (record { event = merge_or_pull r.number (chosen r.log 10); state = x })
-    (cond (nat_eq a 6) (record { event = mutate_or_pull r.number (next_mutation_among r.log (live r.log)); state = x })
+    (cond (nat_eq a 6) (record { event = mutate_or_pull r.number (next_mutation r.log); state = x })
     (record { event = cond r.up (ev.Restart r.number) (ev.Pull r.number); state = x }))))
 
 -- what is done at the replica that the second draw gives

@@ -11,7 +11,7 @@ use Rattle.rmt_entries.specs.declared.entry.Entry.TheVariants.{Get, Merge, Mutat
 use Rattle.rmt_row.specs.Token.{Token}
 use Rattle.rmt_model.specs.Words.{Each, Pairwise}
 use Rattle.rmt_model.specs.Lawful.{entry_at, is_mutation}
-use Rattle.rmt_model.specs.Content.{chosen}
+use Rattle.rmt_model.specs.BackgroundWork.{is_pending}
 use Rattle.rmt_history.specs.Copies.{History, entries}
 
 -- the entries at places below i, the newest first
@@ -23,23 +23,9 @@ first_entries (e ∷ log) i = cond (nat_lt (length log) i) (e ∷ log) (first_en
 abbrev pub mutations_below : List Entry → ℕ → List Entry
 mutations_below log i = filter is_mutation (first_entries log i)
 
--- the entry is a mutation that is pending for the part: it has a number in the part's partition above the part's data
--- version
-abbrev pub is_pending : Name → Entry → Bool
-is_pending a (Mutation id numbers command) = chosen numbers a.partition (λ k. nat_lt (data_version a) k)
-is_pending a (Get p n digest source need) = false
-is_pending a (Merge new sources count) = false
-is_pending a (Mutate old new upto count mcount) = false
-is_pending a (DropRange p n) = false
-
 -- the mutations at places below i that are pending for the part, the newest first
 abbrev pub pending_below : List Entry → Name → ℕ → List Entry
 pending_below log a i = filter (is_pending a) (first_entries log i)
-
--- the last place below i of a mutation that is pending for the part
-abbrev pub last_pending : List Entry → Name → ℕ → Option ℕ
-last_pending [] a i = None
-last_pending (e ∷ log) a i = cond (nat_lt (length log) i && is_pending a e) (Some (length log)) (last_pending log a i)
 
 -- the token is of the entry and the cell at its place, which is below i
 pub record IsTokenBelow (copy : History) (i : ℕ) (t : Token Entry) : Type 0 where

@@ -1,6 +1,6 @@
 //! EXPLAIN in its table.
 ghost use Rattle.std.specs.Prelude.{◌≡◌, true, length, IfOk};
-ghost use Rattle.rmt_cluster.specs.Clusters.{IsNumber};
+ghost use Rattle.rmt_state.specs.States.{IsNumber};
 ghost use Rattle.rmt_statement_model.specs.Shows.{ups};
 ghost use Rattle.rmt_play.specs.ExplainStatement.{Explains};
 ghost use Rattle.rmt_play.specs.QueryAnswers.{IsExplained};

@@ -3,7 +3,7 @@ ghost use Rattle.std.specs.Prelude.{◌≡◌, ◌<◌, ◌^◌, true, length, I
 ghost use Rattle.std.specs.List.{All};
 ghost use Rattle.rmt_values.specs.Rows.{fits};
 ghost use Rattle.rmt_block.specs.Splits.{IsSplit};
-ghost use Rattle.rmt_cluster.specs.Clusters.{IsNumber};
+ghost use Rattle.rmt_state.specs.States.{IsNumber};
 ghost use Rattle.rmt_statement_model.specs.TableStates.{TableState};
 ghost use Rattle.rmt_statement_model.specs.Shows.{HoldsNone, IsIdle, Leads, Shows, ups};
 ghost use Rattle.rmt_columns.specs.RowsByColumn.{kinds_in};

@@ -1,5 +1,5 @@
 ghost use Rattle.std.specs.Prelude.{length, OnOk};
-ghost use Rattle.rmt_cluster.specs.Clusters.{IsNumber};
+ghost use Rattle.rmt_state.specs.States.{IsNumber};
 ghost use Rattle.rmt_play.specs.PlayerSteps.{TurnsTable};
 
 use rmt_acts::{kill, restart};

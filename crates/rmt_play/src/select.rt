@@ -1,6 +1,6 @@
 //! SELECT in its table.
 ghost use Rattle.std.specs.Prelude.{◌≡◌, true, length, IfOk};
-ghost use Rattle.rmt_cluster.specs.Clusters.{IsNumber};
+ghost use Rattle.rmt_state.specs.States.{IsNumber};
 ghost use Rattle.rmt_statement_model.specs.Shows.{HoldsNone, IsIdle, ups};
 ghost use Rattle.rmt_play.specs.SelectStatement.{Syncs, Reads};
 ghost use Rattle.rmt_play.specs.QueryAnswers.{IsSelection};

@@ -1,6 +1,6 @@
 //! WAIT MUTATION in its table.
 ghost use Rattle.std.specs.Prelude.{◌≡◌, ℕ, List as Bytes, length, IfOk};
-ghost use Rattle.rmt_cluster.specs.Clusters.{IsNumber};
+ghost use Rattle.rmt_state.specs.States.{IsNumber};
 ghost use Rattle.rmt_statement_model.specs.Shows.{HoldsNone, IsIdle, ups};
 ghost use Rattle.rmt_statements.specs.declared.act.Act.TheVariants as acts;
 ghost use Rattle.rmt_play.specs.PlayerSteps.{ExecutesIn};

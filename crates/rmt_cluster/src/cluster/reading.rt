@@ -6,7 +6,7 @@ ghost use Rattle.rmt_format.specs.PartBytes.{HasPartBytes};
 ghost use Rattle.rmt_replica.specs.declared.replica_error.ReplicaError.TheVariants as errors;
 ghost use Rattle.rmt_events.specs.Views.{Replica};
 ghost use Rattle.rmt_events.specs.ClusterChanges.{IsNumbered, IsDown};
-ghost use Rattle.rmt_cluster.specs.Clusters.{IsNumber};
+ghost use Rattle.rmt_state.specs.States.{IsNumber};
 ghost use Rattle.rmt_cluster.specs.Readings.{parts_read};
 
 use crate::cluster::Cluster;

@@ -5,8 +5,9 @@ use Rattle.rmt_events.specs.declared.event.Event.TheVariants as ev
 use Rattle.rmt_table.specs.TableTrees.{IsReplica}
 use Rattle.rmt_table_model.specs.Held.{Held}
 use Rattle.rmt_cluster.specs.Acting.{ActsWith}
-use Rattle.rmt_cluster.specs.Clusters.{IsNumber, MayAct}
-use Rattle.rmt_cluster.proofs.ChangeLemmas.{if-ok}
+use Rattle.rmt_state.specs.States.{IsNumber}
+use Rattle.rmt_cluster.specs.Clusters.{MayAct}
+use Rattle.rmt_state.proofs.ChangeLemmas.{if-ok}
 use Rattle.rmt_cluster.proofs.acting.act.Goals as goal
 
 -- a number of a replica of the table

@@ -1,7 +1,7 @@
 use Rattle.std.proofs.Common.{◌∙◌, inr, refl, sym, ap, subst}
 use Rattle.rmt_table.specs.Refusals.{NoNumber}
 use Rattle.rmt_table.specs.TableTrees.{table_at}
-use Rattle.rmt_cluster.specs.States.{StateView, cluster_of}
+use Rattle.rmt_state.specs.States.{StateView, cluster_of}
 use Rattle.rmt_cluster.proofs.InsertActs.{renews-acts}
 use Rattle.rmt_cluster.proofs.CauseLemmas.{locked-back, no-other}
 use Rattle.rmt_cluster.proofs.inserts.again.Goals as goal

@@ -1,6 +1,6 @@
 use Rattle.std.proofs.Common.{rules, ◌≡◌, ◌∙◌, sym}
 use Rattle.rmt_events.specs.Clusters.{values_of}
-use Rattle.rmt_cluster.specs.States.{cluster_of}
+use Rattle.rmt_state.specs.States.{cluster_of}
 use Rattle.rmt_cluster.proofs.CauseLemmas.{lost-for, gone-for}
 use Rattle.rmt_cluster.proofs.InsertActs.{accepts-acts, loses-acts, gone-acts}
 use Rattle.rmt_cluster.proofs.inserts.commit.Goals as goal

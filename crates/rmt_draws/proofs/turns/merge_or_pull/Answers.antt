@@ -1,13 +1,20 @@
-use Rattle.std.proofs.Common.{ℕ, Global, ◌∙◌, sym, ap}
+use Rattle.std.proofs.Common.{◌≡◌, ℕ, Global, List, ◌∙◌, sym, ap}
 use Rattle.std.specs.Option.{option_map}
 use Rattle.std.specs.Vec.{vec_items}
+use Rattle.std.specs.declared.option.Option.{Option}
 use Rattle.std.specs.declared.option.Option.TheVariants.{Some, None}
+use Rattle.rmt_names.specs.Names.{Name}
 use Rattle.rmt_names.specs.declared.name.PartName.{PartName}
+use Rattle.rmt_entries.specs.declared.entry.Entry.{Entry}
 use Rattle.rmt_pick.specs.Choices.{MergeLimits}
 use Rattle.rmt_events.specs.declared.event.Event.TheVariants as ev
-use Rattle.rmt_events.specs.Draws.{merge_or_pull}
-use Rattle.rmt_draws.proofs.RunLemmas.{chosen-found}
+use Rattle.rmt_events.specs.Draws.{chosen, merge_or_pull}
 use Rattle.rmt_draws.proofs.turns.merge_or_pull.Goals as goal
+
+-- what is found in a copy of the log, with the most parts that a turn merges
+chosen-found : (copy log : List Entry) (most : ℕ) (found : Option (List Name)) → copy ≡ log → most ≡ 10
+    → found ≡ chosen copy most → found ≡ chosen log 10
+chosen-found copy log most found e m f = f ∙ (ap (λ (l : List Entry). chosen l most) e ∙ ap (chosen log) m)
 
 pub returns-in_default : goal.returns-in_default
 returns-in_default c =

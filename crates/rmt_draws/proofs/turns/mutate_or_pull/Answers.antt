@@ -1,10 +1,19 @@
-use Rattle.std.proofs.Common.{ℕ, ◌∙◌, length, sym, ap, arith}
+use Rattle.std.proofs.Common.{◌≡◌, ℕ, List, ◌∙◌, length, sym, ap, arith}
+use Rattle.std.specs.declared.option.Option.{Option}
 use Rattle.std.specs.declared.option.Option.TheVariants.{Some, None}
+use Rattle.rmt_names.specs.Names.{Name}
+use Rattle.rmt_entries.specs.declared.entry.Entry.{Entry}
 use Rattle.rmt_model.specs.Live.{live}
+use Rattle.rmt_model.specs.BackgroundWork.{next_among}
 use Rattle.rmt_events.specs.declared.event.Event.TheVariants as ev
-use Rattle.rmt_events.specs.Draws.{mutate_or_pull}
-use Rattle.rmt_draws.proofs.MutationLemmas.{next-found, next-below}
+use Rattle.rmt_events.specs.Draws.{mutate_or_pull, next_mutation}
+use Rattle.rmt_draws.proofs.MutationLemmas.{next-below}
 use Rattle.rmt_draws.proofs.turns.mutate_or_pull.Goals as goal
+
+-- what is found in a copy of the log, up to its length
+next-found : (copy log : List Entry) (len : ℕ) (found : Option (Name × ℕ)) → copy ≡ log → len ≡ length copy
+    → found ≡ next_among copy len (live copy) → found ≡ next_mutation log
+next-found copy log len found e n f = f ∙ (ap (λ (k : ℕ). next_among copy k (live copy)) n ∙ ap next_mutation e)
 
 pub returns-in_default : goal.returns-in_default
 returns-in_default c =

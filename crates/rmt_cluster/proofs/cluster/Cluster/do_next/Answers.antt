@@ -2,7 +2,7 @@ use Rattle.std.proofs.Common.{◌∙◌, refl, sym, subst}
 use Rattle.rmt_replica_view.specs.Shown.{shown}
 use Rattle.rmt_events.specs.Clusters.{Cluster}
 use Rattle.rmt_events.specs.ClusterChanges.{IsNumbered}
-use Rattle.rmt_cluster.proofs.StateLemmas.{worker-shown}
+use Rattle.rmt_state.proofs.StateLemmas.{worker-shown}
 use Rattle.rmt_cluster.proofs.SyncLemmas.{done-told, lacks-told, log-told}
 use Rattle.rmt_cluster.proofs.cluster.Cluster.do_next.Goals as goal
 

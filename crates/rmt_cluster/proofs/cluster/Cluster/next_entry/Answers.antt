@@ -4,7 +4,7 @@ use Rattle.rmt_events.specs.Clusters.{Cluster}
 use Rattle.rmt_events.specs.ClusterChanges.{IsNumbered}
 use Rattle.rmt_events.specs.Whole.{IsWhole}
 use Rattle.rmt_cluster.specs.Syncs.{IsNext}
-use Rattle.rmt_cluster.proofs.StateLemmas.{worker-shown}
+use Rattle.rmt_state.proofs.StateLemmas.{worker-shown}
 use Rattle.rmt_cluster.proofs.SyncLemmas.{next-entry, next-few}
 use Rattle.rmt_cluster.proofs.cluster.Cluster.next_entry.Goals as goal
 

@@ -1,6 +1,6 @@
 use Rattle.std.proofs.Common.{◌≡◌, ◌∙◌, ℕ, subst, arith}
 use Rattle.rmt_events.specs.Draws.{Runs}
-use Rattle.rmt_cluster.proofs.StateLemmas.{at-err}
+use Rattle.rmt_state.proofs.StateLemmas.{at-err}
 use Rattle.rmt_cluster.proofs.RunLemmas.{one-more}
 use Rattle.rmt_cluster.proofs.cluster.Cluster.run.Goals as goal
 

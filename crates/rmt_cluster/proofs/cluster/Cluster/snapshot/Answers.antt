@@ -4,7 +4,7 @@ use Rattle.rmt_values.specs.Schemas.{IsSchema}
 use Rattle.rmt_replica_view.specs.Shown.{shown}
 use Rattle.rmt_events.specs.Clusters.{Cluster}
 use Rattle.rmt_events.specs.Whole.{IsWhole}
-use Rattle.rmt_cluster.specs.States.{AreNumbered}
+use Rattle.rmt_state.specs.States.{AreNumbered}
 use Rattle.rmt_cluster.proofs.ReadingLemmas.{IsOnly, only-one, reads, reads-bytes, reads-down}
 use Rattle.rmt_cluster.proofs.cluster.Cluster.snapshot.Goals as goal
 

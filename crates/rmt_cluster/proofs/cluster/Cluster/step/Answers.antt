@@ -3,9 +3,9 @@ use Rattle.rmt_events.specs.Clusters.{Cluster}
 use Rattle.rmt_events.specs.Steps.{Step}
 use Rattle.rmt_events.specs.declared.event.Event.{Event}
 use Rattle.rmt_events.specs.declared.reply.Reply.{Reply}
-use Rattle.rmt_cluster.specs.States.{cluster_of}
+use Rattle.rmt_state.specs.States.{cluster_of}
 use Rattle.rmt_cluster.specs.Clusters.{IsCluster, MayStep, Stops}
-use Rattle.rmt_cluster.proofs.StateLemmas.{at-err}
+use Rattle.rmt_state.proofs.StateLemmas.{at-err}
 use Rattle.rmt_cluster.proofs.AcceptedLemmas.{keeps-accepted}
 use Rattle.rmt_cluster.proofs.PartSizes.{are-small}
 use Rattle.rmt_cluster.proofs.ClusterLemmas.{may-act, suits, stepped, stopped, stops, rests, as-many, schema-stays, stored-last}

@@ -2,7 +2,7 @@ use Rattle.std.proofs.Common.{inl, refl, subst}
 use Rattle.rmt_events.specs.Steps.{Step}
 use Rattle.rmt_events.specs.declared.event.Event.{Event}
 use Rattle.rmt_cluster.specs.Clusters.{Stops}
-use Rattle.rmt_cluster.proofs.StateLemmas.{at-err}
+use Rattle.rmt_state.proofs.StateLemmas.{at-err}
 use Rattle.rmt_cluster.proofs.cluster.Cluster.take_turn.Goals as goal
 
 pub step-requires : goal.step-requires

@@ -3,7 +3,8 @@ use Rattle.std.specs.declared.option.Option.{Option}
 use Rattle.std.specs.declared.option.Option.TheVariants.{Some, None}
 use Rattle.std.specs.Arc.{arc_value}
 use Rattle.rmt_history.specs.Copies.{History, mutation_tokens}
-use Rattle.rmt_history.specs.Mutations.{last_pending, HasOrder, PlacesRise}
+use Rattle.rmt_history.specs.Mutations.{HasOrder, PlacesRise}
+use Rattle.rmt_model.specs.BackgroundWork.{last_pending}
 use Rattle.rmt_history.proofs.KeptLemmas.{AreKept, mutations-rise}
 use Rattle.rmt_history.proofs.SharedLemmas.{last-shared}
 use Rattle.rmt_history.proofs.VersionLemmas.{settled-order, last-empty, below-count, below-token, answer-settled, answer-pends}

@@ -1,0 +1,52 @@
+use Rattle.std.proofs.Common.{◌≡◌, ◌+◌, ◌-◌, ◌<◌, List, length, arith, refl, subst, slice_set}
+use Rattle.std.specs.Prelude.{slice_get, IfSome}
+use Rattle.std.specs.declared.option.Option.TheVariants.{Some}
+use Rattle.std.proofs.lemmas.Grind.{common_steps}
+use Rattle.std.proofs.lemmas.Option.{gets}
+use Rattle.rmt_replica.specs.Replicas.{ReplicaView}
+use Rattle.rmt_replica.specs.Supplies.{supplied}
+use Rattle.rmt_state.specs.States.{StateView, Belongs, IsWorkerAt, AppliesAt}
+use Rattle.rmt_history.proofs.ListLemmas.{get-has}
+use Rattle.rmt_state.proofs.StateLemmas.{at-place}
+use Rattle.rmt_state.proofs.StageLemmas.{state-kept, change-keeps}
+use Rattle.rmt_state.proofs.state.State.apply.Goals as goal
+
+pub apply-requires-clause-place : goal.apply-requires-clause-place
+apply-requires-clause-place c =
+    let i = c.self.inside in
+    let j = c.from.result - 1 in
+    let x = c.index_mut.result.now in
+    let there : slice_get i.replicas.items j ≡ Some x = grind (arith, common_steps, gets) in
+    let b = Belongs.numbered (at-place i.tree 1 i.replicas.items j x c.self.invariant.numbered there) in
+    let f = c.requires.here.first in
+    let e = c.from.ensures in
+    let w : IsWorkerAt (record { tree = i.tree; replicas = i.replicas.items }) c.args.replica x = record { is_in = get-has i.replicas.items j x there; numbered = omega (arith, b, f, e) } in
+    c.requires.place x (subst (λ (v : StateView). IsWorkerAt v c.args.replica x) c.self.view_is w)
+
+pub apply-requires-clause-of_table : goal.apply-requires-clause-of_table
+apply-requires-clause-of_table c =
+    let i = c.self.inside in
+    let j = c.from.result - 1 in
+    let x = c.index_mut.result.now in
+    let there : slice_get i.replicas.items j ≡ Some x = grind (arith, common_steps, gets) in
+    let b = Belongs.numbered (at-place i.tree 1 i.replicas.items j x c.self.invariant.numbered there) in
+    let f = c.requires.here.first in
+    let e = c.from.ensures in
+    let w : IsWorkerAt (record { tree = i.tree; replicas = i.replicas.items }) c.args.replica x = record { is_in = get-has i.replicas.items j x there; numbered = omega (arith, b, f, e) } in
+    c.requires.of_table x (subst (λ (v : StateView). IsWorkerAt v c.args.replica x) c.self.view_is w)
+
+pub invariant_of-self : goal.invariant_of-self
+invariant_of-self c =
+    let i = c.self.inside in
+    let j = c.from.result - 1 in
+    let y = c.index_mut.result.now in
+    let there : slice_get i.replicas.items j ≡ Some y = grind (arith, common_steps, gets) in
+    state-kept i.tree i.replicas.items j y c.apply.new.self c.self.invariant there (change-keeps y c.apply.new.self c.args.i c.args.supply c.apply.result c.apply.ensures.change)
+
+pub returns : goal.returns
+returns c =
+    let i = c.self.inside in
+    let j = c.from.result - 1 in
+    let x = c.index_mut.result.now in
+    let there : slice_get i.replicas.items j ≡ Some x = grind (arith, common_steps, gets) in
+    ?

@@ -1,0 +1,74 @@
+use Rattle.std.proofs.Common.{◌≡◌, ◌-◌, ◌∙◌, List, length, arith, sym, subst}
+use Rattle.std.specs.Prelude.{slice_get, IfOk, IfErr, OnOk}
+use Rattle.std.specs.declared.option.Option.TheVariants.{Some}
+use Rattle.std.proofs.lemmas.Grind.{common_steps}
+use Rattle.std.proofs.lemmas.Option.{gets}
+use Rattle.rmt_entries.specs.declared.entry.Entry.{Entry}
+use Rattle.rmt_model.specs.Lawful.{IsPrefix}
+use Rattle.rmt_table.specs.Refusals as table
+use Rattle.rmt_table.specs.TableTrees.{table_at, IsMergeOf}
+use Rattle.rmt_events.specs.LogEvents.{AreMergeable}
+use Rattle.rmt_events.specs.declared.event.Event.TheVariants as ev
+use Rattle.rmt_events.specs.declared.reply.Reply.TheVariants as rp
+use Rattle.rmt_events.specs.declared.step_refused.StepRefused.TheVariants as rf
+use Rattle.rmt_state.specs.States.{StateView, Acts}
+use Rattle.rmt_state.proofs.StateLemmas.{at-place, state-after}
+use Rattle.rmt_table.proofs.ChoiceLemmas.{yes, not-yes}
+use Rattle.rmt_state.proofs.AssignLemmas.{merge-down, merge-not-live, merge-on, merge-told}
+use Rattle.rmt_state.proofs.state.State.merge.Goals as goal
+
+pub returns-then-not-is_up-clause-ok : goal.returns-then-not-is_up-clause-ok
+returns-then-not-is_up-clause-ok c =
+    let i = c.self.inside in
+    let there : slice_get i.replicas.items (c.from.result - 1) ≡ Some c.index-worker.result.now = grind (arith, common_steps, gets) in
+    let f = c.requires.here.first in
+    let e = c.from.ensures in
+    subst (λ (v : StateView). Acts v (ev.Merge c.args.replica c.args.sources.now) (rp.Refused rf.Down) v) c.self.view_is
+    (merge-down (record { tree = i.tree; replicas = i.replicas.items }) c.args.replica (c.from.result - 1) c.index-worker.result.now c.args.sources.now (record { state = c.self.invariant; numbered = omega (arith, f, e); there = there }) (sym c.is_up.ensures ∙ c.if-not-is_up.true))
+
+pub returns-then-not-are_mergeable-clause-ok : goal.returns-then-not-are_mergeable-clause-ok
+returns-then-not-are_mergeable-clause-ok c =
+    let i = c.self.inside in
+    let there : slice_get i.replicas.items (c.from.result - 1) ≡ Some c.index-worker.result.now = grind (arith, common_steps, gets) in
+    let f = c.requires.here.first in
+    let e = c.from.ensures in
+    subst (λ (v : StateView). Acts v (ev.Merge c.args.replica c.args.sources.now) (rp.Refused rf.NotLive) v) c.self.view_is
+    (merge-not-live (record { tree = i.tree; replicas = i.replicas.items }) c.args.replica (c.from.result - 1) c.index-worker.result.now c.args.sources.now (record { state = c.self.invariant; numbered = omega (arith, f, e); there = there }) (sym c.is_up.ensures ∙ c.if-not-is_up.false)
+    (λ h. not-yes c.are_mergeable.result c.if-not-are_mergeable.true (c.are_mergeable.ensures.1 (subst (λ (log : List Entry). AreMergeable log c.args.sources.now) (sym c.copy-copy.ensures.log) h))))
+
+pub assign_merge-assigned-requires-clause-of : goal.assign_merge-assigned-requires-clause-of
+assign_merge-assigned-requires-clause-of c =
+    let i = c.self.inside in
+    let there : slice_get i.replicas.items (c.from.result - 1) ≡ Some c.index-worker.result.now = grind (arith, common_steps, gets) in
+    let b = at-place i.tree 1 i.replicas.items (c.from.result - 1) c.index-worker.result.now c.self.invariant.numbered there in
+    let e = c.copy-copy.ensures in
+    record { schema = e.schema ∙ b.copy.schema; prefix = subst (λ (log : List Entry). IsPrefix log i.tree.log) (sym e.log) b.copy.prefix }
+
+pub invariant_of-self : goal.invariant_of-self
+invariant_of-self c =
+    let i = c.self.inside in
+    let e = c.assign_merge-assigned.ensures in
+    state-after c.assign_merge-assigned.result (λ token. IsMergeOf i.tree c.args.sources.now token c.assign_merge-assigned.new.self) i.tree c.assign_merge-assigned.new.self i.replicas.items c.self.invariant
+    (merge-on i.tree c.assign_merge-assigned.new.self c.args.sources.now e.replicas) e.done e.err
+
+pub returns-clause-ok : goal.returns-clause-ok
+returns-clause-ok c =
+    let i = c.self.inside in
+    let there : slice_get i.replicas.items (c.from.result - 1) ≡ Some c.index-worker.result.now = grind (arith, common_steps, gets) in
+    let f = c.requires.here.first in
+    let e = c.from.ensures in
+    let l = c.copy-copy.ensures.log in
+    let a = c.assign_merge-assigned.ensures in
+    let s : StateView = record { tree = i.tree; replicas = i.replicas.items } in
+    subst (λ (v : StateView). IfOk c.merge_reply.result (λ reply. Acts v (ev.Merge c.args.replica c.args.sources.now) reply (record { tree = c.assign_merge-assigned.new.self; replicas = i.replicas.items }))) c.self.view_is
+    (merge-told s c.assign_merge-assigned.new.self c.args.replica (c.from.result - 1) c.index-worker.result.now c.args.sources.now c.log_len-place.result c.assign_merge-assigned.result c.merge_reply.result
+    (record {
+      worker = record { state = c.self.invariant; numbered = omega (arith, f, e); there = there };
+      up = sym c.is_up.ensures ∙ c.if-not-is_up.false;
+      chosen = subst (λ (log : List Entry). AreMergeable log c.args.sources.now) l (c.are_mergeable.ensures.0 (yes c.are_mergeable.result c.if-not-are_mergeable.false));
+      place_is = c.log_len-place.ensures;
+      done = a.done;
+      current = subst (λ (log : List Entry). OnOk c.assign_merge-assigned.result (length log ≡ length i.tree.log)) l a.current;
+      refused = subst (λ (log : List Entry). IfErr c.assign_merge-assigned.result (table.NoMerge (table_at i.tree) (length log) c.args.sources.now)) l a.refused;
+      stays = a.err;
+    }) c.merge_reply.ensures)
