@@ -11,7 +11,7 @@ use Rattle.rmt_entries.specs.declared.entry.Entry.TheVariants.{Mutate}
 use Rattle.rmt_model.specs.Live.{live}
 use Rattle.rmt_model.specs.Lawful.{Lawful}
 use Rattle.rmt_model.proofs.Drops.{entry-below}
-use Rattle.rmt_model.specs.BackgroundWork.{last_pending}
+use Rattle.rmt_model.specs.Choices.{last_pending}
 use Rattle.rmt_reply.specs.declared.refusal.Refusal.{Refusal}
 use Rattle.rmt_reply.specs.declared.refusal.Refusal.TheVariants.{LimitReached}
 use Rattle.rmt_events.specs.Views.{Replica, Table}

@@ -7,7 +7,7 @@ use Rattle.rmt_names.specs.Names.{Name}
 use Rattle.rmt_entries.specs.declared.entry.Entry.{Entry}
 use Rattle.rmt_entries.specs.declared.entry.Entry.TheVariants.{Mutate, Mutation}
 use Rattle.rmt_model.specs.Lawful.{Lawful, entry_at}
-use Rattle.rmt_model.specs.BackgroundWork.{last_pending}
+use Rattle.rmt_model.specs.Choices.{last_pending}
 use Rattle.rmt_model.specs.EntryLimits.{worker_limit}
 use Rattle.rmt_events.specs.Clusters.{Cluster}
 use Rattle.rmt_reply.specs.declared.refusal.Refusal.{Refusal}

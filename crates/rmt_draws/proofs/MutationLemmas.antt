@@ -5,7 +5,7 @@ use Rattle.std.specs.declared.option.Option.{Option}
 use Rattle.std.specs.declared.option.Option.TheVariants.{Some, None}
 use Rattle.rmt_names.specs.Names.{Name}
 use Rattle.rmt_entries.specs.declared.entry.Entry.{Entry}
-use Rattle.rmt_model.specs.BackgroundWork.{is_pending, last_pending, or_next, next_among}
+use Rattle.rmt_model.specs.Choices.{is_pending, last_pending, or_next, next_among}
 use Rattle.rmt_model.proofs.Drops.{some-same}
 
 last-below : (log : List Entry) (a : Name) (upto i : ℕ) → last_pending log a upto ≡ Some i → i < upto

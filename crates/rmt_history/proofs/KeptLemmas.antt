@@ -18,7 +18,7 @@ use Rattle.rmt_model.proofs.Drops.{some-same, entry-below}
 use Rattle.rmt_nameset.proofs.Ranges.{Downward, Pairwise-to}
 use Rattle.rmt_history.specs.Copies.{History, entries, cells_of, mutation_tokens, ArePrefixes}
 use Rattle.rmt_history.specs.Mutations.{mutations_below, pending_below, IsTokenBelow, AreTokensBelow, HasOrder, is_settled, AreOrdered, PlacesRise, is_below}
-use Rattle.rmt_model.specs.BackgroundWork.{is_pending}
+use Rattle.rmt_model.specs.Choices.{is_pending}
 use Rattle.rmt_history.proofs.Copied.{token_at, cell_at, get-map, length-entries}
 use Rattle.rmt_history.proofs.NumberLemmas.{log-order, pending-later, pending-mutation}
 use Rattle.rmt_history.proofs.ListLemmas.{filter-swap, filter-within, filter-same, prefix-is, rest-is, has-get, passes-below, take-none}

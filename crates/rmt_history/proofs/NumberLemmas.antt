@@ -19,7 +19,7 @@ use Rattle.rmt_model.proofs.Drops.{some-same, entry-below, entry-cases}
 use Rattle.rmt_nameset.proofs.Ranges.{Downward}
 use Rattle.rmt_history.proofs.ListLemmas.{get-has, has-get, passes-below, fails-above, Pairwise-at}
 use Rattle.rmt_history.specs.Mutations.{number_among, number_in, AreInOrder, HasOrder}
-use Rattle.rmt_model.specs.BackgroundWork.{is_pending}
+use Rattle.rmt_model.specs.Choices.{is_pending}
 
 -- ---- pairs
 

@@ -17,7 +17,7 @@ use Rattle.rmt_model.proofs.Lists.{Has-filter}
 use Rattle.rmt_model.proofs.Drops.{some-same, entry-below, entry-cases, entry-older, entry-has}
 use Rattle.rmt_history.specs.Copies.{entries, mutation_tokens}
 use Rattle.rmt_history.specs.Mutations.{number_in, HasOrder, is_settled, AreOrdered, is_below}
-use Rattle.rmt_model.specs.BackgroundWork.{is_pending, last_pending}
+use Rattle.rmt_model.specs.Choices.{is_pending, last_pending}
 use Rattle.rmt_history.proofs.NumberLemmas.{at_most, passes, pending-number, version-number, pending-mutation, in-with, with-in, later-above, log-order}
 use Rattle.rmt_history.proofs.ListLemmas.{get-has, has-get, passes-below, below-passes, Pairwise-at, last-counted}
 use Rattle.rmt_history.proofs.KeptLemmas.{AreKept, entry-held, token-of, mutations-rise, mutations-ordered, count_under, IsCounted, counted-under}

@@ -11,7 +11,7 @@ use Rattle.rmt_entries.specs.declared.entry.Entry.TheVariants.{Get, Merge, Mutat
 use Rattle.rmt_row.specs.Token.{Token}
 use Rattle.rmt_model.specs.Words.{Each, Pairwise}
 use Rattle.rmt_model.specs.Lawful.{entry_at, is_mutation}
-use Rattle.rmt_model.specs.BackgroundWork.{is_pending}
+use Rattle.rmt_model.specs.Choices.{is_pending}
 use Rattle.rmt_history.specs.Copies.{History, entries}
 
 -- the entries at places below i, the newest first

@@ -6,7 +6,7 @@ ghost use Rattle.rmt_model.specs.Live.{live as live_of, DroppedAfter};
 ghost use Rattle.rmt_model.specs.Lawful.{Lawful, entry_at, is_mutation, ver as ver_of, AreNeighbours};
 ghost use Rattle.rmt_history.specs.Copies.{IsMadeBy};
 ghost use Rattle.rmt_history.specs.Mutations.{AreTokensBelow, last_list as last_list_of, mutations_below, pending_below};
-ghost use Rattle.rmt_model.specs.BackgroundWork.{last_pending as last_pending_of};
+ghost use Rattle.rmt_model.specs.Choices.{last_pending as last_pending_of};
 
 use crate::last_drop::{LastDrop, takes_after};
 use crate::mutation_list::{copied, count_below, count_settled, last_list, next_list, push_list};

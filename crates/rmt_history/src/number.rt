@@ -2,7 +2,7 @@
 ghost use Rattle.std.specs.Prelude.{◌≡◌, nat_lt};
 ghost use Rattle.rmt_names.specs.Names.{rank};
 ghost use Rattle.rmt_history.specs.Mutations.{AreInOrder, HasOrder, number_among as number_among_of, number_in as number_in_of};
-ghost use Rattle.rmt_model.specs.BackgroundWork.{is_pending as is_pending_of};
+ghost use Rattle.rmt_model.specs.Choices.{is_pending as is_pending_of};
 
 use rmt_entries::Entry;
 use rmt_names::{PartName, PartitionId, data_version};

@@ -10,8 +10,8 @@ use Rattle.rmt_model.specs.Live.{live}
 use Rattle.rmt_model.specs.Lawful.{ver}
 use Rattle.rmt_model.proofs.Lists.{rank-injective}
 use Rattle.rmt_model.proofs.Drops.{some-same}
-use Rattle.rmt_pick.specs.Choices.{IsChoice, IsFirstChoice, NoneAlike}
-use Rattle.rmt_model.specs.BackgroundWork.{are_alike, alike_after, run_at, greatest_level, better, best_run}
+use Rattle.rmt_pick.specs.MergeChoices.{IsChoice, IsFirstChoice, NoneAlike}
+use Rattle.rmt_model.specs.Choices.{are_alike, alike_after, run_at, greatest_level, better, best_run}
 
 -- ---- runs
 

@@ -3,7 +3,7 @@ use Rattle.std.proofs.Common.{◌≡◌, ℕ, zero, suc, ◌+◌, ◌-◌, ◌<�
 use Rattle.rmt_names.specs.Names.{Name}
 use Rattle.rmt_entries.specs.declared.entry.Entry.{Entry}
 use Rattle.rmt_model.specs.Lawful.{ver}
-use Rattle.rmt_model.specs.BackgroundWork.{are_alike, alike_after, run_at, greatest_level, better, best_run}
+use Rattle.rmt_model.specs.Choices.{are_alike, alike_after, run_at, greatest_level, better, best_run}
 use Rattle.rmt_pick.specs.Runs.{count_before, names_in, IsRun}
 use Rattle.rmt_pick.specs.declared.run.Run.{Run}
 

@@ -5,5 +5,5 @@ pub use Rattle.rmt_model.specs.Live
 pub use Rattle.rmt_model.specs.Lawful
 pub use Rattle.rmt_history.specs.Copies
 pub use Rattle.rmt_history.specs.Mutations
-pub mod Choices
+pub mod MergeChoices
 pub mod Runs

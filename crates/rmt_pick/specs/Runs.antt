@@ -3,7 +3,7 @@ use Rattle.std.specs.Prelude.{◌≡◌, ℕ, ◌+◌, ◌≤◌, ◌&&◌, cond
 use Rattle.std.specs.declared.option.Option.{Option}
 use Rattle.std.specs.declared.option.Option.TheVariants.{Some, None}
 use Rattle.rmt_names.specs.Names.{Name, rank}
-use Rattle.rmt_model.specs.BackgroundWork.{greatest_level}
+use Rattle.rmt_model.specs.Choices.{greatest_level}
 use Rattle.rmt_pick.specs.declared.run.Run.{Run}
 
 -- how many names the run has that begins at the first of the names, which is of the version `own`, where that which

@@ -4,8 +4,8 @@ ghost use Rattle.std.specs.declared.option.Option.TheVariants.{Some, None};
 ghost use Rattle.rmt_names.specs.Names.{Name};
 ghost use Rattle.rmt_entries.specs.declared.entry.Entry.{Entry};
 ghost use Rattle.rmt_model.specs.Live.{live};
-ghost use Rattle.rmt_pick.specs.Choices.{IsChoice, IsFirstChoice, NoneAlike};
-ghost use Rattle.rmt_model.specs.BackgroundWork.{best_run};
+ghost use Rattle.rmt_pick.specs.MergeChoices.{IsChoice, IsFirstChoice, NoneAlike};
+ghost use Rattle.rmt_model.specs.Choices.{best_run};
 
 /// Law: the best run of the live names is of neighbours of one partition and version, and no other run has a lower
 /// greatest level.

@@ -10,7 +10,7 @@ pub struct Limits {
 
 impl Model for Limits {
     ghost use Rattle.std.specs.Prelude.{◌≤◌};
-    ghost use Rattle.rmt_pick.specs.Choices.{MergeLimits};
+    ghost use Rattle.rmt_pick.specs.MergeChoices.{MergeLimits};
 
     ghost Value = { MergeLimits };
 

@@ -5,7 +5,7 @@ ghost use Rattle.std.specs.Vec.{vec_items};
 ghost use Rattle.std.specs.Option.{option_map};
 ghost use Rattle.rmt_names.specs.Names.{Name};
 ghost use Rattle.rmt_model.specs.Live.{live};
-ghost use Rattle.rmt_model.specs.BackgroundWork.{greatest_level, best_run, better as better_of};
+ghost use Rattle.rmt_model.specs.Choices.{greatest_level, best_run, better as better_of};
 ghost use Rattle.rmt_pick.specs.Runs.{count_before, names_in, IsRun, StandsFor};
 
 use crate::limits::Limits;

@@ -1,7 +1,7 @@
 //! What to mutate next.
 ghost use Rattle.std.specs.Prelude.{◌≡◌};
 ghost use Rattle.rmt_model.specs.Live.{live};
-ghost use Rattle.rmt_model.specs.BackgroundWork.{next_among};
+ghost use Rattle.rmt_model.specs.Choices.{next_among};
 
 use rmt_history::LogCopy;
 use rmt_names::PartName;

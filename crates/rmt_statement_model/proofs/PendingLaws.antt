@@ -16,7 +16,7 @@ use Rattle.rmt_model.proofs.LiveLaws.{Tight, tight, covers-holds, not-kept, one-
 use Rattle.rmt_model.proofs.Drops.{some-same, entry-has, entry-older}
 use Rattle.rmt_model.proofs.VersionLaws.{below-limit}
 use Rattle.rmt_history.specs.Mutations.{number_in}
-use Rattle.rmt_model.specs.BackgroundWork.{is_pending, last_pending}
+use Rattle.rmt_model.specs.Choices.{is_pending, last_pending}
 use Rattle.rmt_history.proofs.NumberLemmas.{passes, pending-number, in-with, with-in, log-order}
 use Rattle.rmt_events.specs.LogEvents.{IsMutable}
 use Rattle.rmt_statement_model.specs.Waits.{IsCarried, NonePending, SomePending}

@@ -10,7 +10,7 @@ use Rattle.rmt_entries.specs.declared.entry.Entry.TheVariants.{Mutate}
 use Rattle.rmt_model.specs.Lawful.{Lawful, IsMutationWith, entry_at}
 use Rattle.rmt_model.proofs.Drops.{some-same, entry-below, entry-cases, entry-older}
 use Rattle.rmt_history.specs.Mutations.{number_in}
-use Rattle.rmt_model.specs.BackgroundWork.{is_pending, last_pending}
+use Rattle.rmt_model.specs.Choices.{is_pending, last_pending}
 use Rattle.rmt_history.proofs.NumberLemmas.{passes, pending-number, pending-mutation, with-in, log-order, pending-later}
 
 -- ---- the last mutation that is pending for a name

@@ -14,7 +14,7 @@ use Rattle.rmt_model.specs.Lawful.{Lawful, entry_at}
 use Rattle.rmt_model.proofs.Lists.{Has-right}
 use Rattle.rmt_model.proofs.Drops.{entry-older}
 use Rattle.rmt_model.specs.EntryLimits.{worker_limit}
-use Rattle.rmt_model.specs.BackgroundWork.{last_pending}
+use Rattle.rmt_model.specs.Choices.{last_pending}
 use Rattle.rmt_events.specs.Sound.{IsSoundTable}
 use Rattle.rmt_events.specs.Clusters.{Cluster}
 use Rattle.rmt_events.specs.Whole.{IsWhole}

@@ -2,7 +2,7 @@ use Rattle.std.proofs.Common.{◌≡◌, ◌+◌, ◌∙◌, arith, length, ap}
 use Rattle.std.specs.declared.option.Option.TheVariants.{Some}
 use Rattle.rmt_events.specs.Sound.{IsSoundTable}
 use Rattle.rmt_events.specs.Views.{Table}
-use Rattle.rmt_model.specs.BackgroundWork.{last_pending}
+use Rattle.rmt_model.specs.Choices.{last_pending}
 use Rattle.rmt_statement_model.proofs.PendingLaws.{pending-mutable}
 use Rattle.rmt_acts.proofs.WaitActs.{pending-told}
 use Rattle.rmt_acts.proofs.waiting.settle_part.Goals as goal

@@ -6,7 +6,7 @@ use Rattle.std.specs.declared.option.Option.TheVariants.{Some, None}
 use Rattle.rmt_names.specs.Names.{Name}
 use Rattle.rmt_names.specs.declared.name.PartName.{PartName}
 use Rattle.rmt_entries.specs.declared.entry.Entry.{Entry}
-use Rattle.rmt_pick.specs.Choices.{MergeLimits}
+use Rattle.rmt_pick.specs.MergeChoices.{MergeLimits}
 use Rattle.rmt_events.specs.declared.event.Event.TheVariants as ev
 use Rattle.rmt_events.specs.Draws.{chosen, merge_or_pull}
 use Rattle.rmt_draws.proofs.turns.merge_or_pull.Goals as goal

@@ -4,7 +4,7 @@ use Rattle.std.specs.declared.option.Option.TheVariants.{Some, None}
 use Rattle.rmt_names.specs.Names.{Name}
 use Rattle.rmt_entries.specs.declared.entry.Entry.{Entry}
 use Rattle.rmt_model.specs.Live.{live}
-use Rattle.rmt_model.specs.BackgroundWork.{next_among}
+use Rattle.rmt_model.specs.Choices.{next_among}
 use Rattle.rmt_events.specs.declared.event.Event.TheVariants as ev
 use Rattle.rmt_events.specs.Draws.{mutate_or_pull, next_mutation}
 use Rattle.rmt_draws.proofs.MutationLemmas.{next-below}

@@ -2,7 +2,7 @@ use Rattle.std.proofs.Common.{◌∙◌, sym, ap, arith, length, not, refl, ◌+
 use Rattle.std.proofs.lemmas.Option.{slice_get_read}
 use Rattle.std.proofs.lemmas.List.Sums.{prefix_len-le-length}
 use Rattle.rmt_history.specs.Mutations.{is_settled}
-use Rattle.rmt_model.specs.BackgroundWork.{is_pending}
+use Rattle.rmt_model.specs.Choices.{is_pending}
 use Rattle.rmt_history.proofs.ListLemmas.{passes-below, fails-above}
 use Rattle.rmt_history.proofs.mutation_list.count_settled.Goals as goal
 

@@ -1,6 +1,6 @@
 use Rattle.std.proofs.Common.{◌∙◌, ◌-◌, List, drop, take, length, sym, ap, subst, arith}
 use Rattle.rmt_names.specs.Names.{Name}
-use Rattle.rmt_model.specs.BackgroundWork.{best_run, better, greatest_level}
+use Rattle.rmt_model.specs.Choices.{best_run, better, greatest_level}
 use Rattle.rmt_pick.specs.Runs.{StandsFor}
 use Rattle.rmt_pick.proofs.ChoiceLemmas.{best-next, counted-run, count-next, version-next, run-within}
 use Rattle.rmt_pick.proofs.merging.best.Goals as goal

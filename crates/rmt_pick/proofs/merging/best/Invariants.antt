@@ -1,5 +1,5 @@
 use Rattle.std.proofs.Common.{◌≡◌, ◌≤◌, drop, length}
-use Rattle.rmt_model.specs.BackgroundWork.{run_at, best_run}
+use Rattle.rmt_model.specs.Choices.{run_at, best_run}
 use Rattle.rmt_pick.specs.Runs.{StandsFor}
 use Rattle.rmt_pick.proofs.ChoiceLemmas.{first_version}
 use Rattle.rmt_pick.proofs.merging.best.Given as goal

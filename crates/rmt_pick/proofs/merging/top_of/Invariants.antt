@@ -1,5 +1,5 @@
 use Rattle.std.proofs.Common.{◌≡◌, ◌-◌, ◌≤◌, drop, take}
-use Rattle.rmt_model.specs.BackgroundWork.{greatest_level}
+use Rattle.rmt_model.specs.Choices.{greatest_level}
 use Rattle.rmt_pick.proofs.merging.top_of.Given as goal
 
 abbrev pub invariant-levels : goal.invariant-levels

@@ -4,7 +4,7 @@ use Rattle.std.specs.declared.option.Option.TheVariants.{Some, None}
 use Rattle.std.specs.Arc.{arc_value}
 use Rattle.rmt_history.specs.Copies.{History, mutation_tokens}
 use Rattle.rmt_history.specs.Mutations.{HasOrder, PlacesRise}
-use Rattle.rmt_model.specs.BackgroundWork.{last_pending}
+use Rattle.rmt_model.specs.Choices.{last_pending}
 use Rattle.rmt_history.proofs.KeptLemmas.{AreKept, mutations-rise}
 use Rattle.rmt_history.proofs.SharedLemmas.{last-shared}
 use Rattle.rmt_history.proofs.VersionLemmas.{settled-order, last-empty, below-count, below-token, answer-settled, answer-pends}

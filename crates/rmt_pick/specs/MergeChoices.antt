@@ -7,7 +7,7 @@ use Rattle.rmt_entries.specs.declared.entry.Entry.{Entry}
 use Rattle.rmt_model.specs.Words.{Has}
 use Rattle.rmt_model.specs.Live.{live}
 use Rattle.rmt_model.specs.Lawful.{ver, AreNeighbours}
-use Rattle.rmt_model.specs.BackgroundWork.{are_alike, run_at, greatest_level}
+use Rattle.rmt_model.specs.Choices.{are_alike, run_at, greatest_level}
 
 -- how many parts a background merge takes at most
 pub record MergeLimits : Type 0 where
