@@ -30,10 +30,10 @@ use Rattle.rmt_table_model.proofs.TableLemmas.{allocate-steps}
 use Rattle.rmt_table_model.proofs.HeldLemmas.{held-table, held-held}
 use Rattle.rmt_events.specs.TableCalls.{Allocates, kept_part}
 use Rattle.rmt_events.specs.InsertEvents.{HasQuorum}
-use Rattle.rmt_table_view.specs.Shown.{shown}
-use Rattle.rmt_table_view.proofs.SessionLemmas.{opened-has, not-opened}
-use Rattle.rmt_table_view.proofs.NumberLemmas as view
-use Rattle.rmt_table_view.proofs.CallBridge.{allocate-bridge}
+use Rattle.rmt_table.specs.SeenTable.{shown}
+use Rattle.rmt_table.proofs.SessionLemmas.{opened-has, not-opened}
+use Rattle.rmt_table.proofs.NumberLemmas as view
+use Rattle.rmt_table.proofs.CallBridge.{allocate-bridge}
 use Rattle.rmt_inserts.specs.Numbers.{number_limit, IsNumberError}
 use Rattle.rmt_inserts.specs.declared.number_error.NumberError.{NumberError}
 use Rattle.rmt_inserts.specs.declared.number_error.NumberError.TheVariants as number

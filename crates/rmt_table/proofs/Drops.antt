@@ -29,9 +29,9 @@ use Rattle.rmt_table_model.proofs.NumberLemmas.{next-has}
 use Rattle.rmt_table_model.proofs.TableLemmas.{drop-steps}
 use Rattle.rmt_table_model.proofs.HeldLemmas.{held-table, held-held}
 use Rattle.rmt_partitions.specs.KeptNumbers.{NumbersOf, numbers_of}
-use Rattle.rmt_table_view.specs.Shown.{shown}
-use Rattle.rmt_table_view.proofs.NumberLemmas.{taken-same}
-use Rattle.rmt_table_view.proofs.CallBridge.{drop-bridge}
+use Rattle.rmt_table.specs.SeenTable.{shown}
+use Rattle.rmt_table.proofs.NumberLemmas.{taken-same}
+use Rattle.rmt_table.proofs.CallBridge.{drop-bridge}
 use Rattle.rmt_events.specs.TableCalls.{DropsPartition}
 use Rattle.rmt_table.specs.TableTrees.{table_at, Counts, ArePlaced, IsTableTree, next_token, order_numbers, Drops}
 use Rattle.rmt_table.specs.Refusals.{NoDrop}

@@ -33,8 +33,8 @@ use Rattle.rmt_table_model.proofs.TableLemmas.{merge-steps}
 use Rattle.rmt_events.specs.LogEvents.{AreMergeable, AreFirstToDiffer, AreAlike, IsInFlight}
 use Rattle.rmt_events.specs.Views.{Table}
 use Rattle.rmt_events.specs.TableCalls.{AssignsMerge}
-use Rattle.rmt_table_view.specs.Shown.{shown}
-use Rattle.rmt_table_view.proofs.CallBridge.{shown-locked, locked-shown, merge-bridge}
+use Rattle.rmt_table.specs.SeenTable.{shown}
+use Rattle.rmt_table.proofs.CallBridge.{shown-locked, locked-shown, merge-bridge}
 use Rattle.rmt_table.specs.TableTrees.{Counts, order_numbers, IsTableTree, IsMergeOf, table_at, next_token, entry_ops}
 use Rattle.rmt_table.specs.Refusals.{NoMerge}
 use Rattle.rmt_table.specs.declared.merge_error.MergeError.{MergeError}

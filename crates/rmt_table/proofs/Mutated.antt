@@ -30,8 +30,8 @@ use Rattle.rmt_table_model.proofs.CountLemmas.{mutations-through}
 use Rattle.rmt_table_model.proofs.TableLemmas.{mutate-steps}
 use Rattle.rmt_events.specs.LogEvents.{IsMutable}
 use Rattle.rmt_events.specs.TableCalls.{AssignsMutate}
-use Rattle.rmt_table_view.specs.Shown.{shown}
-use Rattle.rmt_table_view.proofs.CallBridge.{mutate-bridge}
+use Rattle.rmt_table.specs.SeenTable.{shown}
+use Rattle.rmt_table.proofs.CallBridge.{mutate-bridge}
 use Rattle.rmt_table.specs.TableTrees.{Counts, order_numbers, IsTableTree, IsMutateOf, table_at, next_token, entry_ops}
 use Rattle.rmt_table.specs.Refusals.{NoMutate}
 use Rattle.rmt_table.specs.declared.mutate_error.MutateError.{MutateError}
