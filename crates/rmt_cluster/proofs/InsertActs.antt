@@ -12,6 +12,7 @@ use Rattle.rmt_events.specs.Clusters.{Attempt, values_of, with_replica}
 use Rattle.rmt_events.specs.TableCalls.{IsLocked, Allocates, Commits, Unlocks}
 use Rattle.rmt_events.specs.ReplicaCalls.{Stages, Unstages}
 use Rattle.rmt_events.specs.ClusterChanges.{IsAttempt, AtReplica, attempts_without, renumbered}
+use Rattle.rmt_events.specs.TableRefusals.{HasQuorum}
 use Rattle.rmt_events.specs.InsertEvents as insert
 use Rattle.rmt_events.specs.declared.event.Event.{Event}
 use Rattle.rmt_events.specs.declared.reply.Reply.{Reply}
@@ -34,7 +35,7 @@ same-cluster s t table rs made attempts b events q r m o =
     ∙ ap (λ (v : List Attempt). record { table = table; replicas = rs; attempts_made = made; attempts = v; events = events }) o))
 
 -- no replica is asked for
-unasked : (t : Table) (need : ℕ) → need ≡ 0 → insert.HasQuorum t need
+unasked : (t : Table) (need : ℕ) → need ≡ 0 → HasQuorum t need
 unasked t need e = record { enough = omega (arith, e); quiet = λ l. absurd (omega (arith, e, l)) }
 
 -- the open attempt that was found

@@ -8,8 +8,6 @@ use Rattle.rmt_events.specs.declared.reply.Reply.{Reply}
 use Rattle.rmt_events.specs.declared.reply.Reply.TheVariants as rp
 use Rattle.std.specs.declared.option.Option.{Option}
 use Rattle.std.specs.declared.option.Option.TheVariants.{Some, None}
-use Rattle.rmt_table.specs.declared.allocate_error.AllocateError.{AllocateError}
-use Rattle.rmt_table.specs.declared.allocate_error.AllocateError.TheVariants as allocate
 use Rattle.rmt_table.specs.declared.commit_error.CommitError.{CommitError}
 use Rattle.rmt_table.specs.declared.commit_error.CommitError.TheVariants as commit
 use Rattle.rmt_events.specs.declared.applied.Applied.{Applied}
@@ -20,24 +18,6 @@ use Rattle.rmt_replica.specs.declared.apply_error.ApplyError.{ApplyError}
 use Rattle.rmt_replica.specs.declared.apply_error.ApplyError.TheVariants as apply
 use Rattle.rmt_events.specs.declared.step_refused.StepRefused.{StepRefused}
 use Rattle.rmt_events.specs.declared.step_refused.StepRefused.TheVariants as rf
-
--- why a block gets no number
-abbrev pub allocate_cause : AllocateError → Option StepRefused
-allocate_cause allocate.NoSession = Some rf.NoSession
-allocate_cause (allocate.TooFewLive live need) = Some (rf.TooFewLive live need)
-allocate_cause (allocate.QuorumPending part) = Some (rf.QuorumPending part)
-allocate_cause (allocate.Duplicate part) = Some (rf.Duplicate part)
-allocate_cause (allocate.LimitReached limit value) = Some (rf.LimitReached limit value)
-allocate_cause allocate.Memory = None
-
--- why a block isn't accepted
-abbrev pub commit_cause : CommitError → Option StepRefused
-commit_cause (commit.LockGone number) = Some (rf.LockGone number)
-commit_cause (commit.TooFewLive live need) = Some (rf.TooFewLive live need)
-commit_cause (commit.QuorumPending part) = Some (rf.QuorumPending part)
-commit_cause (commit.Duplicate part) = Some (rf.Duplicate part)
-commit_cause (commit.LimitReached limit value) = Some (rf.LimitReached limit value)
-commit_cause commit.Memory = None
 
 -- whether the block is refused for good: its lock has gone with the answer
 abbrev pub is_final : CommitError → Bool

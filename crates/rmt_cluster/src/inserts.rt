@@ -5,11 +5,11 @@ ghost use Rattle.rmt_table.specs.TableTrees.{IsReplica};
 ghost use Rattle.rmt_cluster.specs.Acting.{ActsWith, AreSame, SuitAttempts, EndsAt};
 
 use crate::attempts::Attempts;
-use crate::causes::{is_final, no_commit, no_number};
-use rmt_state::State;
+use crate::causes::is_final;
 use rmt_block::{Block, id};
 use rmt_events::{Reply, StepRefused};
 use rmt_replica::ReplicaError;
+use rmt_state::State;
 use rmt_table::Lock;
 use rmt_values::ReplicaId;
 use std::alloc::{AllocError, Global};
@@ -39,7 +39,7 @@ pub(crate) fn allocate(
                 number: lock.number,
             })
         }
-        Err(error) => match no_number(error) {
+        Err(error) => match error.cause() {
             Some(why) => Ok(Reply::Refused(why)),
             None => Err(AllocError),
         },
@@ -73,7 +73,7 @@ pub(crate) fn again(
                 number: lock.number,
             })
         }
-        Err(error) => match no_number(error) {
+        Err(error) => match error.cause() {
             Some(why) => Ok(Reply::Refused(why)),
             None => Err(AllocError),
         },
@@ -138,7 +138,7 @@ pub(crate) fn commit(
             Ok(Reply::Entry(place))
         }
         Err(error) => {
-            let Some(why) = no_commit(&error) else {
+            let Some(why) = error.cause() else {
                 return Err(AllocError);
             };
             if !is_final(&error) {

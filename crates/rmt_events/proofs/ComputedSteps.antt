@@ -18,7 +18,8 @@ use Rattle.rmt_events.specs.TableCalls.{with_lock, with_session, locks_without, 
 use Rattle.rmt_events.specs.ReplicaCalls.{IsStaged, staged_with, staged_without}
 use Rattle.rmt_events.specs.Clusters.{Attempt, Cluster, without_kinds, with_replica, values_of}
 use Rattle.rmt_events.specs.ClusterChanges.{IsNumbered, IsAttempt, attempts_without, renumbered}
-use Rattle.rmt_events.specs.InsertEvents.{HasQuorum, HasStaged, BeginsAttempt, LostFor}
+use Rattle.rmt_events.specs.TableRefusals.{HasQuorum}
+use Rattle.rmt_events.specs.InsertEvents.{HasStaged, BeginsAttempt, LostFor}
 use Rattle.rmt_events.specs.Steps.{Step}
 use Rattle.rmt_events.specs.WorkedEvents.{Shared}
 use Rattle.rmt_events.specs.declared.event.Event.{Event}

@@ -9,7 +9,7 @@ use Rattle.rmt_queue.specs.Marks.{grown}
 use Rattle.rmt_events.specs.Views.{Lock}
 use Rattle.rmt_events.specs.Clusters.{Cluster}
 use Rattle.rmt_events.specs.Starts.{new_replica}
-use Rattle.rmt_events.specs.LogEvents.{IsInFlight}
+use Rattle.rmt_events.specs.TableRefusals.{IsInFlight}
 use Rattle.rmt_events.specs.Steps.{Step, After}
 use Rattle.rmt_events.specs.WorkedEvents.{Shared, IsRow, of_one_column, two_replicas, in_flight}
 use Rattle.rmt_events.specs.declared.step_refused.StepRefused.TheVariants as rf
@@ -89,12 +89,10 @@ module _ (schema : Shape) (column : Column) (one two five : Shared) (d1 d2 d5 : 
     does = inr (record {
       why = rf.InFlight 1;
       cause = (
-        record {
-          replica = record (holding 1 (under 0 (row_block 1 d1) ∷ under 2 (row_block 5 d5) ∷ [])) { log = s7.table.log; done = grown [] 2 };
-          is = record { at = record { is_in = inl refl; number = refl }; up = refl };
-          meets = (record { left = []; right = []; among = refl }, (refl, tt));
-          whole = refl;
-        },
+        record (holding 1 (under 0 (row_block 1 d1) ∷ under 2 (row_block 5 d5) ∷ [])) { log = s7.table.log; done = grown [] 2 },
+        record { at = record { is_in = inl refl; number = refl }; up = refl },
+        (record { left = []; right = []; among = refl }, (refl, tt)),
+        refl,
         λ left right h. elim h [ inl k ↦ k.0 refl | inr k ↦ k.1 ],
         ((record { lock = lock_of 1 1; is_in = inl refl; partition = refl; number = refl }), record { partition = refl; low = (let k : 0 ≤ 1 = omega arith in k); high = (let k : 1 ≤ 2 = omega arith in k) }),
         lowest,

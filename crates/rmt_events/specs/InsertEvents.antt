@@ -2,14 +2,10 @@
 -- ClickHouse documentation, Data Replication: insert blocks, their numbers and checksums, insert_quorum. ZooKeeper
 -- programmer's guide, "Ephemeral Nodes": a lock goes with its session. That an attempt goes on under another number is
 -- this program's own.
-use Rattle.std.specs.Prelude.{◌≡◌, ℕ, ◌+◌, ◌<◌, ◌≤◌, ◌∷◌, length}
-use Rattle.std.specs.declared.option.Option.TheVariants.{Some, None}
-use Rattle.rmt_names.specs.Names.{Name}
-use Rattle.rmt_model.specs.Words.{Has}
-use Rattle.rmt_model.specs.Quorum.{Pending}
+use Rattle.std.specs.Prelude.{◌≡◌, ℕ, ◌+◌, ◌∷◌, length}
 use Rattle.rmt_events.specs.Views.{Block, Replica, Table}
-use Rattle.rmt_model.specs.EntryLimits.{allocate_limit, commit_limit}
-use Rattle.rmt_events.specs.TableCalls.{IsLocked, kept_part, Allocates, Commits, Unlocks}
+use Rattle.rmt_events.specs.TableCalls.{IsLocked, Allocates, Commits, Unlocks}
+use Rattle.rmt_events.specs.TableRefusals.{HasQuorum, NoNumber, LacksLock, NotAccepted}
 use Rattle.rmt_events.specs.ReplicaCalls.{IsStaged, Stages, Unstages}
 use Rattle.rmt_events.specs.Clusters.{values_of, Attempt, Cluster, with_replica}
 use Rattle.rmt_events.specs.ClusterChanges.{IsNumbered, IsAttempt, LacksAttempt, attempts_without, renumbered, AtReplica, IsDown}
@@ -17,35 +13,6 @@ use Rattle.rmt_events.specs.declared.reply.Reply.{Reply}
 use Rattle.rmt_events.specs.declared.reply.Reply.TheVariants as rp
 use Rattle.rmt_events.specs.declared.step_refused.StepRefused.{StepRefused}
 use Rattle.rmt_events.specs.declared.step_refused.StepRefused.TheVariants as rf
-
--- ---- what a block meets at the table
-
--- fewer replicas have a session than the block needs
-abbrev pub AreTooFew : Table → ℕ → ℕ → ℕ → Type 0
-AreTooFew t need live needed = (live ≡ length t.sessions) × (needed ≡ need) × (live < need)
-
--- the block asks for a quorum, and this part waits for its own
-abbrev pub MeetsPending : Table → ℕ → Name → Type 0
-MeetsPending t need a = (need ≤ length t.sessions) × (2 ≤ need) × (q : Pending) × (t.quorum.pending ≡ Some q) × (q.part ≡ a)
-
--- there are enough live replicas for the block, and no part waits where it asks for a quorum
-pub record HasQuorum (t : Table) (need : ℕ) : Type 0 where
-  pub enough : need ≤ length t.sessions
-  pub quiet : 2 ≤ need → t.quorum.pending ≡ None
-
--- the block's id isn't kept
-abbrev pub IsUnkept : Table → Block → Type 0
-IsUnkept t b = kept_part t.window b.partition b.digest ≡ None
-
--- why a block gets no number; each cause comes only where those before it don't
-abbrev pub NoNumber : Cluster → ℕ → Block → ℕ → StepRefused → Type 0
-NoNumber s k b need rf.NoSession = Has s.table.sessions k → ⊥
-NoNumber s k b need (rf.TooFewLive live needed) = Has s.table.sessions k × AreTooFew s.table need live needed
-NoNumber s k b need (rf.QuorumPending a) = Has s.table.sessions k × MeetsPending s.table need a
-NoNumber s k b need (rf.Duplicate a) = Has s.table.sessions k × HasQuorum s.table need × (kept_part s.table.window b.partition b.digest ≡ Some a)
-NoNumber s k b need (rf.LimitReached limit value) =
-    Has s.table.sessions k × HasQuorum s.table need × IsUnkept s.table b × (allocate_limit s.table.next s.table.log b.partition ≡ Some (limit, value))
-NoNumber s k b need why = ⊥
 
 -- ---- Allocate, Again
 
@@ -74,7 +41,9 @@ pub record RenewsAttempt (s : Cluster) (id : ℕ) (reply : Reply) (t : Cluster) 
 abbrev pub NoOther : Cluster → ℕ → StepRefused → Type 0
 NoOther s id rf.NoAttempt = LacksAttempt s id
 NoOther s id rf.LockHeld = (a : Attempt) × IsAttempt s id a × IsLocked s.table.locks a.block.partition a.number
-NoOther s id why = (a : Attempt) × IsAttempt s id a × (IsLocked s.table.locks a.block.partition a.number → ⊥) × NoNumber s a.replica a.block a.need why
+NoOther s id why =
+    (a : Attempt) × IsAttempt s id a × (IsLocked s.table.locks a.block.partition a.number → ⊥)
+    × NoNumber s.table a.replica a.block.partition a.block.digest a.need why
 
 -- ---- Stage
 
@@ -128,17 +97,12 @@ pub record EndsAttempt (s : Cluster) (id : ℕ) (t : Cluster) : Type 0 where
 abbrev pub NoCommit : Cluster → ℕ → StepRefused → Type 0
 NoCommit s id rf.NoAttempt = LacksAttempt s id
 NoCommit s id rf.NotStaged = (a : Attempt) × IsAttempt s id a × (HasStaged s a → ⊥)
-NoCommit s id (rf.LockGone n) = (a : Attempt) × IsAttempt s id a × HasStaged s a × (n ≡ a.number) × (IsLocked s.table.locks a.block.partition a.number → ⊥)
+NoCommit s id (rf.LockGone n) = (a : Attempt) × IsAttempt s id a × HasStaged s a × LacksLock s.table a.block.partition a.number n
 NoCommit s id why = ⊥
 
--- why the table refuses a block whose lock is there; each cause comes only where those before it don't
+-- why the table refuses an attempt's block, whose lock is there
 abbrev pub LostFor : Cluster → Attempt → StepRefused → Type 0
-LostFor s a (rf.TooFewLive live needed) = AreTooFew s.table a.need live needed
-LostFor s a (rf.QuorumPending name) = MeetsPending s.table a.need name
-LostFor s a (rf.Duplicate name) = HasQuorum s.table a.need × (kept_part s.table.window a.block.partition a.block.digest ≡ Some name)
-LostFor s a (rf.LimitReached limit value) =
-    HasQuorum s.table a.need × IsUnkept s.table a.block × (commit_limit s.table.log s.table.values (values_of s.table.schema a.block.rows) ≡ Some (limit, value))
-LostFor s a why = ⊥
+LostFor s a = NotAccepted s.table a.block.partition a.block.digest a.need (values_of s.table.schema a.block.rows)
 
 -- a commit that the table refuses, although its lock is there, ends the attempt
 pub record LosesAttempt (s : Cluster) (id : ℕ) (reply : Reply) (t : Cluster) : Type 0 where

@@ -4,6 +4,7 @@ pub use Rattle.rmt_model.specs.Parts
 pub use Rattle.rmt_model.specs.CopiedParts
 pub mod Views
 pub mod TableCalls
+pub mod TableRefusals
 pub mod Sound
 pub mod ReplicaCalls
 pub mod Clusters

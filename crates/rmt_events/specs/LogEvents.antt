@@ -1,19 +1,18 @@
--- What the events do that append an entry to the log without a block: Merge, Mutate, CreateMutation, DropPartition; and
--- why they are refused.
+-- What the events do that append an entry to the log without a block: Merge, Mutate, DropPartition; and why those of a
+-- worker are refused.
 -- ClickHouse documentation, Data Replication: merges and mutations are assigned through the log. ALTER, "Mutations" and
 -- "DROP PARTITION".
-use Rattle.std.specs.Prelude.{◌≡◌, ◌⊎◌, ℕ, ◌<◌, ◌≤◌, List, [], ◌∷◌, length}
+use Rattle.std.specs.Prelude.{◌≡◌, ℕ, ◌<◌, List, [], ◌∷◌, length}
 use Rattle.std.specs.declared.option.Option.{Option}
-use Rattle.std.specs.declared.option.Option.TheVariants.{Some}
-use Rattle.rmt_names.specs.Names.{Name, Spans, merged_name}
+use Rattle.rmt_names.specs.Names.{Name}
 use Rattle.rmt_entries.specs.declared.entry.Entry.{Entry}
 use Rattle.rmt_model.specs.Words.{Has, Each}
 use Rattle.rmt_model.specs.Lawful.{entry_at, ver, AreNeighbours, IsMutationWith}
 use Rattle.rmt_model.specs.Live.{live}
-use Rattle.rmt_events.specs.Views.{Replica, Table}
+use Rattle.rmt_events.specs.Views.{Replica}
 use Rattle.rmt_model.specs.BlockNumbers.{next_number}
-use Rattle.rmt_model.specs.EntryLimits.{worker_limit, mutation_limit, drop_limit}
-use Rattle.rmt_events.specs.TableCalls.{IsLocked, AssignsMerge, AssignsMutate}
+use Rattle.rmt_events.specs.TableCalls.{AssignsMerge, AssignsMutate}
+use Rattle.rmt_events.specs.TableRefusals.{NotMerged, NotMutated}
 use Rattle.rmt_events.specs.Clusters.{Cluster}
 use Rattle.rmt_events.specs.ClusterChanges.{IsUp, IsDown, Appends}
 use Rattle.rmt_events.specs.declared.reply.Reply.{Reply}
@@ -43,11 +42,6 @@ pub record IsCaughtUp (s : Cluster) (k : ℕ) (Meets : List Entry → Type 0) : 
   pub meets : Meets replica.log
   pub whole : length replica.log ≡ length s.table.log
 
--- the log is longer than the copy, which meets the condition
-abbrev pub HasMoved : Cluster → ℕ → (List Entry → Type 0) → ℕ → ℕ → Type 0
-HasMoved s k Meets seen found =
-    (x : Replica) × IsUp s k x × Meets x.log × (seen ≡ length x.log) × (found ≡ length s.table.log) × (seen < found)
-
 -- ---- Merge
 
 -- a merge of the names enters the log
@@ -57,33 +51,11 @@ pub record MergesParts (s : Cluster) (k : ℕ) (sources : List Name) (reply : Re
   pub count : ℕ
   pub appends : Appends s (λ u v. AssignsMerge u name sources count v) reply t
 
--- the first neighbours among the names whose versions differ
-abbrev pub AreFirstToDiffer : List Entry → List Name → Name → Name → Type 0
-AreFirstToDiffer log [] left right = ⊥
-AreFirstToDiffer log (a ∷ []) left right = ⊥
-AreFirstToDiffer log (a ∷ b ∷ rest) left right =
-    ((ver log a ≡ ver log b → ⊥) × (left ≡ a) × (right ≡ b)) ⊎ ((ver log a ≡ ver log b) × AreFirstToDiffer log (b ∷ rest) left right)
-
--- the names are of one version
-abbrev pub AreAlike : List Entry → List Name → Type 0
-AreAlike log names = (left right : Name) → AreFirstToDiffer log names left right → ⊥
-
--- a lock's number lies in the range of the merged name
-abbrev pub IsInFlight : Table → List Name → ℕ → Type 0
-IsInFlight t [] n = ⊥
-IsInFlight t (a ∷ rest) n = IsLocked t.locks a.partition n × Spans (merged_name a rest) a.partition n
-
--- why a merge doesn't enter the log; each cause comes only where those before it don't
+-- why a merge doesn't enter the log
 abbrev pub NoMerge : Cluster → ℕ → List Name → StepRefused → Type 0
 NoMerge s k names rf.Down = IsDown s k
 NoMerge s k names rf.NotLive = (x : Replica) × IsUp s k x × (AreMergeable x.log names → ⊥)
-NoMerge s k names (rf.LogMoved seen found) = HasMoved s k (λ log. AreMergeable log names) seen found
-NoMerge s k names (rf.Differ left right) = IsCaughtUp s k (λ log. AreMergeable log names) × AreFirstToDiffer s.table.log names left right
-NoMerge s k names (rf.InFlight n) =
-    IsCaughtUp s k (λ log. AreMergeable log names) × AreAlike s.table.log names × IsInFlight s.table names n × ((m : ℕ) → IsInFlight s.table names m → n ≤ m)
-NoMerge s k names (rf.LimitReached limit value) =
-    IsCaughtUp s k (λ log. AreMergeable log names) × AreAlike s.table.log names × ((n : ℕ) → IsInFlight s.table names n → ⊥) × (worker_limit s.table.log ≡ Some (limit, value))
-NoMerge s k names why = ⊥
+NoMerge s k names why = (x : Replica) × IsUp s k x × AreMergeable x.log names × NotMerged s.table (length x.log) names why
 
 -- ---- Mutate
 
@@ -99,24 +71,12 @@ pub record MutatesPart (s : Cluster) (k : ℕ) (old : Name) (upto : ℕ) (reply 
 abbrev pub NoMutate : Cluster → ℕ → Name → ℕ → StepRefused → Type 0
 NoMutate s k old upto rf.Down = IsDown s k
 NoMutate s k old upto rf.NotLive = (x : Replica) × IsUp s k x × (IsMutable x.log old upto → ⊥)
-NoMutate s k old upto (rf.LogMoved seen found) = HasMoved s k (λ log. IsMutable log old upto) seen found
-NoMutate s k old upto (rf.LimitReached limit value) = IsCaughtUp s k (λ log. IsMutable log old upto) × (worker_limit s.table.log ≡ Some (limit, value))
-NoMutate s k old upto why = ⊥
+NoMutate s k old upto why = (x : Replica) × IsUp s k x × IsMutable x.log old upto × NotMutated s.table (length x.log) why
 
--- ---- CreateMutation, DropPartition
-
--- why a mutation doesn't enter the log
-abbrev pub NoMutation : Cluster → StepRefused → Type 0
-NoMutation s (rf.LimitReached limit value) = mutation_limit s.table.next s.table.log ≡ Some (limit, value)
-NoMutation s why = ⊥
+-- ---- DropPartition
 
 -- there is nothing to drop: the partition doesn't exist
 pub record DropsNothing (s : Cluster) (p : Option ℕ) (reply : Reply) (t : Cluster) : Type 0 where
   pub absent : next_number s.table.next p ≡ 0
   pub answer : reply ≡ rp.Done
   pub unchanged : t ≡ s
-
--- why a drop of a partition that exists doesn't enter the log
-abbrev pub NoDrop : Cluster → Option ℕ → StepRefused → Type 0
-NoDrop s p (rf.LimitReached limit value) = (0 < next_number s.table.next p) × (drop_limit s.table.next s.table.log p ≡ Some (limit, value))
-NoDrop s p why = ⊥

@@ -5,12 +5,13 @@ use Rattle.std.specs.Prelude.{◌≡◌, ◌⊎◌, ℕ, Bool, List, [], ◌∷�
 use Rattle.std.specs.Arc.{arc_value}
 use Rattle.rmt_events.specs.Views.{Replica, Table}
 use Rattle.rmt_events.specs.TableCalls.{CreatesMutation, DropsPartition, Closes, Opens}
+use Rattle.rmt_events.specs.TableRefusals.{NoNumber, NoMutation, NoDrop}
 use Rattle.rmt_events.specs.ReplicaCalls.{Pulls, GoesDown, ComesUp}
 use Rattle.rmt_events.specs.Clusters.{Cluster, without_kinds, with_replica}
 use Rattle.rmt_events.specs.ClusterChanges.{IsNumbered, cluster_with, Declines, AtReplica, Appends, IsDown}
-use Rattle.rmt_events.specs.InsertEvents.{NoNumber, BeginsAttempt, RenewsAttempt, NoOther, StagesAttempt, NoStage, AcceptsBlock, EndsAttempt, NoCommit, LosesAttempt, NoEnd}
+use Rattle.rmt_events.specs.InsertEvents.{BeginsAttempt, RenewsAttempt, NoOther, StagesAttempt, NoStage, AcceptsBlock, EndsAttempt, NoCommit, LosesAttempt, NoEnd}
 use Rattle.rmt_events.specs.ApplyEvents.{Applies, NoApply}
-use Rattle.rmt_events.specs.LogEvents.{MergesParts, NoMerge, MutatesPart, NoMutate, NoMutation, DropsNothing, NoDrop}
+use Rattle.rmt_events.specs.LogEvents.{MergesParts, NoMerge, MutatesPart, NoMutate, DropsNothing}
 use Rattle.rmt_events.specs.declared.event.Event.{Event}
 use Rattle.rmt_events.specs.declared.reply.Reply.{Reply}
 use Rattle.rmt_events.specs.declared.step_refused.StepRefused.{StepRefused}
@@ -67,7 +68,8 @@ pub record Switches (s : Cluster) (k : ℕ) (allowed : Bool) (reply : Reply) (t 
 
 -- what an event does, apart from being stored
 abbrev pub Does : Cluster → Event → Reply → Cluster → Type 0
-Does s (ev.Allocate k b need) reply t = BeginsAttempt s k (without_kinds (arc_value b)) need reply t ⊎ Declines s (NoNumber s k (without_kinds (arc_value b)) need) reply t
+Does s (ev.Allocate k b need) reply t =
+    BeginsAttempt s k (without_kinds (arc_value b)) need reply t ⊎ Declines s (NoNumber s.table k (arc_value b).partition (arc_value b).digest need) reply t
 Does s (ev.Again id) reply t = RenewsAttempt s id reply t ⊎ Declines s (NoOther s id) reply t
 Does s (ev.Stage id) reply t = StagesAttempt s id reply t ⊎ Declines s (NoStage s id) reply t
 Does s (ev.Commit id) reply t = AcceptsBlock s id reply t ⊎ (LosesAttempt s id reply t ⊎ Declines s (NoCommit s id) reply t)
@@ -76,8 +78,8 @@ Does s (ev.Pull k) reply t = PullsLog s k reply t ⊎ Declines s (NoPull s k) re
 Does s (ev.Apply k i) reply t = Applies s k i reply t ⊎ Declines s (NoApply s k i) reply t
 Does s (ev.Merge k sources) reply t = MergesParts s k sources reply t ⊎ Declines s (NoMerge s k sources) reply t
 Does s (ev.Mutate k part upto) reply t = MutatesPart s k part upto reply t ⊎ Declines s (NoMutate s k part upto) reply t
-Does s (ev.CreateMutation command) reply t = Appends s (λ u v. CreatesMutation u command v) reply t ⊎ Declines s (NoMutation s) reply t
-Does s (ev.DropPartition p) reply t = ((n : ℕ) × Appends s (λ u v. DropsPartition u p n v) reply t) ⊎ (DropsNothing s p reply t ⊎ Declines s (NoDrop s p) reply t)
+Does s (ev.CreateMutation command) reply t = Appends s (λ u v. CreatesMutation u command v) reply t ⊎ Declines s (NoMutation s.table) reply t
+Does s (ev.DropPartition p) reply t = ((n : ℕ) × Appends s (λ u v. DropsPartition u p n v) reply t) ⊎ (DropsNothing s p reply t ⊎ Declines s (NoDrop s.table p) reply t)
 Does s (ev.Kill k) reply t = Kills s k reply t
 Does s (ev.Restart k) reply t = Restarts s k reply t
 Does s (ev.Fetches k allowed) reply t = Switches s k allowed reply t

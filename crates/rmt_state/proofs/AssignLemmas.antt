@@ -1,8 +1,9 @@
 -- Merges and mutations of parts that a worker assigns, as a cluster sees them.
 use Rattle.std.proofs.Common.{◌≡◌, ℕ, ◌+◌, ◌<◌, inl, inr, true, false, List, length, refl, sym, ap, subst}
-use Rattle.std.specs.Prelude.{slice_get, IfOk, IfErr, OnOk, OnErr}
+use Rattle.std.specs.Prelude.{slice_get, IfOk, IfErr, IfSome, IsErr, OnOk, OnErr, MatchOption}
 use Rattle.std.specs.declared.alloc.AllocError.{AllocError}
-use Rattle.std.specs.declared.option.Option.TheVariants.{Some}
+use Rattle.std.specs.declared.option.Option.{Option}
+use Rattle.std.specs.declared.option.Option.TheVariants.{Some, None}
 use Rattle.std.specs.declared.result.Result.{Result}
 use Rattle.std.specs.declared.result.Result.TheVariants.{Ok, Err}
 use Rattle.rmt_names.specs.Names.{Name}
@@ -10,16 +11,15 @@ use Rattle.rmt_entries.specs.declared.entry.Entry.{Entry}
 use Rattle.rmt_row.specs.Token.{Token}
 use Rattle.rmt_table_model.specs.Held.{Held}
 use Rattle.rmt_table.specs.TableTrees.{table_at, IsMergeOf, IsMutateOf}
-use Rattle.rmt_table.specs.Refusals as table
+use Rattle.rmt_table.specs.Causes.{merge_cause, mutate_cause}
 use Rattle.rmt_table.specs.declared.merge_error.MergeError.{MergeError}
-use Rattle.rmt_table.specs.declared.merge_error.MergeError.TheVariants as merge
 use Rattle.rmt_table.specs.declared.mutate_error.MutateError.{MutateError}
-use Rattle.rmt_table.specs.declared.mutate_error.MutateError.TheVariants as mutate
 use Rattle.rmt_replica.specs.Replicas.{ReplicaView}
 use Rattle.rmt_replica_view.specs.Shown.{shown}
 use Rattle.rmt_events.specs.Views.{Table}
 use Rattle.rmt_events.specs.Clusters.{Attempt, Cluster}
 use Rattle.rmt_events.specs.ClusterChanges.{IsUp, Declines}
+use Rattle.rmt_events.specs.TableRefusals.{NotMerged, NotMutated}
 use Rattle.rmt_events.specs.LogEvents.{AreMergeable, IsMutable, IsCaughtUp, NoMerge, NoMutate}
 use Rattle.rmt_events.specs.declared.event.Event.{Event}
 use Rattle.rmt_events.specs.declared.reply.Reply.{Reply}
@@ -50,6 +50,12 @@ pub declined : (s : StateView) (new : Held) (Cause : Cluster → StepRefused →
     → Declines (cluster_of s made attempts events) (Cause (cluster_of s made attempts events)) (rp.Refused why) (cluster_of (record s { tree = new }) made attempts events)
 declined s new Cause why e made attempts events c = record { why = why; cause = c; answer = refl; unchanged = ap (λ (h : Held). cluster_of (record s { tree = h }) made attempts events) e }
 
+-- what is answered where the table refused: the cause, if it has one
+refusal-told : (o : Option StepRefused) (q : Result Reply AllocError) (Why : StepRefused → Type 0) (Told : Reply → Type 0) → IfSome o Why → ((why : StepRefused) → Why why → Told (rp.Refused why)) → MatchOption o (IsErr q) (λ why. q ≡ Ok (rp.Refused why)) → IfOk q Told
+refusal-told (Some why) q Why Told n f a = subst (λ (z : Result Reply AllocError). IfOk z Told) (sym a) (f why n)
+refusal-told None (Ok reply) Why Told n f a = absurd (cc)
+refusal-told None (Err z) Why Told n f a = tt
+
 -- ---- Merge
 
 pub merge-down : (s : StateView) (k i : ℕ) (x : ReplicaView) (names : List Name) → IsWorker s k i x → x.up ≡ false → Acts s (ev.Merge k names) (rp.Refused rf.Down) s
@@ -76,34 +82,22 @@ pub record WasMerged (s : StateView) (new : Held) (k i : ℕ) (x : ReplicaView) 
   pub place_is : place ≡ length s.tree.log
   pub done : IfOk r (λ token. IsMergeOf s.tree names token new)
   pub current : OnOk r (length x.log ≡ length s.tree.log)
-  pub refused : IfErr r (table.NoMerge (table_at s.tree) (length x.log) names)
+  pub refused : IfErr r (λ e. IfSome (merge_cause e) (NotMerged (table_at s.tree) (length x.log) names))
   pub stays : OnErr r (new ≡ s.tree)
 
-no-merge : (s : StateView) (new : Held) (k i : ℕ) (x : ReplicaView) (names : List Name) (place : ℕ) (e : MergeError) (why : StepRefused) → WasMerged s new k i x names place (Err e)
-    → ((made : ℕ) (attempts : List Attempt) (events : List (Event × Reply)) → NoMerge (cluster_of s made attempts events) k names why) → Acts s (ev.Merge k names) (rp.Refused why) (record s { tree = new })
-no-merge s new k i x names place e why m c made attempts events = inr (declined s new (λ z. NoMerge z k names) why m.stays made attempts events (c made attempts events))
+no-merge : (s : StateView) (new : Held) (k i : ℕ) (x : ReplicaView) (names : List Name) (place : ℕ) (e : MergeError) → WasMerged s new k i x names place (Err e) → (why : StepRefused) → NotMerged (table_at s.tree) (length x.log) names why → Acts s (ev.Merge k names) (rp.Refused why) (record s { tree = new })
+no-merge s new k i x names place e m why n made attempts events = inr (declined s new (λ z. NoMerge z k names) why m.stays made attempts events (go why n))
+  where
+    go : (w : StepRefused) → NotMerged (table_at s.tree) (length x.log) names w → NoMerge (cluster_of s made attempts events) k names w
+    go rf.Down c = absurd c
+    go rf.NotLive c = absurd c
+    go w c = (shown x, up-at s k i x m.worker m.up made attempts events, m.chosen, c)
 
 pub merge-told : (s : StateView) (new : Held) (k i : ℕ) (x : ReplicaView) (names : List Name) (place : ℕ) (r : Result (Token Entry) MergeError) (q : Result Reply AllocError) → WasMerged s new k i x names place r → IsMergeReply place r q → IfOk q (λ reply. Acts s (ev.Merge k names) reply (record s { tree = new }))
 merge-told s new k i x names place (Ok token) q m a =
     subst (λ (z : Result Reply AllocError). IfOk z (λ reply. Acts s (ev.Merge k names) reply (record s { tree = new }))) (sym a) (merge-acts s new k i x names token place m.worker m.up m.chosen m.current m.place_is m.done)
-merge-told s new k i x names place (Err (merge.LogMoved seen found)) q m a =
-    let n = m.refused in
-    subst (λ (z : Result Reply AllocError). IfOk z (λ reply. Acts s (ev.Merge k names) reply (record s { tree = new }))) (sym a) (no-merge s new k i x names place (merge.LogMoved seen found) (rf.LogMoved seen found) m
-    (λ made attempts events. (shown x, up-at s k i x m.worker m.up made attempts events, m.chosen, n.0, n.1, subst (λ j. j < found) (sym n.0) (subst (λ j. length x.log < j) (sym n.1) n.2))))
-merge-told s new k i x names place (Err (merge.Differ left right)) q m a =
-    let n = m.refused in
-    subst (λ (z : Result Reply AllocError). IfOk z (λ reply. Acts s (ev.Merge k names) reply (record s { tree = new }))) (sym a) (no-merge s new k i x names place (merge.Differ left right) (rf.Differ left right) m
-    (λ made attempts events. (caught-up s k i x (λ log. AreMergeable log names) m.worker m.up m.chosen n.0 made attempts events, n.1)))
-merge-told s new k i x names place (Err (merge.InFlight number)) q m a =
-    let n = m.refused in
-    subst (λ (z : Result Reply AllocError). IfOk z (λ reply. Acts s (ev.Merge k names) reply (record s { tree = new }))) (sym a) (no-merge s new k i x names place (merge.InFlight number) (rf.InFlight number) m
-    (λ made attempts events. (caught-up s k i x (λ log. AreMergeable log names) m.worker m.up m.chosen n.0 made attempts events, n.1, n.2, n.3)))
-merge-told s new k i x names place (Err (merge.LimitReached limit value)) q m a =
-    let n = m.refused in
-    subst (λ (z : Result Reply AllocError). IfOk z (λ reply. Acts s (ev.Merge k names) reply (record s { tree = new }))) (sym a) (no-merge s new k i x names place (merge.LimitReached limit value) (rf.LimitReached limit value) m
-    (λ made attempts events. (caught-up s k i x (λ log. AreMergeable log names) m.worker m.up m.chosen n.0 made attempts events, n.1, n.2, n.3)))
-merge-told s new k i x names place (Err merge.Memory) (Ok reply) m a = absurd (cc)
-merge-told s new k i x names place (Err merge.Memory) (Err z) m a = tt
+merge-told s new k i x names place (Err e) q m a =
+    refusal-told (merge_cause e) q (NotMerged (table_at s.tree) (length x.log) names) (λ reply. Acts s (ev.Merge k names) reply (record s { tree = new })) m.refused (no-merge s new k i x names place e m) a
 
 -- where no memory was left the table stays
 pub merge-stays : (old new : Held) (place : ℕ) (r : Result (Token Entry) MergeError) (q : Result Reply AllocError) → OnErr r (new ≡ old) → IsMergeReply place r q → OnErr q (new ≡ old)
@@ -140,26 +134,22 @@ pub record WasMutated (s : StateView) (new : Held) (k i : ℕ) (x : ReplicaView)
   pub place_is : place ≡ length s.tree.log
   pub done : IfOk r (λ token. IsMutateOf s.tree old upto token new)
   pub current : OnOk r (length x.log ≡ length s.tree.log)
-  pub refused : IfErr r (table.NoMutate (table_at s.tree) (length x.log))
+  pub refused : IfErr r (λ e. IfSome (mutate_cause e) (NotMutated (table_at s.tree) (length x.log)))
   pub stays : OnErr r (new ≡ s.tree)
 
-no-mutate : (s : StateView) (new : Held) (k i : ℕ) (x : ReplicaView) (old : Name) (upto place : ℕ) (e : MutateError) (why : StepRefused) → WasMutated s new k i x old upto place (Err e)
-    → ((made : ℕ) (attempts : List Attempt) (events : List (Event × Reply)) → NoMutate (cluster_of s made attempts events) k old upto why) → Acts s (ev.Mutate k old upto) (rp.Refused why) (record s { tree = new })
-no-mutate s new k i x old upto place e why m c made attempts events = inr (declined s new (λ z. NoMutate z k old upto) why m.stays made attempts events (c made attempts events))
+no-mutate : (s : StateView) (new : Held) (k i : ℕ) (x : ReplicaView) (old : Name) (upto place : ℕ) (e : MutateError) → WasMutated s new k i x old upto place (Err e) → (why : StepRefused) → NotMutated (table_at s.tree) (length x.log) why → Acts s (ev.Mutate k old upto) (rp.Refused why) (record s { tree = new })
+no-mutate s new k i x old upto place e m why n made attempts events = inr (declined s new (λ z. NoMutate z k old upto) why m.stays made attempts events (go why n))
+  where
+    go : (w : StepRefused) → NotMutated (table_at s.tree) (length x.log) w → NoMutate (cluster_of s made attempts events) k old upto w
+    go rf.Down c = absurd c
+    go rf.NotLive c = absurd c
+    go w c = (shown x, up-at s k i x m.worker m.up made attempts events, m.chosen, c)
 
 pub mutate-told : (s : StateView) (new : Held) (k i : ℕ) (x : ReplicaView) (old : Name) (upto place : ℕ) (r : Result (Token Entry) MutateError) (q : Result Reply AllocError) → WasMutated s new k i x old upto place r → IsMutateReply place r q → IfOk q (λ reply. Acts s (ev.Mutate k old upto) reply (record s { tree = new }))
 mutate-told s new k i x old upto place (Ok token) q m a =
     subst (λ (z : Result Reply AllocError). IfOk z (λ reply. Acts s (ev.Mutate k old upto) reply (record s { tree = new }))) (sym a) (mutate-acts s new k i x old upto token place m.worker m.up m.chosen m.current m.place_is m.done)
-mutate-told s new k i x old upto place (Err (mutate.LogMoved seen found)) q m a =
-    let n = m.refused in
-    subst (λ (z : Result Reply AllocError). IfOk z (λ reply. Acts s (ev.Mutate k old upto) reply (record s { tree = new }))) (sym a) (no-mutate s new k i x old upto place (mutate.LogMoved seen found) (rf.LogMoved seen found) m
-    (λ made attempts events. (shown x, up-at s k i x m.worker m.up made attempts events, m.chosen, n.0, n.1, subst (λ j. j < found) (sym n.0) (subst (λ j. length x.log < j) (sym n.1) n.2))))
-mutate-told s new k i x old upto place (Err (mutate.LimitReached limit value)) q m a =
-    let n = m.refused in
-    subst (λ (z : Result Reply AllocError). IfOk z (λ reply. Acts s (ev.Mutate k old upto) reply (record s { tree = new }))) (sym a) (no-mutate s new k i x old upto place (mutate.LimitReached limit value) (rf.LimitReached limit value) m
-    (λ made attempts events. (caught-up s k i x (λ log. IsMutable log old upto) m.worker m.up m.chosen n.0 made attempts events, n.1)))
-mutate-told s new k i x old upto place (Err mutate.Memory) (Ok reply) m a = absurd (cc)
-mutate-told s new k i x old upto place (Err mutate.Memory) (Err z) m a = tt
+mutate-told s new k i x old upto place (Err e) q m a =
+    refusal-told (mutate_cause e) q (NotMutated (table_at s.tree) (length x.log)) (λ reply. Acts s (ev.Mutate k old upto) reply (record s { tree = new })) m.refused (no-mutate s new k i x old upto place e m) a
 
 pub mutate-stays : (old new : Held) (place : ℕ) (r : Result (Token Entry) MutateError) (q : Result Reply AllocError) → OnErr r (new ≡ old) → IsMutateReply place r q → OnErr q (new ≡ old)
 mutate-stays old new place (Ok token) q e a = subst (λ (z : Result Reply AllocError). OnErr z (new ≡ old)) (sym a) tt

@@ -8,22 +8,9 @@ use Rattle.rmt_row.specs.Token.{Token}
 use Rattle.rmt_entries.specs.declared.entry.Entry.{Entry}
 use Rattle.rmt_events.specs.declared.reply.Reply.{Reply}
 use Rattle.rmt_events.specs.declared.reply.Reply.TheVariants as rp
-use Rattle.std.specs.declared.option.Option.{Option}
-use Rattle.std.specs.declared.option.Option.TheVariants.{Some, None}
 use Rattle.rmt_table.specs.declared.merge_error.MergeError.{MergeError}
-use Rattle.rmt_table.specs.declared.merge_error.MergeError.TheVariants as merge
 use Rattle.rmt_table.specs.declared.mutate_error.MutateError.{MutateError}
-use Rattle.rmt_table.specs.declared.mutate_error.MutateError.TheVariants as mutate
-use Rattle.rmt_events.specs.declared.step_refused.StepRefused.{StepRefused}
-use Rattle.rmt_events.specs.declared.step_refused.StepRefused.TheVariants as rf
-
--- why a merge isn't in the log
-abbrev pub merge_cause : MergeError → Option StepRefused
-merge_cause (merge.LogMoved seen found) = Some (rf.LogMoved seen found)
-merge_cause (merge.Differ left right) = Some (rf.Differ left right)
-merge_cause (merge.InFlight number) = Some (rf.InFlight number)
-merge_cause (merge.LimitReached limit value) = Some (rf.LimitReached limit value)
-merge_cause merge.Memory = None
+use Rattle.rmt_table.specs.Causes.{merge_cause, mutate_cause}
 
 -- the reply to a merge whose entry was to stand at a place; none where no memory was left
 abbrev pub IsMergeReply : ℕ → Result (Token Entry) MergeError → Result Reply AllocError → Type 0
@@ -33,6 +20,4 @@ IsMergeReply place (Err error) reply = MatchOption (merge_cause error) (IsErr re
 -- the same of the mutation of a part
 abbrev pub IsMutateReply : ℕ → Result (Token Entry) MutateError → Result Reply AllocError → Type 0
 IsMutateReply place (Ok token) reply = reply ≡ Ok (rp.Entry place)
-IsMutateReply place (Err (mutate.LogMoved seen found)) reply = reply ≡ Ok (rp.Refused (rf.LogMoved seen found))
-IsMutateReply place (Err (mutate.LimitReached limit value)) reply = reply ≡ Ok (rp.Refused (rf.LimitReached limit value))
-IsMutateReply place (Err mutate.Memory) reply = IsErr reply
+IsMutateReply place (Err error) reply = MatchOption (mutate_cause error) (IsErr reply) (λ why. reply ≡ Ok (rp.Refused why))

@@ -16,7 +16,8 @@ use Rattle.rmt_events.specs.TableCalls.{with_lock, kept_part}
 use Rattle.rmt_events.specs.Clusters.{without_kinds, Attempt, Cluster}
 use Rattle.rmt_events.specs.Whole.{Follows, IsWhole}
 use Rattle.rmt_events.specs.ClusterChanges.{IsNumbered}
-use Rattle.rmt_events.specs.InsertEvents.{NoNumber, BeginsAttempt}
+use Rattle.rmt_events.specs.TableRefusals.{NoNumber}
+use Rattle.rmt_events.specs.InsertEvents.{BeginsAttempt}
 use Rattle.rmt_events.specs.Steps.{Does, Step}
 use Rattle.rmt_events.proofs.TableSteps.{lock-new}
 use Rattle.rmt_events.proofs.WholeReplica.{follower}
@@ -47,7 +48,7 @@ pub record Begins (t : TableState) (b : Block) (n : ℕ) (u : Cluster) : Type 0 
   pub shows : Shows u (with_number t b)
 
 -- a replica that is up has a session, and no quorum is asked for
-refused-number : (s : Cluster) (r : ℕ) (b : Block) (why : StepRefused) → Has s.table.sessions r → NoNumber s r b 0 why → IsAllocateReply (rp.Refused why)
+refused-number : (s : Cluster) (r : ℕ) (b : Block) (why : StepRefused) → Has s.table.sessions r → NoNumber s.table r b.partition b.digest 0 why → IsAllocateReply (rp.Refused why)
 refused-number s r b rf.NoSession h c = absurd (c h)
 refused-number s r b (rf.TooFewLive live needed) h c = let l = c.1.2 in absurd (omega (arith, l))
 refused-number s r b (rf.QuorumPending a) h c = let l = c.1.1 in absurd (omega (arith, l))
@@ -136,7 +137,7 @@ duplicate s u r raw a w k t h = go k.does
     go (inl d) = let e = d.answer in absurd (cc)
     go (inr d) =
         let e : d.why ≡ rf.Duplicate a = let q = d.answer in cc in
-        let c = subst (λ (y : StepRefused). NoNumber s r (without_kinds (arc_value raw)) 0 y) e d.cause in (
+        let c = subst (λ (y : StepRefused). NoNumber s.table r (arc_value raw).partition (arc_value raw).digest 0 y) e d.cause in (
           kept-shown s t (without_kinds (arc_value raw)) w h ∙ c.2,
           shows-quiet s u (ev.Allocate r raw 0) (rp.Refused (rf.Duplicate a)) t w k (ap (λ (x : Cluster). x.table) d.unchanged) (ap (λ (x : Cluster). x.events) d.unchanged) (λ xs i. refl) h,
         )
@@ -149,7 +150,7 @@ no-number s u r raw limit value w k t h = go k.does
     go (inl d) = let e = d.answer in absurd (cc)
     go (inr d) =
         let e : d.why ≡ rf.LimitReached limit value = let q = d.answer in cc in
-        let c = subst (λ (y : StepRefused). NoNumber s r (without_kinds (arc_value raw)) 0 y) e d.cause in (
+        let c = subst (λ (y : StepRefused). NoNumber s.table r (arc_value raw).partition (arc_value raw).digest 0 y) e d.cause in (
           kept-shown s t (without_kinds (arc_value raw)) w h ∙ c.2,
           number-shown s t (without_kinds (arc_value raw)) h ∙ c.3,
           shows-quiet s u (ev.Allocate r raw 0) (rp.Refused (rf.LimitReached limit value)) t w k (ap (λ (x : Cluster). x.table) d.unchanged) (ap (λ (x : Cluster). x.events) d.unchanged) (λ xs i. refl) h,

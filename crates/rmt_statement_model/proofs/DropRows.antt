@@ -15,7 +15,7 @@ use Rattle.rmt_events.specs.Clusters.{Cluster}
 use Rattle.rmt_events.specs.Whole.{IsWhole}
 use Rattle.rmt_events.specs.ClusterChanges.{IsNumbered}
 use Rattle.rmt_events.specs.ApplyEvents.{LacksPart, NeedsFetch, NoApply, WaitsAt}
-use Rattle.rmt_events.specs.LogEvents.{NoDrop}
+use Rattle.rmt_events.specs.TableRefusals.{NoDrop}
 use Rattle.rmt_events.specs.Steps.{Does, Step}
 use Rattle.rmt_events.proofs.WholeSteps.{whole-step}
 use Rattle.rmt_events.proofs.WholeTries.{one-replica}
@@ -44,7 +44,7 @@ IsDropReply (rp.Refused (rf.LimitReached limit value)) = Unit {0}
 IsDropReply reply = ⊥
 
 -- a drop is refused for a limit alone
-refused-drop : (s : Cluster) (p : Option ℕ) (why : StepRefused) → NoDrop s p why → IsDropReply (rp.Refused why)
+refused-drop : (s : Cluster) (p : Option ℕ) (why : StepRefused) → NoDrop s.table p why → IsDropReply (rp.Refused why)
 refused-drop s p (rf.LimitReached limit value) c = tt
 refused-drop s p why c = absurd c
 
@@ -89,7 +89,7 @@ drop-refused s u p limit value w k t h = go k.does
     go (inr (inl d)) = let e = d.answer in absurd (cc)
     go (inr (inr d)) =
         let e : d.why ≡ rf.LimitReached limit value = let q = d.answer in cc in
-        let c = subst (λ (y : StepRefused). NoDrop s p y) e d.cause in
+        let c = subst (λ (y : StepRefused). NoDrop s.table p y) e d.cause in
         record {
           state = t;
           holds = record { exists = exists-shown s t p h c.0; limit = limit; value = value; reached = limit-shown s t p h ∙ c.1; reply = refl; unchanged = refl };

@@ -53,9 +53,9 @@ refused-merge s k first second rest (rf.LogMoved seen found) w i d m c =
     let e : length c.0.log ≡ length s.table.log = ap (λ (l : List Entry). length l) (whole-copy s k c.0 w d c.1) in
     let f = c.3 in let g = c.4 in let h = c.5 in absurd (omega (arith, e, f, g, h))
 refused-merge s k first second rest (rf.Differ left right) w i d m c = tt
-refused-merge s k first second rest (rf.InFlight n) w i d m c = let l = c.2.0 in absurd (subst (λ (xs : List Lock). Has xs l.lock) i.free l.is_in)
+refused-merge s k first second rest (rf.InFlight n) w i d m c = let l = c.5.0 in absurd (subst (λ (xs : List Lock). Has xs l.lock) i.free l.is_in)
 refused-merge s k first second rest (rf.LimitReached limit value) w i d m c = tt
-refused-merge s k first second rest why w i d m c = absurd c
+refused-merge s k first second rest why w i d m c = absurd c.3
 
 -- nothing else is answered
 pub merge-reply : (s u : Cluster) (k : ℕ) (p : Option ℕ) (first second : Name) (rest : List Name) (reply : Reply) → IsWhole s → IsIdle s k → IsUpToDate s k → live_of s.table.log p ≡ first ∷ second ∷ rest → Step s (ev.Merge k (first ∷ second ∷ rest)) reply u → IsMergeReply reply

@@ -11,7 +11,7 @@ use Rattle.rmt_model.specs.EntryLimits.{mutation_limit}
 use Rattle.rmt_events.specs.Views.{Table}
 use Rattle.rmt_events.specs.Clusters.{Cluster}
 use Rattle.rmt_events.specs.Whole.{IsWhole}
-use Rattle.rmt_events.specs.LogEvents.{NoMutation}
+use Rattle.rmt_events.specs.TableRefusals.{NoMutation}
 use Rattle.rmt_events.specs.Steps.{Does, Step}
 use Rattle.rmt_reply.specs.declared.refusal.Refusal.TheVariants.{LimitReached}
 use Rattle.rmt_statement_model.specs.TableStates.{TableState}
@@ -32,7 +32,7 @@ IsMutationReply (rp.Refused (rf.LimitReached limit value)) = Unit {0}
 IsMutationReply reply = ⊥
 
 -- a mutation is refused for a limit alone
-refused-mutation : (s : Cluster) (why : StepRefused) → NoMutation s why → IsMutationReply (rp.Refused why)
+refused-mutation : (s : Cluster) (why : StepRefused) → NoMutation s.table why → IsMutationReply (rp.Refused why)
 refused-mutation s (rf.LimitReached limit value) c = tt
 refused-mutation s why c = absurd c
 
@@ -83,7 +83,7 @@ mutation-refused s u command limit value w k t h = go k.does
     go (inl d) = let e = d.answer in absurd (cc)
     go (inr d) =
         let e : d.why ≡ rf.LimitReached limit value = let q = d.answer in cc in
-        let c = subst (λ (y : StepRefused). NoMutation s y) e d.cause in
+        let c = subst (λ (y : StepRefused). NoMutation s.table y) e d.cause in
         record {
           state = t;
           holds = record { limit = limit; value = value; reached = limit-shown s t h ∙ c; reply = refl; unchanged = refl };

@@ -56,7 +56,7 @@ refused-mutate s k old upto (rf.LogMoved seen found) w up d m c =
     let l = c.5 in
     absurd (omega (arith, e, p, q, l))
 refused-mutate s k old upto (rf.LimitReached limit value) w up d m c = tt
-refused-mutate s k old upto why w up d m c = absurd c
+refused-mutate s k old upto why w up d m c = absurd c.3
 
 -- nothing else is answered
 pub mutate-reply : (s u : Cluster) (k : ℕ) (old : Name) (upto : ℕ) (reply : Reply) → IsWhole s → ups s k ≡ true → IsUpToDate s k → IsMutable s.table.log old upto → Step s (ev.Mutate k old upto) reply u → IsMutateReply reply
@@ -119,7 +119,7 @@ refused-shows s u k old upto limit value w st t h = go st.does
     go (inr a) =
         let e : a.why ≡ rf.LimitReached limit value = let q = a.answer in cc in
         let c = subst (λ (y : StepRefused). NoMutate s k old upto y) e a.cause in (
-          ap worker_limit h.log ∙ c.1,
+          ap worker_limit h.log ∙ c.4,
           shows-quiet s u (ev.Mutate k old upto) (rp.Refused (rf.LimitReached limit value)) t w st (ap (λ (x : Cluster). x.table) a.unchanged) (ap (λ (x : Cluster). x.events) a.unchanged) (λ xs i. refl) h,
         )
 

@@ -10,7 +10,7 @@ use Rattle.rmt_entries.specs.declared.entry.Entry.TheVariants.{Merge}
 use Rattle.rmt_model.specs.Live.{live}
 use Rattle.rmt_model.specs.Lawful.{Lawful}
 use Rattle.rmt_model.specs.EntryLimits.{worker_limit}
-use Rattle.rmt_events.specs.LogEvents.{AreFirstToDiffer, AreAlike}
+use Rattle.rmt_events.specs.TableRefusals.{AreFirstToDiffer, AreAlike}
 use Rattle.rmt_reply.specs.declared.refusal.Refusal.{Refusal}
 use Rattle.rmt_reply.specs.declared.refusal.Refusal.TheVariants.{LimitReached, Unmergeable}
 use Rattle.rmt_statement_model.specs.TableStates.{TableState, synced}

@@ -1,5 +1,6 @@
 -- What a number for a block makes of a table, and why there is none.
 use Rattle.std.proofs.Common.{◌≡◌, ℕ, ◌+◌, ◌-◌, ◌<◌, ◌≤◌, ◌&&◌, Bool, true, false, cond, nat_eq, nat_le, List, length, refl, sym, ap, subst, arith, ◌∙◌}
+use Rattle.std.specs.Prelude.{IfSome}
 use Rattle.std.proofs.lemmas.Bool.Decides.{nat_tests}
 use Rattle.std.specs.declared.option.Option.{Option}
 use Rattle.std.specs.declared.option.Option.TheVariants.{Some, None}
@@ -29,11 +30,11 @@ use Rattle.rmt_table_model.proofs.NumberLemmas.{next-none, next-has}
 use Rattle.rmt_table_model.proofs.TableLemmas.{allocate-steps}
 use Rattle.rmt_table_model.proofs.HeldLemmas.{held-table, held-held}
 use Rattle.rmt_events.specs.TableCalls.{Allocates, kept_part}
-use Rattle.rmt_events.specs.InsertEvents.{HasQuorum}
-use Rattle.rmt_table_view.specs.Shown.{shown}
-use Rattle.rmt_table_view.proofs.SessionLemmas.{opened-has, not-opened}
-use Rattle.rmt_table_view.proofs.NumberLemmas as view
-use Rattle.rmt_table_view.proofs.CallBridge.{allocate-bridge}
+use Rattle.rmt_events.specs.TableRefusals.{HasQuorum, NoNumber}
+use Rattle.rmt_table.specs.SeenTable.{shown}
+use Rattle.rmt_table.proofs.SessionLemmas.{opened-has, not-opened}
+use Rattle.rmt_table.proofs.NumberLemmas as view
+use Rattle.rmt_table.proofs.CallBridge.{allocate-bridge}
 use Rattle.rmt_inserts.specs.Numbers.{number_limit, IsNumberError}
 use Rattle.rmt_inserts.specs.declared.number_error.NumberError.{NumberError}
 use Rattle.rmt_inserts.specs.declared.number_error.NumberError.TheVariants as number
@@ -41,7 +42,8 @@ use Rattle.rmt_history.specs.Mutations.{number_among}
 use Rattle.rmt_table.proofs.LookupLemmas.{lookup-same, number-where}
 use Rattle.rmt_table.specs.declared.allocate_error.AllocateError.{AllocateError}
 use Rattle.rmt_table.specs.declared.allocate_error.AllocateError.TheVariants as allocate
-use Rattle.rmt_table.specs.Refusals.{NoNumber, IsSameLimit}
+use Rattle.rmt_table.specs.Causes.{allocate_cause}
+use Rattle.rmt_table.specs.Refusals.{IsSameLimit}
 use Rattle.rmt_table.specs.TableTrees.{table_at, session_at, Counts, IsTableTree, IsReplica}
 
 -- no block asks for a quorum
@@ -149,7 +151,11 @@ module _ (h : Held) (tokens : List (Token Entry)) (counts : Counts) (k : IsTable
   back : r - 1 + 1 ≡ r
   back = let l = here.first in omega (arith, l)
 
-  pub no-session : session ≡ None → NoNumber (table_at now) r id need allocate.NoSession
+  -- the cause of the error is why the block gets no number
+  abbrev pub HasCause : AllocateError → Type 0
+  HasCause x = IfSome (allocate_cause x) (NoNumber (table_at now) r id.partition id.digest need)
+
+  pub no-session : session ≡ None → HasCause allocate.NoSession
   no-session f = λ has. not-opened h.sessions (r - 1) (sym at ∙ f) (subst (λ (w : Held). Has (table_at w).sessions (r - 1 + 1)) (sym e) (subst (Has (table_at now).sessions) (sym back) has))
 
   module _ (s : ℕ) (begun : session ≡ Some s) (part : Option Name) (kept-is : part ≡ part_of id.partition id.digest (in_order h.schema.window h.log)) where
@@ -162,26 +168,26 @@ module _ (h : Held) (tokens : List (Token Entry)) (counts : Counts) (k : IsTable
     kept-part : (o : Option Name) → part ≡ o → kept_part (table_at now).window id.partition id.digest ≡ o
     kept-part o f = subst (λ (w : Held). kept_part (table_at w).window id.partition id.digest ≡ o) e (kept-seen h id.partition id.digest part kept-is ∙ f)
 
-    pub is-kept : (a : Name) → part ≡ Some a → NoNumber (table_at now) r id need (allocate.Duplicate a)
+    pub is-kept : (a : Name) → part ≡ Some a → HasCause (allocate.Duplicate a)
     is-kept a f = (has-session, unasked now need none, kept-part (Some a) f)
 
     pub session-open : is_open h.tree s ≡ true
     session-open = (k.held.tree.sessions s).1 (r - 1, opened)
 
     module _ (new : part ≡ None) where
-      at-limit : (l : Limit × ℕ) → allocate_limit now.next now.log id.partition ≡ Some l → NoNumber (table_at now) r id need (allocate.LimitReached l.0 l.1)
+      at-limit : (l : Limit × ℕ) → allocate_limit now.next now.log id.partition ≡ Some l → HasCause (allocate.LimitReached l.0 l.1)
       at-limit l f = (has-session, unasked now need none, kept-part None new, f)
 
-      pub is-full : (x : AllocateError) → option_map (λ l. allocate.LimitReached l.0 l.1) (allocate_limit now.next now.log id.partition) ≡ Some x → NoNumber (table_at now) r id need x
+      pub is-full : (x : AllocateError) → option_map (λ l. allocate.LimitReached l.0 l.1) (allocate_limit now.next now.log id.partition) ≡ Some x → HasCause x
       is-full x f = go (allocate_limit now.next now.log id.partition) refl f
         where
-          go : (o : Option (Limit × ℕ)) → allocate_limit now.next now.log id.partition ≡ o → option_map (λ l. allocate.LimitReached l.0 l.1) o ≡ Some x → NoNumber (table_at now) r id need x
+          go : (o : Option (Limit × ℕ)) → allocate_limit now.next now.log id.partition ≡ o → option_map (λ l. allocate.LimitReached l.0 l.1) o ≡ Some x → HasCause x
           go None i q = absurd (cc)
-          go (Some l) i q = let w : allocate.LimitReached l.0 l.1 ≡ x = cc in subst (NoNumber (table_at now) r id need) w (at-limit l i)
+          go (Some l) i q = let w : allocate.LimitReached l.0 l.1 ≡ x = cc in subst HasCause w (at-limit l i)
 
-      pub no-number : (n : NumberError) → IsNumberError (number_limit h.next id.partition) n → (x : AllocateError) → IsSameLimit n x → NoNumber (table_at now) r id need x
-      no-number (number.LimitReached limit value) f x q = subst (NoNumber (table_at now) r id need) (sym q) (at-limit (limit, value) (subst (λ (w : Held). allocate_limit w.next w.log id.partition ≡ Some (limit, value)) e (limit-some h.next h.log id.partition (limit, value) f)))
-      no-number number.Memory f x q = subst (NoNumber (table_at now) r id need) (sym q) tt
+      pub no-number : (n : NumberError) → IsNumberError (number_limit h.next id.partition) n → (x : AllocateError) → IsSameLimit n x → HasCause x
+      no-number (number.LimitReached limit value) f x q = subst HasCause (sym q) (at-limit (limit, value) (subst (λ (w : Held). allocate_limit w.next w.log id.partition ≡ Some (limit, value)) e (limit-some h.next h.log id.partition (limit, value) f)))
+      no-number number.Memory f x q = subst HasCause (sym q) tt
 
       module _ (width : IsPartition id.partition) (within : number_limit h.next id.partition ≡ None) (few : client_count h.log < 32768) (t : TreeView) (done : t ≡ after_all h.tree (take_ops id.partition s (next_of h.next id.partition)))
           (next : Nexts) (next-is : next ≡ with_next h.next id.partition (next_number h.next id.partition + 1)) where

@@ -36,9 +36,9 @@ use Rattle.rmt_table_model.proofs.TableLemmas.{commit-steps}
 use Rattle.rmt_table_model.proofs.HeldLemmas.{held-table, held-held}
 use Rattle.rmt_events.specs.TableCalls.{Commits}
 use Rattle.rmt_partitions.specs.KeptNumbers.{NumbersOf, numbers_of}
-use Rattle.rmt_table_view.specs.Shown.{shown}
-use Rattle.rmt_table_view.proofs.NumberLemmas as view
-use Rattle.rmt_table_view.proofs.CallBridge.{commit-bridge}
+use Rattle.rmt_table.specs.SeenTable.{shown}
+use Rattle.rmt_table.proofs.NumberLemmas as view
+use Rattle.rmt_table.proofs.CallBridge.{commit-bridge}
 use Rattle.rmt_table.specs.declared.lock.Lock.{Lock}
 use Rattle.rmt_table.specs.declared.commit_error.CommitError.{CommitError}
 use Rattle.rmt_table.specs.declared.commit_error.CommitError.TheVariants as commit

@@ -6,7 +6,7 @@ use Rattle.rmt_entries.specs.declared.entry.Entry.{Entry}
 use Rattle.rmt_model.specs.Words.{Each}
 use Rattle.rmt_model.specs.Lawful.{ver}
 use Rattle.rmt_model.proofs.Lists.{Each-at, Each-all}
-use Rattle.rmt_events.specs.LogEvents.{AreFirstToDiffer, AreAlike}
+use Rattle.rmt_events.specs.TableRefusals.{AreFirstToDiffer, AreAlike}
 
 -- the neighbours that differ first among a and all are those among left and the names that are still to come
 pub record DifferAlike (log : List Entry) (a : Name) (all : List Name) (left : Name) (rest : List Name) : Type 0 where

@@ -1,5 +1,6 @@
 -- The drop of a partition that is appended to a table's log.
 use Rattle.std.proofs.Common.{◌≡◌, ℕ, ◌+◌, ◌-◌, ◌<◌, ◌≤◌, ◌^◌, Bool, true, false, cond, List, [], ◌∷◌, ◌++◌, length, filter, refl, sym, ap, subst, arith, ◌∙◌, append_assoc, nat_eq}
+use Rattle.std.specs.Prelude.{IfSome}
 use Rattle.std.specs.declared.option.Option.{Option}
 use Rattle.std.specs.declared.option.Option.TheVariants.{None, Some}
 use Rattle.rmt_names.specs.Names.{rank}
@@ -29,12 +30,13 @@ use Rattle.rmt_table_model.proofs.NumberLemmas.{next-has}
 use Rattle.rmt_table_model.proofs.TableLemmas.{drop-steps}
 use Rattle.rmt_table_model.proofs.HeldLemmas.{held-table, held-held}
 use Rattle.rmt_partitions.specs.KeptNumbers.{NumbersOf, numbers_of}
-use Rattle.rmt_table_view.specs.Shown.{shown}
-use Rattle.rmt_table_view.proofs.NumberLemmas.{taken-same}
-use Rattle.rmt_table_view.proofs.CallBridge.{drop-bridge}
+use Rattle.rmt_table.specs.SeenTable.{shown}
+use Rattle.rmt_table.proofs.NumberLemmas.{taken-same}
+use Rattle.rmt_table.proofs.CallBridge.{drop-bridge}
 use Rattle.rmt_events.specs.TableCalls.{DropsPartition}
+use Rattle.rmt_events.specs.TableRefusals.{NoDrop}
 use Rattle.rmt_table.specs.TableTrees.{table_at, Counts, ArePlaced, IsTableTree, next_token, order_numbers, Drops}
-use Rattle.rmt_table.specs.Refusals.{NoDrop}
+use Rattle.rmt_table.specs.Causes.{change_cause}
 use Rattle.rmt_table.specs.declared.change_error.ChangeError.{ChangeError}
 use Rattle.rmt_table.specs.declared.change_error.ChangeError.TheVariants.{LimitReached, Memory}
 use Rattle.rmt_table.proofs.LookupLemmas.{lookup-same, number-where}
@@ -71,7 +73,7 @@ module _ (h : Held) (tokens : List (Token Entry)) (counts : Counts) (is : IsTabl
   number-now : number ≡ next_number now.next p
   number-now = number-is ∙ ap (λ (k : Held). next_number k.next p) same
 
-  pub drop-refused : (e : ChangeError) → refusal ≡ Some e → NoDrop (table_at now) p e
+  pub drop-refused : (e : ChangeError) → refusal ≡ Some e → IfSome (change_cause e) (NoDrop (table_at now) p)
   drop-refused (LimitReached limit value) f = (
     let b = is.held.sound.nexts.begun p number (next-has h.next p number exists) in let q = number-now in omega (arith, b, q),
     error-limit (drop_limit now.next now.log p) limit value (sym (refusal-is p number-now) ∙ f),

@@ -1,3 +1,9 @@
+pub mod Orders
+pub mod SessionLemmas
+pub mod LockLemmas
+pub mod NumberLemmas
+pub mod SoundBridge
+pub mod CallBridge
 pub mod LevelLemmas
 pub mod PrefixLemmas
 pub mod LookupLemmas

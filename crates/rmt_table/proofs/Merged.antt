@@ -1,5 +1,6 @@
 -- What a merge makes of a table, and why there is none.
 use Rattle.std.proofs.Common.{◌≡◌, ℕ, ◌+◌, ◌<◌, ◌≤◌, ◌^◌, inl, inr, Bool, true, false, List, [], ◌∷◌, ◌++◌, length, refl, sym, ap, subst, arith, ◌∙◌, nat_lt}
+use Rattle.std.specs.Prelude.{IfSome}
 use Rattle.std.proofs.lemmas.Bool.Decides.{nat_tests}
 use Rattle.std.specs.declared.option.Option.{Option}
 use Rattle.std.specs.declared.option.Option.TheVariants.{Some, None}
@@ -30,13 +31,14 @@ use Rattle.rmt_table_model.specs.Steps.{Steps}
 use Rattle.rmt_table_model.specs.Held.{Held, table_of, holders_in}
 use Rattle.rmt_table_model.proofs.CountLemmas.{merged-count}
 use Rattle.rmt_table_model.proofs.TableLemmas.{merge-steps}
-use Rattle.rmt_events.specs.LogEvents.{AreMergeable, AreFirstToDiffer, AreAlike, IsInFlight}
+use Rattle.rmt_events.specs.TableRefusals.{AreFirstToDiffer, AreAlike, IsInFlight, NotMerged}
+use Rattle.rmt_events.specs.LogEvents.{AreMergeable}
 use Rattle.rmt_events.specs.Views.{Table}
 use Rattle.rmt_events.specs.TableCalls.{AssignsMerge}
-use Rattle.rmt_table_view.specs.Shown.{shown}
-use Rattle.rmt_table_view.proofs.CallBridge.{shown-locked, locked-shown, merge-bridge}
+use Rattle.rmt_table.specs.SeenTable.{shown}
+use Rattle.rmt_table.proofs.CallBridge.{shown-locked, locked-shown, merge-bridge}
 use Rattle.rmt_table.specs.TableTrees.{Counts, order_numbers, IsTableTree, IsMergeOf, table_at, next_token, entry_ops}
-use Rattle.rmt_table.specs.Refusals.{NoMerge}
+use Rattle.rmt_table.specs.Causes.{merge_cause}
 use Rattle.rmt_table.specs.declared.merge_error.MergeError.{MergeError}
 use Rattle.rmt_table.specs.declared.merge_error.MergeError.TheVariants as merge
 use Rattle.rmt_table.proofs.LevelLemmas.{level-of-made}
@@ -199,13 +201,17 @@ module _ (h : Held) (tokens : List (Token Entry)) (logged : h.log ≡ entries to
   fit-here : AreMergeable h.log names
   fit-here = subst (λ (l : List Entry). AreMergeable l names) whole fit
 
-  no-merge : (e : MergeError) → NoMerge (table_at h) (length copy.log) names e → NoMerge (table_at now) (length copy.log) names e
-  no-merge e n = subst (λ (k : Held). NoMerge (table_at k) (length copy.log) names e) same n
+  -- the cause of the error is why the names aren't merged
+  abbrev pub HasCause : Held → MergeError → Type 0
+  HasCause k e = IfSome (merge_cause e) (NotMerged (table_at k) (length copy.log) names)
+
+  no-merge : (e : MergeError) → HasCause h e → HasCause now e
+  no-merge e n = subst (λ (k : Held). HasCause k e) same n
 
   long : length copy.log ≡ length h.log
   long = ap (λ (l : List Entry). length l) whole
 
-  pub merge-differs : (l r : Name) → AreFirstToDiffer copy.log names l r → NoMerge (table_at now) (length copy.log) names (merge.Differ l r)
+  pub merge-differs : (l r : Name) → AreFirstToDiffer copy.log names l r → HasCause now (merge.Differ l r)
   merge-differs l r d = no-merge (merge.Differ l r) (long, subst (λ (k : List Entry). AreFirstToDiffer k names l r) whole d)
 
   module _ (alike-there : AreAlike copy.log names) where
@@ -222,11 +228,11 @@ module _ (h : Held) (tokens : List (Token Entry)) (logged : h.log ≡ entries to
     merge-few = subst (λ (l : List Entry). tally (block_count l) names < 2 ^ 32) (sym whole) (sources-few (table_of h) sound names fit-here alike)
 
     module _ (new : Name) (new-is : IsMergedOf names new) where
-      pub merge-flies : (n : ℕ) → IsLeastLocked (holders_in h.tree) new.partition new.min new.max (Some n) → NoMerge (table_at now) (length copy.log) names (merge.InFlight n)
+      pub merge-flies : (n : ℕ) → IsLeastLocked (holders_in h.tree) new.partition new.min new.max (Some n) → HasCause now (merge.InFlight n)
       merge-flies n l = let w = least-in-flight (table_of h) sound names new new-is n l in no-merge (merge.InFlight n) (long, alike, w.is, w.least)
 
       module _ (free : IsLeastLocked (holders_in h.tree) new.partition new.min new.max None) where
-        pub merge-full : (value : ℕ) → value ≡ counts.workers → 32768 ≤ counts.workers → NoMerge (table_at now) (length copy.log) names (merge.LimitReached limits.WorkerEntries value)
+        pub merge-full : (value : ℕ) → value ≡ counts.workers → 32768 ≤ counts.workers → HasCause now (merge.LimitReached limits.WorkerEntries value)
         merge-full value e l = no-merge (merge.LimitReached limits.WorkerEntries value)
             (long, alike, none-in-flight (table_of h) sound names new new-is free, work-full h.log value (e ∙ is.counted.workers) (subst (λ (n : ℕ). 32768 ≤ n) (sym e) l))
 

@@ -1,5 +1,6 @@
 -- What the mutation of a part makes of a table, and why there is none.
 use Rattle.std.proofs.Common.{◌≡◌, ℕ, ◌+◌, ◌<◌, ◌≤◌, Bool, true, false, cond, not, nat_eq, List, [], ◌∷◌, ◌++◌, length, refl, sym, ap, subst, arith, ◌∙◌}
+use Rattle.std.specs.Prelude.{IfSome}
 use Rattle.std.proofs.lemmas.Bool.Decides.{nat_tests}
 use Rattle.std.specs.Option.{option_eq}
 use Rattle.std.specs.declared.option.Option.{Option}
@@ -30,10 +31,11 @@ use Rattle.rmt_table_model.proofs.CountLemmas.{mutations-through}
 use Rattle.rmt_table_model.proofs.TableLemmas.{mutate-steps}
 use Rattle.rmt_events.specs.LogEvents.{IsMutable}
 use Rattle.rmt_events.specs.TableCalls.{AssignsMutate}
-use Rattle.rmt_table_view.specs.Shown.{shown}
-use Rattle.rmt_table_view.proofs.CallBridge.{mutate-bridge}
+use Rattle.rmt_events.specs.TableRefusals.{NotMutated}
+use Rattle.rmt_table.specs.SeenTable.{shown}
+use Rattle.rmt_table.proofs.CallBridge.{mutate-bridge}
 use Rattle.rmt_table.specs.TableTrees.{Counts, order_numbers, IsTableTree, IsMutateOf, table_at, next_token, entry_ops}
-use Rattle.rmt_table.specs.Refusals.{NoMutate}
+use Rattle.rmt_table.specs.Causes.{mutate_cause}
 use Rattle.rmt_table.specs.declared.mutate_error.MutateError.{MutateError}
 use Rattle.rmt_table.specs.declared.mutate_error.MutateError.TheVariants as mutate
 use Rattle.rmt_table.specs.MutateEntries.{IsMutateEntry}
@@ -113,8 +115,12 @@ mutate-entry schema log i e id numbers command old l q k m number f new r count 
 
 module _ (h : Held) (tokens : List (Token Entry)) (logged : h.log ≡ entries tokens) (counts : Counts) (is : IsTableTree h tokens counts) (now : Held) (same : h ≡ now)
     (copy : History) (whole : copy.log ≡ h.log) (old : Name) (upto : ℕ) where
-  no-mutate : (e : MutateError) → NoMutate (table_at h) (length copy.log) e → NoMutate (table_at now) (length copy.log) e
-  no-mutate e n = subst (λ (k : Held). NoMutate (table_at k) (length copy.log) e) same n
+  -- the cause of the error is why the part isn't mutated
+  abbrev pub HasCause : Held → MutateError → Type 0
+  HasCause k e = IfSome (mutate_cause e) (NotMutated (table_at k) (length copy.log))
+
+  no-mutate : (e : MutateError) → HasCause h e → HasCause now e
+  no-mutate e n = subst (λ (k : Held). HasCause k e) same n
 
   long : length copy.log ≡ length h.log
   long = ap (λ (l : List Entry). length l) whole
@@ -122,7 +128,7 @@ module _ (h : Held) (tokens : List (Token Entry)) (logged : h.log ≡ entries to
   pub mutate-few : length copy.log ≤ 65536
   mutate-few = let k = sound-length (table_of h) is.held.sound in omega (arith, long, k)
 
-  pub mutate-full : (value : ℕ) → value ≡ counts.workers → 32768 ≤ counts.workers → NoMutate (table_at now) (length copy.log) (mutate.LimitReached limits.WorkerEntries value)
+  pub mutate-full : (value : ℕ) → value ≡ counts.workers → 32768 ≤ counts.workers → HasCause now (mutate.LimitReached limits.WorkerEntries value)
   mutate-full value e l = no-mutate (mutate.LimitReached limits.WorkerEntries value) (long, work-full h.log value (e ∙ is.counted.workers) (subst (λ (n : ℕ). 32768 ≤ n) (sym e) l))
 
   module _ (few : counts.workers < 32768) (e : Entry) (made : IsMutateEntry copy.log old upto e) where

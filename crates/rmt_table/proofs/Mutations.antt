@@ -32,8 +32,8 @@ use Rattle.rmt_znodes.specs.ZnodeStates.{Makes}
 use Rattle.rmt_table_model.specs.Steps.{Steps}
 use Rattle.rmt_table_model.proofs.TableLemmas.{mutation-steps}
 use Rattle.rmt_table_model.proofs.HeldLemmas.{held-table, held-held}
-use Rattle.rmt_table_view.specs.Shown.{shown}
-use Rattle.rmt_table_view.proofs.CallBridge.{mutation-bridge}
+use Rattle.rmt_table.specs.SeenTable.{shown}
+use Rattle.rmt_table.proofs.CallBridge.{mutation-bridge}
 use Rattle.rmt_table.specs.TableTrees.{table_at, Counts, ArePlaced, IsTableTree}
 use Rattle.rmt_table.specs.declared.change_error.ChangeError.{ChangeError}
 use Rattle.rmt_table.proofs.SoundRanges.{mutation-range}

@@ -20,7 +20,7 @@ use Rattle.rmt_znodes.specs.ZnodeStates.{Makes}
 use Rattle.rmt_table_model.specs.Steps.{Steps}
 use Rattle.rmt_table_model.proofs.HeldLemmas.{held-table, held-held}
 use Rattle.rmt_table_model.proofs.NewLemmas.{new-steps}
-use Rattle.rmt_table_view.specs.Shown.{opened_from, shown}
+use Rattle.rmt_table.specs.SeenTable.{opened_from, shown}
 use Rattle.rmt_partitions.specs.KeptNumbers.{NumbersOf}
 use Rattle.rmt_table.specs.TableTrees.{table_at, Counts, IsTableTree}
 

@@ -25,8 +25,8 @@ use Rattle.rmt_znodes.specs.ZnodeStates.{Makes}
 use Rattle.rmt_table_model.specs.Steps.{Steps}
 use Rattle.rmt_table_model.proofs.TableLemmas.{pull-steps}
 use Rattle.rmt_table_model.proofs.HeldLemmas.{held-table, held-held}
-use Rattle.rmt_table_view.specs.Shown.{shown}
-use Rattle.rmt_table_view.proofs.CallBridge.{pull-bridge}
+use Rattle.rmt_table.specs.SeenTable.{shown}
+use Rattle.rmt_table.proofs.CallBridge.{pull-bridge}
 use Rattle.rmt_table.specs.TableTrees.{table_at, IsReplica, Counts, IsTableTree, ArePlaced}
 use Rattle.rmt_table.proofs.PrefixLemmas.{prefix-whole, prefix-length, prefix-next, next-lawful}
 

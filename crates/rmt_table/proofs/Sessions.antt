@@ -28,11 +28,11 @@ use Rattle.rmt_table_model.specs.Tables.{TableView, IsSound, session_of}
 use Rattle.rmt_table_model.proofs.TableLemmas.{open-steps, close-steps}
 use Rattle.rmt_table_model.proofs.UndoneLemmas.{open-undone}
 use Rattle.rmt_table_model.proofs.HeldLemmas.{held-table, held-held}
-use Rattle.rmt_table_view.specs.Shown.{opened_from, shown}
-use Rattle.rmt_table_view.proofs.Orders.{same-lists}
-use Rattle.rmt_table_view.proofs.LockLemmas.{locks-from}
-use Rattle.rmt_table_view.proofs.SessionLemmas.{opened-from, opened-has, opened-rising, numbers-order, session-rising}
-use Rattle.rmt_table_view.proofs.CallBridge.{open-bridge, close-bridge}
+use Rattle.rmt_table.specs.SeenTable.{opened_from, shown}
+use Rattle.rmt_table.proofs.Orders.{same-lists}
+use Rattle.rmt_table.proofs.LockLemmas.{locks-from}
+use Rattle.rmt_table.proofs.SessionLemmas.{opened-from, opened-has, opened-rising, numbers-order, session-rising}
+use Rattle.rmt_table.proofs.CallBridge.{open-bridge, close-bridge}
 use Rattle.rmt_table.specs.TableTrees.{table_at, IsReplica, Counts, IsTableTree, OpensTree}
 
 -- ---- what is read

@@ -23,8 +23,8 @@ use Rattle.rmt_table_model.proofs.TableLemmas.{abandon-steps}
 use Rattle.rmt_table_model.proofs.HeldLemmas.{held-table, held-held, held-abandon, lock-there, unlocked-none}
 use Rattle.rmt_events.specs.TableCalls.{Unlocks}
 use Rattle.rmt_events.specs.TableCalls as seen
-use Rattle.rmt_table_view.specs.Shown.{shown}
-use Rattle.rmt_table_view.proofs.CallBridge.{abandon-bridge, shown-locked, locked-shown}
+use Rattle.rmt_table.specs.SeenTable.{shown}
+use Rattle.rmt_table.proofs.CallBridge.{abandon-bridge, shown-locked, locked-shown}
 use Rattle.rmt_table.specs.TableTrees.{table_at, Counts, AreCounts, IsTableTree, IsUnlocked}
 
 -- what a read of a node tells

@@ -19,7 +19,7 @@ use Rattle.rmt_table_model.specs.Nodes.{IsTable}
 use Rattle.rmt_table_model.specs.Held.{Held, table_of}
 use Rattle.rmt_table_model.specs.Steps.{Steps}
 use Rattle.rmt_table_model.proofs.HeldLemmas.{held-table, held-held}
-use Rattle.rmt_table_view.specs.Shown.{shown}
+use Rattle.rmt_table.specs.SeenTable.{shown}
 use Rattle.rmt_table.specs.TableTrees.{Counts, order_numbers, IsTableTree, IsCopyOf, table_at, next_token, entry_ops}
 use Rattle.rmt_table.proofs.PrefixLemmas.{prefix-whole, prefix-length}
 use Rattle.rmt_table.proofs.LengthLemmas.{tokens-few}

@@ -1,8 +1,11 @@
 pub use Rattle.rmt_events.specs.Views
 pub use Rattle.rmt_events.specs.TableCalls
+pub use Rattle.rmt_events.specs.TableRefusals
 pub use Rattle.rmt_table_model.specs.Held
 pub use Rattle.rmt_table_model.specs.Nodes
+pub mod SeenTable
 pub mod TableTrees
+pub mod Causes
 pub mod Refusals
 pub mod MutateEntries
 pub mod Choices

@@ -29,7 +29,7 @@ use Rattle.rmt_table_model.specs.Nodes.{AreLocks, drop_ops}
 use Rattle.rmt_table.specs.declared.lock.Lock as lock
 use Rattle.rmt_table.specs.declared.commit_error.CommitError.{CommitError}
 use Rattle.rmt_table.specs.declared.commit_error.CommitError.TheVariants as commit
-use Rattle.rmt_table_view.specs.Shown.{shown}
+use Rattle.rmt_table.specs.SeenTable.{shown}
 
 -- the table that events see
 abbrev pub table_at : Held → Table

@@ -1,7 +1,9 @@
 ghost use Rattle.std.specs.Prelude.{◌≡◌};
+ghost use Rattle.rmt_table.specs.Causes.{allocate_cause};
 ghost use Rattle.rmt_table.specs.Refusals.{IsSameLimit};
 ghost use Rattle.rmt_table.specs.declared.allocate_error.AllocateError.TheVariants.{Memory};
 
+use rmt_events::StepRefused;
 use rmt_inserts::NumberError;
 use rmt_names::PartName;
 use rmt_values::Limit;
@@ -33,6 +35,26 @@ impl From<AllocError> for AllocateError {
 }
 
 impl AllocateError {
+    /// Why a block got no number, as an event is answered; `None` where no memory was left.
+    pub fn cause(&self) -> Option<StepRefused>
+        ensures { result ≡ allocate_cause self.now }
+    {
+        match self {
+            AllocateError::NoSession => Some(StepRefused::NoSession),
+            AllocateError::TooFewLive { live, need } => Some(StepRefused::TooFewLive {
+                live: *live,
+                need: *need,
+            }),
+            AllocateError::QuorumPending(part) => Some(StepRefused::QuorumPending(*part)),
+            AllocateError::Duplicate(part) => Some(StepRefused::Duplicate(*part)),
+            AllocateError::LimitReached { limit, value } => Some(StepRefused::LimitReached {
+                limit: *limit,
+                value: *value,
+            }),
+            AllocateError::Memory => None,
+        }
+    }
+
     /// The answer on a block, where this was that on its number.
     pub(crate) fn of_number(error: NumberError) -> AllocateError
         ensures { IsSameLimit error result }

@@ -1,6 +1,8 @@
 ghost use Rattle.std.specs.Prelude.{◌≡◌};
+ghost use Rattle.rmt_table.specs.Causes.{change_cause};
 ghost use Rattle.rmt_table.specs.declared.change_error.ChangeError.TheVariants.{Memory};
 
+use rmt_events::StepRefused;
 use rmt_values::Limit;
 use std::alloc::AllocError;
 
@@ -18,5 +20,20 @@ impl From<AllocError> for ChangeError {
 
     fn from(_: AllocError) -> ChangeError {
         ChangeError::Memory
+    }
+}
+
+impl ChangeError {
+    /// Why a change isn't in the log, as an event is answered; `None` where no memory was left.
+    pub fn cause(&self) -> Option<StepRefused>
+        ensures { result ≡ change_cause self.now }
+    {
+        match self {
+            ChangeError::LimitReached { limit, value } => Some(StepRefused::LimitReached {
+                limit: *limit,
+                value: *value,
+            }),
+            ChangeError::Memory => None,
+        }
     }
 }

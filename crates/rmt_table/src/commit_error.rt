@@ -1,6 +1,8 @@
 ghost use Rattle.std.specs.Prelude.{◌≡◌};
+ghost use Rattle.rmt_table.specs.Causes.{commit_cause};
 ghost use Rattle.rmt_table.specs.declared.commit_error.CommitError.TheVariants.{Memory};
 
+use rmt_events::StepRefused;
 use rmt_names::PartName;
 use rmt_values::Limit;
 use std::alloc::AllocError;
@@ -27,5 +29,27 @@ impl From<AllocError> for CommitError {
 
     fn from(_: AllocError) -> CommitError {
         CommitError::Memory
+    }
+}
+
+impl CommitError {
+    /// Why a block wasn't accepted, as an event is answered; `None` where no memory was left.
+    pub fn cause(&self) -> Option<StepRefused>
+        ensures { result ≡ commit_cause self.now }
+    {
+        match self {
+            CommitError::LockGone { number } => Some(StepRefused::LockGone { number: *number }),
+            CommitError::TooFewLive { live, need } => Some(StepRefused::TooFewLive {
+                live: *live,
+                need: *need,
+            }),
+            CommitError::QuorumPending(part) => Some(StepRefused::QuorumPending(*part)),
+            CommitError::Duplicate(part) => Some(StepRefused::Duplicate(*part)),
+            CommitError::LimitReached { limit, value } => Some(StepRefused::LimitReached {
+                limit: *limit,
+                value: *value,
+            }),
+            CommitError::Memory => None,
+        }
     }
 }

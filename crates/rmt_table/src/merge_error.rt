@@ -1,6 +1,8 @@
 ghost use Rattle.std.specs.Prelude.{◌≡◌};
+ghost use Rattle.rmt_table.specs.Causes.{merge_cause};
 ghost use Rattle.rmt_table.specs.declared.merge_error.MergeError.TheVariants.{Memory};
 
+use rmt_events::StepRefused;
 use rmt_names::PartName;
 use rmt_values::Limit;
 use std::alloc::AllocError;
@@ -25,5 +27,29 @@ impl From<AllocError> for MergeError {
 
     fn from(_: AllocError) -> MergeError {
         MergeError::Memory
+    }
+}
+
+impl MergeError {
+    /// Why a merge isn't in the log, as an event is answered; `None` where no memory was left.
+    pub fn cause(&self) -> Option<StepRefused>
+        ensures { result ≡ merge_cause self.now }
+    {
+        match self {
+            MergeError::LogMoved { seen, found } => Some(StepRefused::LogMoved {
+                seen: *seen,
+                found: *found,
+            }),
+            MergeError::Differ { left, right } => Some(StepRefused::Differ {
+                left: *left,
+                right: *right,
+            }),
+            MergeError::InFlight(number) => Some(StepRefused::InFlight(*number)),
+            MergeError::LimitReached { limit, value } => Some(StepRefused::LimitReached {
+                limit: *limit,
+                value: *value,
+            }),
+            MergeError::Memory => None,
+        }
     }
 }

@@ -1,6 +1,8 @@
 ghost use Rattle.std.specs.Prelude.{◌≡◌};
+ghost use Rattle.rmt_table.specs.Causes.{mutate_cause};
 ghost use Rattle.rmt_table.specs.declared.mutate_error.MutateError.TheVariants.{Memory};
 
+use rmt_events::StepRefused;
 use rmt_values::Limit;
 use std::alloc::AllocError;
 
@@ -20,5 +22,24 @@ impl From<AllocError> for MutateError {
 
     fn from(_: AllocError) -> MutateError {
         MutateError::Memory
+    }
+}
+
+impl MutateError {
+    /// Why the mutation of a part isn't in the log, as an event is answered; `None` where no memory was left.
+    pub fn cause(&self) -> Option<StepRefused>
+        ensures { result ≡ mutate_cause self.now }
+    {
+        match self {
+            MutateError::LogMoved { seen, found } => Some(StepRefused::LogMoved {
+                seen: *seen,
+                found: *found,
+            }),
+            MutateError::LimitReached { limit, value } => Some(StepRefused::LimitReached {
+                limit: *limit,
+                value: *value,
+            }),
+            MutateError::Memory => None,
+        }
     }
 }

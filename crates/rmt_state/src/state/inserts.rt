@@ -1,10 +1,12 @@
 //! The calls of an insert on the table, and on the replica that it is made at.
-ghost use Rattle.std.specs.Prelude.{◌≡◌, ◌↔◌, IfOk, IfErr, IsTrue, OnErr, OnOk, length};
+ghost use Rattle.std.specs.Prelude.{◌≡◌, ◌↔◌, IfOk, IfErr, IfSome, IsTrue, OnErr, OnOk, length};
 ghost use Rattle.rmt_model.specs.BlockNumbers.{next_number};
 ghost use Rattle.rmt_events.specs.TableCalls.{IsLocked, Allocates, Commits, Unlocks};
+ghost use Rattle.rmt_events.specs.TableRefusals.{NoNumber};
 ghost use Rattle.rmt_events.specs.Clusters.{values_of as values_in};
 ghost use Rattle.rmt_table.specs.TableTrees.{table_at, AfterNoCommit, IsReplica};
-ghost use Rattle.rmt_table.specs.Refusals.{NoNumber, NoCommit};
+ghost use Rattle.rmt_table.specs.Causes.{allocate_cause, commit_cause};
+ghost use Rattle.rmt_table.specs.Refusals.{NoCommit};
 
 use crate::state::State;
 use rmt_block::{Block, BlockId};
@@ -37,7 +39,8 @@ impl State {
         requires here { IsReplica self.old.tree replica }
         ensures lock { IfOk result (λ lock. lock ≡ record { replica = replica; session = lock.session; number = next_number self.old.tree.next id.now.partition; id = id.now }) }
         ensures allocates { IfOk result (λ lock. Allocates (table_at self.old.tree) replica id.now.partition id.now.digest lock.number (table_at self.new.tree)) }
-        ensures refused { IfErr result (NoNumber (table_at self.old.tree) replica id.now 0) }
+        ensures refused { IfErr result (λ e. IfSome (allocate_cause e)
+            (NoNumber (table_at self.old.tree) replica id.now.partition id.now.digest 0)) }
         ensures err { OnErr result (self.new ≡ self.old) }
         ensures replicas { self.new.replicas ≡ self.old.replicas }
     {
@@ -54,7 +57,8 @@ impl State {
         requires here { IsReplica self.old.tree lock.now.replica }
         ensures place { IfOk result (λ place. place ≡ length self.old.tree.log) }
         ensures commits { OnOk result (Commits (table_at self.old.tree) lock.now.id.partition lock.now.number lock.now.id.digest lock.now.replica 0 values (table_at self.new.tree)) }
-        ensures refused { IfErr result (NoCommit (table_at self.old.tree) lock.now 0 values) }
+        ensures refused { IfErr result (λ e. IfSome (commit_cause e)
+            (NoCommit (table_at self.old.tree) lock.now 0 values)) }
         ensures err { IfErr result (λ e. AfterNoCommit self.old.tree lock.now e self.new.tree) }
         ensures replicas { self.new.replicas ≡ self.old.replicas }
         ensures sessions { length self.new.tree.sessions ≡ length self.old.tree.sessions }

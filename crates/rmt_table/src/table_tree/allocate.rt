@@ -1,4 +1,4 @@
-ghost use Rattle.std.specs.Prelude.{◌≡◌, ◌≤◌, IfOk, IfErr, OnErr, length};
+ghost use Rattle.std.specs.Prelude.{◌≡◌, ◌≤◌, IfOk, IfErr, IfSome, OnErr, length};
 ghost use Rattle.std.specs.Option.{option_map};
 ghost use Rattle.std.specs.declared.option.Option.TheVariants.{Some};
 ghost use Rattle.rmt_model.specs.BlockNumbers.{next_number};
@@ -7,10 +7,11 @@ ghost use Rattle.rmt_values.specs.declared.limit.Limit.TheVariants.{ClientEntrie
 ghost use Rattle.rmt_table.specs.declared.allocate_error.AllocateError.TheVariants.{LimitReached};
 ghost use Rattle.rmt_tree.specs.Ops.{after_all};
 ghost use Rattle.rmt_events.specs.TableCalls.{Allocates};
+ghost use Rattle.rmt_events.specs.TableRefusals.{NoNumber};
 ghost use Rattle.rmt_table_model.specs.Held.{table_of};
 ghost use Rattle.rmt_table_model.specs.Nodes.{allocate_ops};
 ghost use Rattle.rmt_table.specs.TableTrees.{table_at, IsReplica};
-ghost use Rattle.rmt_table.specs.Refusals.{NoNumber};
+ghost use Rattle.rmt_table.specs.Causes.{allocate_cause};
 
 use crate::allocate_error::AllocateError;
 use crate::lock::Lock;
@@ -73,7 +74,8 @@ impl TableTree {
         ensures lock { IfOk result (λ lock. lock ≡ record { replica = replica; session = lock.session; number = next_number self.old.next id.now.partition; id = id.now }) }
         ensures allocates { IfOk result (λ lock. Allocates (table_at self.old) replica id.now.partition id.now.digest lock.number (table_at self.new)) }
         ensures ops { IfOk result (λ lock. self.new.tree ≡ after_all self.old.tree (allocate_ops id.now.partition lock.session (table_of self.old))) }
-        ensures refused { IfErr result (NoNumber (table_at self.old) replica id.now need) }
+        ensures refused { IfErr result (λ e. IfSome (allocate_cause e)
+            (NoNumber (table_at self.old) replica id.now.partition id.now.digest need)) }
         ensures err { OnErr result (self.new ≡ self.old) }
         ensures replicas { length self.new.sessions ≡ length self.old.sessions }
     {

@@ -12,6 +12,7 @@ ghost use Rattle.rmt_table_model.specs.Held.{table_of, holders_in};
 ghost use Rattle.rmt_table_model.specs.Numbers.{IsLocked as IsHeldBy};
 ghost use Rattle.rmt_table_model.specs.Nodes.{commit_ops as commit_ops_of, keep_ops as keep_ops_of};
 ghost use Rattle.rmt_table.specs.TableTrees.{table_at, IsReplica, AfterNoCommit, kept_after as kept_after_of};
+ghost use Rattle.rmt_table.specs.Causes.{commit_cause};
 ghost use Rattle.rmt_table.specs.Refusals.{NoCommit, IsAcceptable, TakesLock};
 
 use crate::commit_error::CommitError;
@@ -71,7 +72,8 @@ impl TableTree {
     ) -> Result<Option<CommitError>, AllocError>
         requires locked { IsLocked (table_at self.now).locks lock.now.id.partition lock.now.number }
         ensures none { IfOk result (λ refused. refused ≡ None → IsAcceptable (table_at self.now) lock.now values) }
-        ensures some { IfOk result (λ refused. IfSome refused (NoCommit (table_at self.now) lock.now 0 values)) }
+        ensures some { IfOk result (λ refused. IfSome refused (λ e. IfSome (commit_cause e)
+            (NoCommit (table_at self.now) lock.now 0 values))) }
         ensures takes { IfOk result (λ refused. IfSome refused TakesLock) }
     {
         if let Some(part) = kept(&self.tree, alloc, &lock.id)? {
@@ -144,7 +146,8 @@ impl TableTree {
         ensures token { IfOk result (λ token. token ≡ record { place = length self.old.log; value = Get lock.now.id.partition lock.now.number lock.now.id.digest lock.now.replica need; cell = length self.old.log }) }
         ensures commits { OnOk result (Commits (table_at self.old) lock.now.id.partition lock.now.number lock.now.id.digest lock.now.replica need values (table_at self.new)) }
         ensures ops { OnOk result (self.new.tree ≡ after_all self.old.tree (commit_ops_of entry_bytes lock.now.id.partition lock.now.number lock.now.id.digest lock.now.replica need (table_of self.old))) }
-        ensures refused { IfErr result (NoCommit (table_at self.old) lock.now need values) }
+        ensures refused { IfErr result (λ e. IfSome (commit_cause e)
+            (NoCommit (table_at self.old) lock.now need values)) }
         ensures err { IfErr result (λ e. AfterNoCommit self.old lock.now e self.new) }
         ensures replicas { length self.new.sessions ≡ length self.old.sessions }
     {

@@ -1,4 +1,4 @@
-ghost use Rattle.std.specs.Prelude.{◌≡◌, ◌<◌, ◌+◌, ◌∷◌, ◌++◌, [], ℕ, List, length, filter, true, None, Some, IfOk, IfErr, OnErr};
+ghost use Rattle.std.specs.Prelude.{◌≡◌, ◌<◌, ◌+◌, ◌∷◌, ◌++◌, [], ℕ, List, length, filter, true, None, Some, IfOk, IfErr, IfSome, OnErr};
 ghost use Rattle.std.specs.Option.{option_map};
 ghost use Rattle.std.specs.declared.option.Option.{Option};
 ghost use Rattle.rmt_tree.specs.declared.op.Op.{Op};
@@ -14,8 +14,9 @@ ghost use Rattle.rmt_table_model.specs.Inserts.{HasNumbers, HasKeptIds, AreDropO
 ghost use Rattle.rmt_table_model.specs.Nodes.{number_ops as ops_of_number};
 ghost use Rattle.rmt_model.specs.BlockNumbers.{next_number};
 ghost use Rattle.rmt_model.specs.EntryLimits.{drop_limit};
+ghost use Rattle.rmt_events.specs.TableRefusals.{NoDrop};
 ghost use Rattle.rmt_table.specs.TableTrees.{table_at, IsDrop};
-ghost use Rattle.rmt_table.specs.Refusals.{NoDrop};
+ghost use Rattle.rmt_table.specs.Causes.{change_cause};
 ghost use Rattle.rmt_table.specs.declared.change_error.ChangeError.TheVariants as change;
 
 use crate::change_error::ChangeError;
@@ -71,7 +72,8 @@ impl TableTree {
         partition: PartitionId,
     ) -> Result<Option<Seen<Entry>>, ChangeError>
         ensures done { IfOk result (λ token. IsDrop self.old partition token self.new) }
-        ensures refused { IfErr result (NoDrop (table_at self.old) partition) }
+        ensures refused { IfErr result (λ e. IfSome (change_cause e)
+            (NoDrop (table_at self.old) partition)) }
         ensures err { OnErr result (self.new ≡ self.old) }
         ensures replicas { length self.new.sessions ≡ length self.old.sessions }
     {

@@ -1,7 +1,8 @@
-ghost use Rattle.std.specs.Prelude.{◌≡◌, length, MatchOption, IfOk, IfErr, OnOk, OnErr};
-ghost use Rattle.rmt_events.specs.LogEvents.{AreMergeable, AreFirstToDiffer, AreAlike};
+ghost use Rattle.std.specs.Prelude.{◌≡◌, length, MatchOption, IfOk, IfErr, IfSome, OnOk, OnErr};
+ghost use Rattle.rmt_events.specs.LogEvents.{AreMergeable};
+ghost use Rattle.rmt_events.specs.TableRefusals.{AreFirstToDiffer, AreAlike, NotMerged};
 ghost use Rattle.rmt_table.specs.TableTrees.{table_at, IsCopyOf, IsMergeOf};
-ghost use Rattle.rmt_table.specs.Refusals.{NoMerge};
+ghost use Rattle.rmt_table.specs.Causes.{merge_cause};
 
 use crate::counted::block_sum;
 use crate::merge_error::MergeError;
@@ -49,7 +50,8 @@ impl TableTree {
         requires neighbours { AreMergeable copy.now.log sources.now }
         ensures done { IfOk result (λ token. IsMergeOf self.old sources.now token self.new) }
         ensures current { OnOk result (length copy.now.log ≡ length self.old.log) }
-        ensures refused { IfErr result (NoMerge (table_at self.old) (length copy.now.log) sources.now) }
+        ensures refused { IfErr result (λ e. IfSome (merge_cause e)
+            (NotMerged (table_at self.old) (length copy.now.log) sources.now)) }
         ensures err { OnErr result (self.new ≡ self.old) }
         ensures replicas { length self.new.sessions ≡ length self.old.sessions }
     {

@@ -1,10 +1,11 @@
-ghost use Rattle.std.specs.Prelude.{◌≡◌, ◌≤◌, length, IfOk, IfErr, OnOk, OnErr};
+ghost use Rattle.std.specs.Prelude.{◌≡◌, ◌≤◌, length, IfOk, IfErr, IfSome, OnOk, OnErr};
 ghost use Rattle.rmt_model.specs.Lawful.{Lawful};
 ghost use Rattle.rmt_history.specs.Mutations.{number_among as number_among_of};
 ghost use Rattle.rmt_events.specs.LogEvents.{IsMutable};
+ghost use Rattle.rmt_events.specs.TableRefusals.{NotMutated};
 ghost use Rattle.rmt_table.specs.MutateEntries.{IsMutateEntry};
 ghost use Rattle.rmt_table.specs.TableTrees.{table_at, IsCopyOf, IsMutateOf};
-ghost use Rattle.rmt_table.specs.Refusals.{NoMutate};
+ghost use Rattle.rmt_table.specs.Causes.{mutate_cause};
 
 use crate::counted::block_count;
 use crate::mutate_error::MutateError;
@@ -71,7 +72,8 @@ impl TableTree {
         requires pending { IsMutable copy.now.log old.now upto }
         ensures done { IfOk result (λ token. IsMutateOf self.old old.now upto token self.new) }
         ensures current { OnOk result (length copy.now.log ≡ length self.old.log) }
-        ensures refused { IfErr result (NoMutate (table_at self.old) (length copy.now.log)) }
+        ensures refused { IfErr result (λ e. IfSome (mutate_cause e)
+            (NotMutated (table_at self.old) (length copy.now.log))) }
         ensures err { OnErr result (self.new ≡ self.old) }
         ensures replicas { length self.new.sessions ≡ length self.old.sessions }
     {

@@ -1,4 +1,4 @@
-ghost use Rattle.std.specs.Prelude.{◌≡◌, ◌∷◌, ◌++◌, [], length, true, false, None, IfOk, IfErr, OnOk, OnErr};
+ghost use Rattle.std.specs.Prelude.{◌≡◌, ◌∷◌, ◌++◌, [], length, true, false, None, IfOk, IfErr, IfSome, OnOk, OnErr};
 ghost use Rattle.std.specs.Option.{option_map};
 ghost use Rattle.std.specs.Fmt.{decimal};
 ghost use Rattle.rmt_values.specs.Commands.{CommandFits};
@@ -11,11 +11,12 @@ ghost use Rattle.rmt_entries.specs.declared.entry.Entry.TheVariants.{Mutation};
 ghost use Rattle.rmt_model.specs.Lawful.{mutation_count};
 ghost use Rattle.rmt_model.specs.EntryLimits.{mutation_limit};
 ghost use Rattle.rmt_events.specs.TableCalls.{CreatesMutation};
+ghost use Rattle.rmt_events.specs.TableRefusals.{NoMutation};
 ghost use Rattle.rmt_table_model.specs.Held.{table_of};
 ghost use Rattle.rmt_table_model.specs.Nodes.{mutation_ops, number_ops as ops_of_number, numbers_ops as ops_of_numbers};
 ghost use Rattle.rmt_table.specs.TableTrees.{table_at};
 ghost use Rattle.rmt_table.specs.MutationOps.{mutation_tail, mutation_ops as mutation_ops_of};
-ghost use Rattle.rmt_table.specs.Refusals.{NoMutation};
+ghost use Rattle.rmt_table.specs.Causes.{change_cause};
 ghost use Rattle.rmt_table.specs.declared.change_error.ChangeError.TheVariants as change;
 
 use crate::change_error::ChangeError;
@@ -164,7 +165,8 @@ impl TableTree {
         ensures token { IfOk result (λ token. token ≡ record { place = length self.old.log; value = Mutation (mutation_count self.old.log) self.old.next command; cell = length self.old.log }) }
         ensures creates { OnOk result (CreatesMutation (table_at self.old) command (table_at self.new)) }
         ensures ops { OnOk result (self.new.tree ≡ after_all self.old.tree (mutation_ops entry_bytes command (table_of self.old))) }
-        ensures refused { IfErr result (NoMutation (table_at self.old)) }
+        ensures refused { IfErr result (λ e. IfSome (change_cause e)
+            (NoMutation (table_at self.old))) }
         ensures err { OnErr result (self.new ≡ self.old) }
         ensures replicas { length self.new.sessions ≡ length self.old.sessions }
     {
@@ -189,7 +191,8 @@ impl TableTree {
     fn mutation_numbers(&self, alloc: Global) -> Result<List<(PartitionId, u32)>, ChangeError>
         ensures numbers { IfOk result (λ numbers. numbers ≡ self.now.next) }
         ensures all { OnOk result (mutation_limit self.now.next self.now.log ≡ None) }
-        ensures refused { IfErr result (NoMutation (table_at self.now)) }
+        ensures refused { IfErr result (λ e. IfSome (change_cause e)
+            (NoMutation (table_at self.now))) }
     {
         if let Some(error) = self.mutation_refusal() {
             return Err(error);

@@ -20,8 +20,8 @@ returns-then-not-is_final-clause-ok c =
     let h = c.lock.ensures in
     let s = c.args.state.now in
     let a = c.args.attempts.now in
-    gone-acts s c.commit.new.self a c.args.attempt c.in-Some-no_commit.why c.in-Some.found.now c.lock.result.now c.requires.suit f.0 f.1 h.holds h.number h.replica (c.has_staged.ensures.0 c.if-not-has_staged.false)
-    (λ events. gone-for c.in-Err.error c.in-Some-no_commit.why (cluster_of s a.made a.open_ones events) c.in-Some.found.now c.lock.result.now c.values_of-values.result s.tree c.commit.new.self.tree h.holds h.number c.in-Err.ensures.refused c.in-Err.ensures.err (sym c.is_final.ensures ∙ c.if-not-is_final.true) (sym c.no_commit.ensures ∙ c.in-Some-no_commit.is))
+    gone-acts s c.commit.new.self a c.args.attempt c.in-Some-cause.why c.in-Some.found.now c.lock.result.now c.requires.suit f.0 f.1 h.holds h.number h.replica (c.has_staged.ensures.0 c.if-not-has_staged.false)
+    (λ events. gone-for c.in-Err.error c.in-Some-cause.why (cluster_of s a.made a.open_ones events) c.in-Some.found.now c.lock.result.now c.values_of-values.result s.tree c.commit.new.self.tree h.holds h.number c.in-Err.ensures.refused c.in-Err.ensures.err (sym c.is_final.ensures ∙ c.if-not-is_final.true) (sym c.cause.ensures ∙ c.in-Some-cause.is))
     c.commit.ensures.replicas
 
 pub returns-else-not-is_final-clause-ok : goal.returns-else-not-is_final-clause-ok
@@ -31,6 +31,6 @@ returns-else-not-is_final-clause-ok c =
     let s = c.args.state.now in
     let a = c.args.attempts.now in
     let v : c.values_of-values.result ≡ values_of s.tree.schema c.in-Some.found.now.block.rows = search rules in
-    loses-acts s c.commit.new.self c.end-in-Err.new.state a c.end-in-Err.new.attempts c.args.attempt c.in-Some-no_commit.why c.in-Some.found.now c.lock.result.now c.requires.suit f.0 f.1 h.holds h.number h.replica (c.has_staged.ensures.0 c.if-not-has_staged.false)
-    (λ events. lost-for c.in-Err.error c.in-Some-no_commit.why (cluster_of s a.made a.open_ones events) c.in-Some.found.now c.lock.result.now c.values_of-values.result s.tree c.commit.new.self.tree h.unasked h.holds h.number v c.in-Err.ensures.refused c.in-Err.ensures.err (sym c.is_final.ensures ∙ c.if-not-is_final.false) (sym c.no_commit.ensures ∙ c.in-Some-no_commit.is))
+    loses-acts s c.commit.new.self c.end-in-Err.new.state a c.end-in-Err.new.attempts c.args.attempt c.in-Some-cause.why c.in-Some.found.now c.lock.result.now c.requires.suit f.0 f.1 h.holds h.number h.replica (c.has_staged.ensures.0 c.if-not-has_staged.false)
+    (λ events. lost-for c.in-Err.error c.in-Some-cause.why (cluster_of s a.made a.open_ones events) c.in-Some.found.now c.lock.result.now c.values_of-values.result s.tree c.commit.new.self.tree h.unasked h.holds h.number v c.in-Err.ensures.refused c.in-Err.ensures.err (sym c.is_final.ensures ∙ c.if-not-is_final.false) (sym c.cause.ensures ∙ c.in-Some-cause.is))
     c.commit.ensures.replicas c.end-in-Err.ensures

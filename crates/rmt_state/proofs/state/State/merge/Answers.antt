@@ -1,11 +1,13 @@
 use Rattle.std.proofs.Common.{◌≡◌, ◌-◌, ◌∙◌, List, length, arith, sym, subst}
-use Rattle.std.specs.Prelude.{slice_get, IfOk, IfErr, OnOk}
+use Rattle.std.specs.Prelude.{slice_get, IfOk, IfErr, IfSome, OnOk}
 use Rattle.std.specs.declared.option.Option.TheVariants.{Some}
 use Rattle.std.proofs.lemmas.Grind.{common_steps}
 use Rattle.std.proofs.lemmas.Option.{gets}
 use Rattle.rmt_entries.specs.declared.entry.Entry.{Entry}
 use Rattle.rmt_model.specs.Lawful.{IsPrefix}
-use Rattle.rmt_table.specs.Refusals as table
+use Rattle.rmt_table.specs.Causes.{merge_cause}
+use Rattle.rmt_table.specs.declared.merge_error.MergeError.{MergeError}
+use Rattle.rmt_events.specs.TableRefusals.{NotMerged}
 use Rattle.rmt_table.specs.TableTrees.{table_at, IsMergeOf}
 use Rattle.rmt_events.specs.LogEvents.{AreMergeable}
 use Rattle.rmt_events.specs.declared.event.Event.TheVariants as ev
@@ -69,6 +71,6 @@ returns-clause-ok c =
       place_is = c.log_len-place.ensures;
       done = a.done;
       current = subst (λ (log : List Entry). OnOk c.assign_merge-assigned.result (length log ≡ length i.tree.log)) l a.current;
-      refused = subst (λ (log : List Entry). IfErr c.assign_merge-assigned.result (table.NoMerge (table_at i.tree) (length log) c.args.sources.now)) l a.refused;
+      refused = subst (λ (log : List Entry). IfErr c.assign_merge-assigned.result (λ (x : MergeError). IfSome (merge_cause x) (NotMerged (table_at i.tree) (length log) c.args.sources.now))) l a.refused;
       stays = a.err;
     }) c.merge_reply.ensures)

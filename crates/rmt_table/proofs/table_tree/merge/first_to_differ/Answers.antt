@@ -2,7 +2,7 @@ use Rattle.std.proofs.Common.{◌≡◌, ◌∙◌, ◌+◌, ◌-◌, ◌∷◌,
 use Rattle.std.proofs.lemmas.Grind.{common_steps}
 use Rattle.std.proofs.lemmas.List.{drop_more, drop_all}
 use Rattle.rmt_table.proofs.Differing.{differ-next, differ-none}
-use Rattle.rmt_events.specs.LogEvents.{AreAlike}
+use Rattle.rmt_events.specs.TableRefusals.{AreAlike}
 use Rattle.rmt_table.proofs.table_tree.merge.first_to_differ.Goals as goal
 
 pub names-preserved : goal.names-preserved

@@ -22,11 +22,11 @@ use Rattle.rmt_table_model.proofs.SoundLemmas.{above-all, meets-merge, meets-mut
 use Rattle.rmt_events.specs.Views.{Lock, Table}
 use Rattle.rmt_events.specs.TableCalls.{with_lock, with_session, IsLocked, holds_number, kept_part, Allocates, Commits, Unlocks, AssignsMerge, AssignsMutate, CreatesMutation, DropsPartition, Closes, Opens, Notes}
 use Rattle.rmt_events.proofs.TableSteps.{lock-from, lock-new, lock-old, session-from, session-new, session-old}
-use Rattle.rmt_table_view.specs.Shown.{locks_in, opened_from, shown, Holds, Precedes}
-use Rattle.rmt_table_view.proofs.Orders.{same-lists}
-use Rattle.rmt_table_view.proofs.LockLemmas.{locks-from, locks-has, locks-rising, locks-are, lock-rising}
-use Rattle.rmt_table_view.proofs.SessionLemmas.{HasSession, opened-from, opened-has, opened-rising, numbers-order, session-rising}
-use Rattle.rmt_table_view.proofs.NumberLemmas.{taken-same, kept-same, allocate-within, commit-within, drop-within, mutation-within, worker-within}
+use Rattle.rmt_table.specs.SeenTable.{locks_in, opened_from, shown, Holds, Precedes}
+use Rattle.rmt_table.proofs.Orders.{same-lists}
+use Rattle.rmt_table.proofs.LockLemmas.{locks-from, locks-has, locks-rising, locks-are, lock-rising}
+use Rattle.rmt_table.proofs.SessionLemmas.{HasSession, opened-from, opened-has, opened-rising, numbers-order, session-rising}
+use Rattle.rmt_table.proofs.NumberLemmas.{taken-same, kept-same, allocate-within, commit-within, drop-within, mutation-within, worker-within}
 
 abbrev locks_of : TableView → List Lock
 locks_of v = locks_in v.holders v.sessions v.next

@@ -11,9 +11,9 @@ use Rattle.rmt_table_model.specs.Tables.{TableView, IsSound}
 use Rattle.rmt_events.specs.Views.{Lock}
 use Rattle.rmt_events.specs.TableCalls.{precedes, with_lock}
 use Rattle.rmt_events.proofs.TableSteps.{lock-from}
-use Rattle.rmt_table_view.specs.Shown.{owner_from, lock_of, locks_below, locks_in, Holds, Precedes}
-use Rattle.rmt_table_view.proofs.Orders.{IsOrder, same-lists}
-use Rattle.rmt_table_view.proofs.SessionLemmas.{owner-is}
+use Rattle.rmt_table.specs.SeenTable.{owner_from, lock_of, locks_below, locks_in, Holds, Precedes}
+use Rattle.rmt_table.proofs.Orders.{IsOrder, same-lists}
+use Rattle.rmt_table.proofs.SessionLemmas.{owner-is}
 
 pub locks-order : IsOrder Precedes
 locks-order = record { never = λ x l. absurd (grind (arith, nat_tests)); across = λ x y z l m. grind (arith, nat_tests) }

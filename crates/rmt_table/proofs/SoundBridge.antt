@@ -5,8 +5,8 @@ use Rattle.rmt_table_model.specs.Tables as tables
 use Rattle.rmt_table_model.specs.Tables.{TableView}
 use Rattle.rmt_table_model.proofs.SoundLemmas.{above-all}
 use Rattle.rmt_events.specs.Sound.{IsFree, IsSoundTable}
-use Rattle.rmt_table_view.specs.Shown.{locks_in, shown}
-use Rattle.rmt_table_view.proofs.LockLemmas.{locks-from}
+use Rattle.rmt_table.specs.SeenTable.{locks_in, shown}
+use Rattle.rmt_table.proofs.LockLemmas.{locks-from}
 
 pub sound-shown : (v : TableView) → tables.IsSound v → IsSoundTable (shown v)
 sound-shown v s = record {

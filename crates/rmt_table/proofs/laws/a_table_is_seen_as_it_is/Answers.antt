@@ -1,11 +1,11 @@
 use Rattle.std.proofs.Common.{◌≡◌, ◌+◌, arith, ap, ◌∙◌}
 use Rattle.rmt_table_model.specs.Tables.{session_of}
-use Rattle.rmt_table_view.proofs.SoundBridge.{sound-shown}
-use Rattle.rmt_table_view.proofs.LockLemmas.{locks-from, locks-has, locks-rising}
-use Rattle.rmt_table_view.proofs.SessionLemmas.{opened-from, opened-has, opened-count}
-use Rattle.rmt_table_view.proofs.NumberLemmas.{kept-same}
-use Rattle.rmt_table_view.proofs.CallBridge.{shown-locked, locked-shown}
-use Rattle.rmt_table_view.proofs.laws.a_table_is_seen_as_it_is.Goals as goal
+use Rattle.rmt_table.proofs.SoundBridge.{sound-shown}
+use Rattle.rmt_table.proofs.LockLemmas.{locks-from, locks-has, locks-rising}
+use Rattle.rmt_table.proofs.SessionLemmas.{opened-from, opened-has, opened-count}
+use Rattle.rmt_table.proofs.NumberLemmas.{kept-same}
+use Rattle.rmt_table.proofs.CallBridge.{shown-locked, locked-shown}
+use Rattle.rmt_table.proofs.laws.a_table_is_seen_as_it_is.Goals as goal
 
 pub returns-clause-sound : goal.returns-clause-sound
 returns-clause-sound c = λ v s. sound-shown v s

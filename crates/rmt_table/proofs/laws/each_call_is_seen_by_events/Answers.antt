@@ -1,5 +1,5 @@
-use Rattle.rmt_table_view.proofs.CallBridge.{allocate-bridge, commit-bridge, abandon-bridge, drop-bridge, mutation-bridge, merge-bridge, mutate-bridge, pull-bridge, note-bridge, open-bridge, close-bridge}
-use Rattle.rmt_table_view.proofs.laws.each_call_is_seen_by_events.Goals as goal
+use Rattle.rmt_table.proofs.CallBridge.{allocate-bridge, commit-bridge, abandon-bridge, drop-bridge, mutation-bridge, merge-bridge, mutate-bridge, pull-bridge, note-bridge, open-bridge, close-bridge}
+use Rattle.rmt_table.proofs.laws.each_call_is_seen_by_events.Goals as goal
 
 pub returns-clause-allocate : goal.returns-clause-allocate
 returns-clause-allocate c = λ v r s p digest sound opened m clients unkept. allocate-bridge v sound r s p digest opened m clients unkept

@@ -9,8 +9,8 @@ use Rattle.rmt_model.proofs.Lists.{Each-at, Each-all}
 use Rattle.rmt_table_model.specs.Tables.{session_of, AreOwn}
 use Rattle.rmt_events.specs.TableCalls.{with_session}
 use Rattle.rmt_events.proofs.TableSteps.{session-from}
-use Rattle.rmt_table_view.specs.Shown.{owner_from, opened_from}
-use Rattle.rmt_table_view.proofs.Orders.{IsOrder}
+use Rattle.rmt_table.specs.SeenTable.{owner_from, opened_from}
+use Rattle.rmt_table.proofs.Orders.{IsOrder}
 
 own-tail : (o : Option ℕ) (os : List (Option ℕ)) → AreOwn (o ∷ os) → AreOwn os
 own-tail o os own r t s e f = let q = own (suc r) (suc t) s e f in omega (arith, q)

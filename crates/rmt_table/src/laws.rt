@@ -16,7 +16,7 @@ ghost use Rattle.rmt_table_model.specs.Changes.{MayAllocate, MayCommit, MayMutat
 ghost use Rattle.rmt_events.specs.Views.{Lock};
 ghost use Rattle.rmt_events.specs.Sound.{IsSoundTable};
 ghost use Rattle.rmt_events.specs.TableCalls as seen;
-ghost use Rattle.rmt_table_view.specs.Shown.{shown, Holds, Precedes};
+ghost use Rattle.rmt_table.specs.SeenTable.{shown, Holds, Precedes};
 
 /// A table's calls are the calls of the table that a cluster sees. A replica's number is its place, counted from 1.
 pub fn each_call_is_seen_by_events()
