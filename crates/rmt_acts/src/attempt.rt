@@ -6,7 +6,7 @@ ghost use Rattle.rmt_events.specs.Clusters.{without_kinds};
 ghost use Rattle.rmt_events.specs.Whole.{IsWhole};
 ghost use Rattle.rmt_state.specs.States.{IsNumber};
 ghost use Rattle.rmt_statement_model.specs.TableStates.{TableState, learned};
-ghost use Rattle.rmt_statement_model.specs.Shows.{HoldsNone, IsIdle, Shows, Leads, ups};
+ghost use Rattle.rmt_statement_model.specs.Shows.{HoldsNone, IsIdle, Shows, Leads, KeepsUps};
 ghost use Rattle.rmt_statement_model.specs.Attempts.{IsAllocateReply, IsCommitReply};
 ghost use Rattle.rmt_acts.specs.Inserting.{IsBegun, Begins, IsCommitted, Commits, HasAttempt, IsUpWith, HasGet, ComesTo};
 
@@ -54,9 +54,7 @@ fn begin(
     ensures begins { IfOk result (λ begun.
         Begins cluster.old replica (without_kinds block) begun cluster.new) }
     ensures whole { IfOk result (λ _. IsWhole cluster.new) }
-    ensures ups { IfOk result (λ _. ups cluster.new ≡ ups cluster.old) }
-    ensures schema { cluster.new.table.schema ≡ cluster.old.table.schema }
-    ensures replicas { length cluster.new.replicas ≡ length cluster.old.replicas }
+    ensures keeps { KeepsUps cluster.old result cluster.new }
 {
     cluster.replicas_are_numbered();
     let block = Arc::new(alloc, block)?;
@@ -96,9 +94,7 @@ fn commit(alloc: Global, cluster: &mut Cluster, attempt: u32) -> Result<Committe
     requires up { IsUpWith cluster.old attempt }
     ensures commits { IfOk result (λ done. Commits cluster.old attempt done cluster.new) }
     ensures free { IfOk result (λ _. HoldsNone cluster.new) }
-    ensures ups { IfOk result (λ _. ups cluster.new ≡ ups cluster.old) }
-    ensures schema { cluster.new.table.schema ≡ cluster.old.table.schema }
-    ensures replicas { length cluster.new.replicas ≡ length cluster.old.replicas }
+    ensures keeps { KeepsUps cluster.old result cluster.new }
 {
     let _staged = cluster.step(alloc, Event::Stage { attempt })?;
     let reply = cluster.step(alloc, Event::Commit { attempt })?;
@@ -121,9 +117,7 @@ fn do_get(
     ensures does { OnOk result ((t : TableState) → Shows cluster.old t
         → Shows cluster.new (record t { known = learned t.known replica entry })) }
     ensures idle { OnOk result (IsIdle cluster.new replica) }
-    ensures ups { OnOk result (ups cluster.new ≡ ups cluster.old) }
-    ensures schema { cluster.new.table.schema ≡ cluster.old.table.schema }
-    ensures replicas { length cluster.new.replicas ≡ length cluster.old.replicas }
+    ensures keeps { KeepsUps cluster.old result cluster.new }
 {
     let _pulled = cluster.step(alloc, Event::Pull { replica })?;
     let reply = cluster.step(alloc, Event::Apply { replica, entry })?;
@@ -146,9 +140,7 @@ pub(crate) fn insert_block(
     ensures inserts { IfOk result (λ outcome. (t : TableState) → Shows cluster.old t
         → Leads cluster.new (ComesTo t replica (without_kinds block) outcome)) }
     ensures idle { IfOk result (λ _. IsIdle cluster.new replica) }
-    ensures ups { IfOk result (λ _. ups cluster.new ≡ ups cluster.old) }
-    ensures schema { cluster.new.table.schema ≡ cluster.old.table.schema }
-    ensures replicas { length cluster.new.replicas ≡ length cluster.old.replicas }
+    ensures keeps { KeepsUps cluster.old result cluster.new }
 {
     let partition = block.partition();
     let begun = begin(alloc, cluster, replica, block)?;

@@ -1,10 +1,11 @@
 //! Background work, and replicas whose sessions end and begin.
 ghost use Rattle.std.specs.Prelude.{◌≡◌, ◌<◌, ◌^◌, ℕ, cond, nat_eq, true, false, length, OnOk};
+ghost use Rattle.rmt_events.specs.ClusterChanges.{KeepsTable};
 ghost use Rattle.rmt_state.specs.States.{IsNumber};
 ghost use Rattle.rmt_cluster.specs.Runs.{RunsAll};
 ghost use Rattle.rmt_statement_model.specs.TableStates.{TableState};
 ghost use Rattle.rmt_statement_model.specs.BackgroundWork.{Works};
-ghost use Rattle.rmt_statement_model.specs.Shows.{HoldsNone, IsIdle, Shows, Leads, ups};
+ghost use Rattle.rmt_statement_model.specs.Shows.{HoldsNone, IsIdle, Shows, Leads, ups, KeepsUps};
 ghost use Rattle.rmt_acts.specs.Changing.{BeginsAnew, BeginsSession, EndsSession};
 
 use rmt_cluster::Cluster;
@@ -24,9 +25,7 @@ pub fn run_turns(
     ensures runs { OnOk result (RunsAll cluster.old seed turns cluster.new) }
     ensures works { OnOk result ((t : TableState) → Shows cluster.old t → Leads cluster.new (Works turns t)) }
     ensures free { OnOk result (HoldsNone cluster.new) }
-    ensures ups { OnOk result (ups cluster.new ≡ ups cluster.old) }
-    ensures schema { cluster.new.table.schema ≡ cluster.old.table.schema }
-    ensures replicas { length cluster.new.replicas ≡ length cluster.old.replicas }
+    ensures keeps { KeepsUps cluster.old result cluster.new }
 {
     // What always holds of a cluster is known here.
     cluster.drained_replicas_agree();
@@ -45,9 +44,7 @@ pub fn restart_replica(
     ensures anew { OnOk result (BeginsAnew cluster.old replica cluster.new) }
     ensures restarts { OnOk result ((t : TableState) → Shows cluster.old t → Shows cluster.new t) }
     ensures idle { OnOk result (IsIdle cluster.new replica) }
-    ensures ups { OnOk result (ups cluster.new ≡ ups cluster.old) }
-    ensures schema { cluster.new.table.schema ≡ cluster.old.table.schema }
-    ensures replicas { length cluster.new.replicas ≡ length cluster.old.replicas }
+    ensures keeps { KeepsUps cluster.old result cluster.new }
 {
     let killed = cluster.step(alloc, Event::Kill { replica })?;
     if let Reply::Refused(StepRefused::Down) = killed {
@@ -64,8 +61,7 @@ pub fn kill(alloc: Global, cluster: &mut Cluster, replica: ReplicaId) -> Result<
     ensures shows { OnOk result ((t : TableState) → Shows cluster.old t → Shows cluster.new t) }
     ensures up { OnOk result ((k : ℕ) → ups cluster.new k ≡ cond (nat_eq replica k) false (ups cluster.old k)) }
     ensures free { HoldsNone cluster.old → OnOk result (HoldsNone cluster.new) }
-    ensures schema { cluster.new.table.schema ≡ cluster.old.table.schema }
-    ensures replicas { length cluster.new.replicas ≡ length cluster.old.replicas }
+    ensures keeps { KeepsTable cluster.old cluster.new }
 {
     let killed = cluster.step(alloc, Event::Kill { replica })?;
     if let Reply::Refused(StepRefused::Down) = killed {
@@ -82,8 +78,7 @@ pub fn restart(alloc: Global, cluster: &mut Cluster, replica: ReplicaId) -> Resu
     ensures shows { OnOk result ((t : TableState) → Shows cluster.old t → Shows cluster.new t) }
     ensures up { OnOk result ((k : ℕ) → ups cluster.new k ≡ cond (nat_eq replica k) true (ups cluster.old k)) }
     ensures free { HoldsNone cluster.old → OnOk result (HoldsNone cluster.new) }
-    ensures schema { cluster.new.table.schema ≡ cluster.old.table.schema }
-    ensures replicas { length cluster.new.replicas ≡ length cluster.old.replicas }
+    ensures keeps { KeepsTable cluster.old cluster.new }
 {
     let restarted = cluster.step(alloc, Event::Restart { replica })?;
     if let Reply::Refused(StepRefused::Down) = restarted {

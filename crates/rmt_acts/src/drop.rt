@@ -1,7 +1,7 @@
 //! ALTER .. DROP PARTITION.
 ghost use Rattle.std.specs.Prelude.{◌≡◌, length, IfOk};
 ghost use Rattle.rmt_state.specs.States.{IsNumber};
-ghost use Rattle.rmt_statement_model.specs.Shows.{IsIdle, ups};
+ghost use Rattle.rmt_statement_model.specs.Shows.{IsIdle, KeepsUps};
 ghost use Rattle.rmt_acts.specs.Changing.{DropsTo, HasDrop, HasDropAt, IsNumberAt, DoesDrop};
 
 use rmt_cluster::Cluster;
@@ -39,9 +39,7 @@ fn do_drop(
     requires idle { IsIdle cluster.old replica }
     ensures does { IfOk result (λ number. DoesDrop cluster.old replica entry number cluster.new) }
     ensures idle { IfOk result (λ _. IsIdle cluster.new replica) }
-    ensures ups { IfOk result (λ _. ups cluster.new ≡ ups cluster.old) }
-    ensures schema { cluster.new.table.schema ≡ cluster.old.table.schema }
-    ensures replicas { length cluster.new.replicas ≡ length cluster.old.replicas }
+    ensures keeps { KeepsUps cluster.old result cluster.new }
 {
     cluster.replicas_are_numbered();
     let _pulled = cluster.step(alloc, Event::Pull { replica })?;
@@ -67,9 +65,7 @@ pub fn drop_partition(
     requires idle { IsIdle cluster.old replica }
     ensures drops { IfOk result (λ below. DropsTo cluster.old replica partition below cluster.new) }
     ensures idle { IfOk result (λ _. IsIdle cluster.new replica) }
-    ensures ups { IfOk result (λ _. ups cluster.new ≡ ups cluster.old) }
-    ensures schema { cluster.new.table.schema ≡ cluster.old.table.schema }
-    ensures replicas { length cluster.new.replicas ≡ length cluster.old.replicas }
+    ensures keeps { KeepsUps cluster.old result cluster.new }
 {
     let reply = cluster.step(alloc, Event::DropPartition { partition })?;
     match reply {

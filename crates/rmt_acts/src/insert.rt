@@ -6,7 +6,7 @@ ghost use Rattle.rmt_events.specs.Clusters.{without_kinds};
 ghost use Rattle.rmt_state.specs.States.{IsNumber};
 ghost use Rattle.rmt_statement_model.specs.TableStates.{TableState};
 ghost use Rattle.rmt_statement_model.specs.Inserts.{InsertsAll};
-ghost use Rattle.rmt_statement_model.specs.Shows.{IsIdle, Shows, Leads, ups};
+ghost use Rattle.rmt_statement_model.specs.Shows.{IsIdle, Shows, Leads, KeepsUps};
 
 use crate::attempt::insert_block;
 use crate::insertion::Insertion;
@@ -32,9 +32,7 @@ pub fn insert_blocks(
     ensures inserts { IfOk result (λ i. (t : TableState) → Shows cluster.old t → Leads cluster.new
         (InsertsAll t replica (map without_kinds blocks.items) i.pieces i.refused)) }
     ensures idle { IfOk result (λ _. IsIdle cluster.new replica) }
-    ensures ups { IfOk result (λ _. ups cluster.new ≡ ups cluster.old) }
-    ensures schema { cluster.new.table.schema ≡ cluster.old.table.schema }
-    ensures replicas { length cluster.new.replicas ≡ length cluster.old.replicas }
+    ensures keeps { KeepsUps cluster.old result cluster.new }
 {
     let mut pieces = Vec::new(alloc);
     'inserts: for block in blocks {

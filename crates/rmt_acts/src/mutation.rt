@@ -3,7 +3,7 @@ ghost use Rattle.std.specs.Prelude.{◌≡◌, length, IfOk};
 ghost use Rattle.rmt_values.specs.Commands.{CommandFits};
 ghost use Rattle.rmt_entries.specs.EntryBytes.{CommandInRange};
 ghost use Rattle.rmt_model.specs.Lawful.{mutation_count};
-ghost use Rattle.rmt_statement_model.specs.Shows.{HoldsNone, ups};
+ghost use Rattle.rmt_statement_model.specs.Shows.{HoldsNone, KeepsUps};
 ghost use Rattle.rmt_acts.specs.Changing.{MutatesTo};
 
 use rmt_cluster::Cluster;
@@ -31,9 +31,7 @@ pub fn mutate(
     requires in_range { CommandInRange command }
     ensures mutates { IfOk result (λ made. MutatesTo cluster.old command made cluster.new) }
     ensures free { IfOk result (λ _. HoldsNone cluster.new) }
-    ensures ups { IfOk result (λ _. ups cluster.new ≡ ups cluster.old) }
-    ensures schema { cluster.new.table.schema ≡ cluster.old.table.schema }
-    ensures replicas { length cluster.new.replicas ≡ length cluster.old.replicas }
+    ensures keeps { KeepsUps cluster.old result cluster.new }
 {
     let id = mutations_made(cluster);
     let reply = cluster.step(alloc, Event::CreateMutation { command })?;

@@ -9,7 +9,7 @@ ghost use Rattle.rmt_model.specs.Lawful.{entry_at};
 ghost use Rattle.rmt_state.specs.States.{IsNumber};
 ghost use Rattle.rmt_statement_model.specs.TableStates.{TableState};
 ghost use Rattle.rmt_statement_model.specs.Optimizes.{live_of, OptimizesTable};
-ghost use Rattle.rmt_statement_model.specs.Shows.{IsIdle, IsUpToDate, Shows, Leads, ups};
+ghost use Rattle.rmt_statement_model.specs.Shows.{IsIdle, IsUpToDate, Shows, Leads, ups, KeepsUps};
 ghost use Rattle.rmt_acts.specs.Optimizing.{IsMergeAt, IsToldAs, OptimizesTo};
 
 use crate::optimization::Optimization;
@@ -73,9 +73,7 @@ fn optimize_partition(
     ensures optimizes { IfOk result (λ o. OptimizesTo cluster.old replica partition o cluster.new) }
     ensures whole { IfOk result (λ _. IsUpToDate cluster.new replica) }
     ensures idle { IfOk result (λ _. IsIdle cluster.new replica) }
-    ensures ups { IfOk result (λ _. ups cluster.new ≡ ups cluster.old) }
-    ensures schema { cluster.new.table.schema ≡ cluster.old.table.schema }
-    ensures replicas { length cluster.new.replicas ≡ length cluster.old.replicas }
+    ensures keeps { KeepsUps cluster.old result cluster.new }
 {
     // What always holds of a cluster is known here.
     cluster.drained_replicas_agree();
@@ -111,9 +109,7 @@ pub fn optimize(
     ensures optimizes { IfOk result (λ o. (t : TableState) → Shows cluster.old t
         → Leads cluster.new (OptimizesTable (ups cluster.old) t replica asked o.names o.refused)) }
     ensures idle { IfOk result (λ _. IsIdle cluster.new replica) }
-    ensures ups { IfOk result (λ _. ups cluster.new ≡ ups cluster.old) }
-    ensures schema { cluster.new.table.schema ≡ cluster.old.table.schema }
-    ensures replicas { length cluster.new.replicas ≡ length cluster.old.replicas }
+    ensures keeps { KeepsUps cluster.old result cluster.new }
 {
     // What always holds of a cluster is known here.
     cluster.drained_replicas_agree();

@@ -2,7 +2,7 @@
 ghost use Rattle.std.specs.Prelude.{◌≡◌, ◌≢◌, length, IfOk, OnOk};
 ghost use Rattle.rmt_state.specs.States.{IsNumber};
 ghost use Rattle.rmt_cluster.specs.declared.sync_error.SyncError.TheVariants.{ReplicaDown};
-ghost use Rattle.rmt_statement_model.specs.Shows.{IsIdle, ups};
+ghost use Rattle.rmt_statement_model.specs.Shows.{IsIdle, KeepsUps};
 ghost use Rattle.rmt_acts.specs.Syncing.{HasDoneGets, IsSynced, IsToldAs, SyncsReplica};
 
 use rmt_cluster::{Cluster, SyncError};
@@ -38,9 +38,7 @@ pub fn sync_replica(
     ensures syncs { IfOk result (λ refused. SyncsReplica cluster.old replica refused cluster.new) }
     ensures table { IfOk result (λ _. cluster.new.table ≡ cluster.old.table) }
     ensures idle { IfOk result (λ _. IsIdle cluster.new replica) }
-    ensures ups { IfOk result (λ _. ups cluster.new ≡ ups cluster.old) }
-    ensures schema { cluster.new.table.schema ≡ cluster.old.table.schema }
-    ensures replicas { length cluster.new.replicas ≡ length cluster.old.replicas }
+    ensures keeps { KeepsUps cluster.old result cluster.new }
 {
     // What always holds of a cluster is known here.
     cluster.drained_replicas_agree();
@@ -63,9 +61,7 @@ pub(crate) fn catch_up(
     ensures syncs { OnOk result (IsSynced cluster.old replica cluster.new) }
     ensures table { OnOk result (cluster.new.table ≡ cluster.old.table) }
     ensures idle { OnOk result (IsIdle cluster.new replica) }
-    ensures ups { OnOk result (ups cluster.new ≡ ups cluster.old) }
-    ensures schema { cluster.new.table.schema ≡ cluster.old.table.schema }
-    ensures replicas { length cluster.new.replicas ≡ length cluster.old.replicas }
+    ensures keeps { KeepsUps cluster.old result cluster.new }
 {
     // What always holds of a cluster is known here.
     cluster.drained_replicas_agree();

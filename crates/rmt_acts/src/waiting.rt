@@ -5,7 +5,7 @@ ghost use Rattle.rmt_model.specs.Live.{live};
 ghost use Rattle.rmt_model.specs.Lawful.{mutation_count};
 ghost use Rattle.rmt_state.specs.States.{IsNumber};
 ghost use Rattle.rmt_events.specs.LogEvents.{IsMutable};
-ghost use Rattle.rmt_statement_model.specs.Shows.{IsIdle, IsUpToDate, ups};
+ghost use Rattle.rmt_statement_model.specs.Shows.{IsIdle, IsUpToDate, KeepsUps};
 ghost use Rattle.rmt_acts.specs.Waiting.{IsPlaceOf, MutatesOne, Settles, WaitsTo};
 
 use crate::reading::all_mutations;
@@ -44,9 +44,7 @@ fn mutate_part(
     requires mutable { IsMutable cluster.old.table.log old upto }
     ensures mutates { IfOk result (λ refused. MutatesOne cluster.old replica old upto refused cluster.new) }
     ensures idle { IfOk result (λ _. IsIdle cluster.new replica) }
-    ensures ups { IfOk result (λ _. ups cluster.new ≡ ups cluster.old) }
-    ensures schema { cluster.new.table.schema ≡ cluster.old.table.schema }
-    ensures replicas { length cluster.new.replicas ≡ length cluster.old.replicas }
+    ensures keeps { KeepsUps cluster.old result cluster.new }
 {
     let reply = cluster.step(alloc, Event::Mutate { replica, old, upto })?;
     match reply {
@@ -80,9 +78,7 @@ fn settle_part(
     requires below { place < length cluster.old.table.log }
     ensures settles { IfOk result (λ refused. Settles cluster.old replica part place refused cluster.new) }
     ensures idle { IfOk result (λ _. IsIdle cluster.new replica) }
-    ensures ups { IfOk result (λ _. ups cluster.new ≡ ups cluster.old) }
-    ensures schema { cluster.new.table.schema ≡ cluster.old.table.schema }
-    ensures replicas { length cluster.new.replicas ≡ length cluster.old.replicas }
+    ensures keeps { KeepsUps cluster.old result cluster.new }
 {
     // What always holds of a cluster is known here.
     cluster.drained_replicas_agree();
@@ -108,9 +104,7 @@ pub fn wait_for(
     requires known { id < mutation_count cluster.old.table.log }
     ensures waits { IfOk result (λ refused. WaitsTo cluster.old replica id refused cluster.new) }
     ensures idle { IfOk result (λ _. IsIdle cluster.new replica) }
-    ensures ups { IfOk result (λ _. ups cluster.new ≡ ups cluster.old) }
-    ensures schema { cluster.new.table.schema ≡ cluster.old.table.schema }
-    ensures replicas { length cluster.new.replicas ≡ length cluster.old.replicas }
+    ensures keeps { KeepsUps cluster.old result cluster.new }
 {
     if let Some(lacking) = sync_replica(alloc, cluster, replica)? {
         return Ok(Some(lacking));

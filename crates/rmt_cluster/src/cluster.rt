@@ -9,6 +9,7 @@ ghost use Rattle.rmt_events.specs.Clusters.{accepted, rows_at};
 ghost use Rattle.rmt_events.specs.Shown.{names_and_rows, read_rows};
 ghost use Rattle.rmt_events.specs.Steps.{Step};
 ghost use Rattle.rmt_events.specs.Whole.{HasReplica, IsWhole};
+ghost use Rattle.rmt_events.specs.ClusterChanges.{KeepsTable};
 ghost use Rattle.rmt_table.specs.TableTrees.{table_at};
 ghost use Rattle.rmt_replica_view.specs.Shown.{shown};
 ghost use Rattle.rmt_cluster.specs.NewClusters.{IsNewCluster};
@@ -116,8 +117,7 @@ impl Cluster {
         ensures ok { IfOk result (λ reply. Step self.old event reply self.new) }
         ensures err { OnErr result (Stops self.old event self.new) }
         ensures log { OnErr result (self.new.table.log ≡ self.old.table.log) }
-        ensures schema { self.new.table.schema ≡ self.old.table.schema }
-        ensures replicas { length self.new.replicas ≡ length self.old.replicas }
+        ensures keeps { KeepsTable self.old self.new }
         ensures whole { IsWhole self.old }
     {
         self.events.reserve(1)?;

@@ -78,3 +78,8 @@ pub record IsDown (s : Cluster) (k : ℕ) : Type 0 where
 pub record IsUp (s : Cluster) (k : ℕ) (x : Replica) : Type 0 where
   pub at : IsNumbered s k x
   pub up : x.up ≡ true
+
+-- the schema stays, and no replica comes or goes
+pub record KeepsTable (s t : Cluster) : Type 0 where
+  pub schema : t.table.schema ≡ s.table.schema
+  pub replicas : length t.replicas ≡ length s.replicas

@@ -1,7 +1,7 @@
 //! Acts in their table at a replica.
 ghost use Rattle.std.specs.Prelude.{◌≡◌, true, length, IfOk};
 ghost use Rattle.rmt_state.specs.States.{IsNumber};
-ghost use Rattle.rmt_statement_model.specs.Shows.{HoldsNone, IsIdle, ups};
+ghost use Rattle.rmt_statement_model.specs.Shows.{HoldsNone, IsIdle, KeepsUps};
 ghost use Rattle.rmt_play.specs.Checks.{is_played_act};
 ghost use Rattle.rmt_play.specs.PlayerSteps.{ExecutesIn};
 
@@ -34,8 +34,7 @@ pub(crate) fn act_in(
     ensures executes { IfOk result (λ line.
         ExecutesIn cluster.old replica act.now line cluster.new) }
     ensures free { IfOk result (λ _. HoldsNone cluster.new) }
-    ensures ups { IfOk result (λ _. ups cluster.new ≡ ups cluster.old) }
-    ensures replicas { length cluster.new.replicas ≡ length cluster.old.replicas }
+    ensures keeps { KeepsUps cluster.old result cluster.new }
 {
     match act {
         Act::Insert(insert) => insert_in(alloc, cluster, replica, insert),

@@ -5,7 +5,7 @@ ghost use Rattle.rmt_values.specs.Rows.{fits};
 ghost use Rattle.rmt_block.specs.Splits.{IsSplit};
 ghost use Rattle.rmt_state.specs.States.{IsNumber};
 ghost use Rattle.rmt_statement_model.specs.TableStates.{TableState};
-ghost use Rattle.rmt_statement_model.specs.Shows.{HoldsNone, IsIdle, Leads, Shows, ups};
+ghost use Rattle.rmt_statement_model.specs.Shows.{HoldsNone, IsIdle, Leads, Shows, KeepsUps};
 ghost use Rattle.rmt_columns.specs.RowsByColumn.{kinds_in};
 ghost use Rattle.rmt_statements.specs.declared.act.Act.TheVariants as acts;
 ghost use Rattle.rmt_play.specs.InsertStatement.{InsertsRows};
@@ -67,8 +67,7 @@ fn insert_rows(
     ensures inserts { IfOk result (λ line. (t : TableState) → Shows cluster.old t
         → Leads cluster.new (InsertsRows t replica rows.rows line)) }
     ensures free { IfOk result (λ _. HoldsNone cluster.new) }
-    ensures ups { IfOk result (λ _. ups cluster.new ≡ ups cluster.old) }
-    ensures replicas { length cluster.new.replicas ≡ length cluster.old.replicas }
+    ensures keeps { KeepsUps cluster.old result cluster.new }
 {
     let blocks = blocks_of(alloc, rows, schema_of(cluster))?;
     let insertion = insert_blocks(alloc, cluster, replica, blocks)?;
@@ -88,8 +87,7 @@ pub(crate) fn insert_in(
     ensures executes { IfOk result (λ line.
         ExecutesIn cluster.old replica (acts.Insert insert.now) line cluster.new) }
     ensures free { IfOk result (λ _. HoldsNone cluster.new) }
-    ensures ups { IfOk result (λ _. ups cluster.new ≡ ups cluster.old) }
-    ensures replicas { length cluster.new.replicas ≡ length cluster.old.replicas }
+    ensures keeps { KeepsUps cluster.old result cluster.new }
 {
     match rows_to_insert(alloc, insert, schema_of(cluster))? {
         Ok(rows) => insert_rows(alloc, cluster, replica, rows),

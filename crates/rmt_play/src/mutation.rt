@@ -5,7 +5,7 @@ ghost use Rattle.rmt_values.specs.Schemas.{IsSchema};
 ghost use Rattle.rmt_values.specs.Commands.{CommandFits};
 ghost use Rattle.rmt_expr.specs.Mutations.{IsCheckedMutation, mutation_refusal};
 ghost use Rattle.rmt_command_sizes.specs.Sizes.{is_small_command};
-ghost use Rattle.rmt_statement_model.specs.Shows.{HoldsNone, ups};
+ghost use Rattle.rmt_statement_model.specs.Shows.{HoldsNone, KeepsUps};
 ghost use Rattle.rmt_statements.specs.declared.act.Act.TheVariants as acts;
 ghost use Rattle.rmt_play.specs.ActRefusals.{refused_command};
 ghost use Rattle.rmt_play.specs.PlayerSteps.{ExecutesIn};
@@ -55,8 +55,7 @@ pub(crate) fn alter_in(
     ensures executes { IfOk result (λ line. (table : Bytes ℕ) (r : ℕ)
         → ExecutesIn cluster.old r (acts.Mutate table command.now) line cluster.new) }
     ensures free { IfOk result (λ _. HoldsNone cluster.new) }
-    ensures ups { IfOk result (λ _. ups cluster.new ≡ ups cluster.old) }
-    ensures replicas { length cluster.new.replicas ≡ length cluster.old.replicas }
+    ensures keeps { KeepsUps cluster.old result cluster.new }
 {
     match check(alloc, command, schema_of(cluster))? {
         Ok(checked) => {

@@ -1,7 +1,7 @@
 //! SELECT in its table.
 ghost use Rattle.std.specs.Prelude.{◌≡◌, true, length, IfOk};
 ghost use Rattle.rmt_state.specs.States.{IsNumber};
-ghost use Rattle.rmt_statement_model.specs.Shows.{HoldsNone, IsIdle, ups};
+ghost use Rattle.rmt_statement_model.specs.Shows.{HoldsNone, IsIdle, ups, KeepsUps};
 ghost use Rattle.rmt_play.specs.SelectStatement.{Syncs, Reads};
 ghost use Rattle.rmt_play.specs.QueryAnswers.{IsSelection};
 ghost use Rattle.rmt_play.specs.PlayerSteps.{ExecutesQuery};
@@ -56,8 +56,7 @@ pub(crate) fn sync_in(
     ensures executes { IfOk result (λ line. ExecutesQuery cluster.old query.now
         (λ t. Syncs (ups cluster.old) t replica query.now) line cluster.new) }
     ensures free { IfOk result (λ _. HoldsNone cluster.new) }
-    ensures ups { IfOk result (λ _. ups cluster.new ≡ ups cluster.old) }
-    ensures replicas { length cluster.new.replicas ≡ length cluster.old.replicas }
+    ensures keeps { KeepsUps cluster.old result cluster.new }
 {
     match check(alloc, query, schema_of(cluster))? {
         Ok(query) => {

@@ -1,7 +1,7 @@
 //! SYSTEM SYNC REPLICA and SYSTEM RESTART REPLICA in their table.
 ghost use Rattle.std.specs.Prelude.{◌≡◌, ℕ, List as Bytes, length, IfOk};
 ghost use Rattle.rmt_state.specs.States.{IsNumber};
-ghost use Rattle.rmt_statement_model.specs.Shows.{HoldsNone, IsIdle, ups};
+ghost use Rattle.rmt_statement_model.specs.Shows.{HoldsNone, IsIdle, KeepsUps};
 ghost use Rattle.rmt_statements.specs.declared.act.Act.TheVariants as acts;
 ghost use Rattle.rmt_play.specs.PlayerSteps.{ExecutesIn};
 
@@ -22,8 +22,7 @@ pub(crate) fn drain_in(
     ensures executes { IfOk result (λ line. (table : Bytes ℕ)
         → ExecutesIn cluster.old replica (acts.SyncReplica table) line cluster.new) }
     ensures free { IfOk result (λ _. HoldsNone cluster.new) }
-    ensures ups { IfOk result (λ _. ups cluster.new ≡ ups cluster.old) }
-    ensures replicas { length cluster.new.replicas ≡ length cluster.old.replicas }
+    ensures keeps { KeepsUps cluster.old result cluster.new }
 {
     match sync_replica(alloc, cluster, replica)? {
         None => Ok(Line::Okay),
@@ -42,8 +41,7 @@ pub(crate) fn restart_in(
     ensures executes { IfOk result (λ line. (table : Bytes ℕ)
         → ExecutesIn cluster.old replica (acts.RestartReplica table) line cluster.new) }
     ensures free { IfOk result (λ _. HoldsNone cluster.new) }
-    ensures ups { IfOk result (λ _. ups cluster.new ≡ ups cluster.old) }
-    ensures replicas { length cluster.new.replicas ≡ length cluster.old.replicas }
+    ensures keeps { KeepsUps cluster.old result cluster.new }
 {
     restart_replica(alloc, cluster, replica)?;
     Ok(Line::Okay)

@@ -1,7 +1,7 @@
 //! RUN in its table.
 ghost use Rattle.std.specs.Prelude.{◌≡◌, ◌≢◌, ◌<◌, ◌^◌, length, IfOk, IfSome, MatchOption};
 ghost use Rattle.std.specs.declared.option.Option.TheVariants.{None};
-ghost use Rattle.rmt_statement_model.specs.Shows.{HoldsNone, ups};
+ghost use Rattle.rmt_statement_model.specs.Shows.{HoldsNone, KeepsUps};
 ghost use Rattle.rmt_play.specs.Checks.{refused_turns};
 ghost use Rattle.rmt_play.specs.PlayerSteps.{RunsCluster};
 
@@ -37,8 +37,7 @@ pub(crate) fn run_in(
     requires seed { seed < 2 ^ 31 }
     ensures runs { IfOk result (λ line. RunsCluster turns line cluster.old cluster.new) }
     ensures free { IfOk result (λ _. HoldsNone cluster.new) }
-    ensures ups { IfOk result (λ _. ups cluster.new ≡ ups cluster.old) }
-    ensures replicas { length cluster.new.replicas ≡ length cluster.old.replicas }
+    ensures keeps { KeepsUps cluster.old result cluster.new }
 {
     run_turns(alloc, cluster, seed, turns)?;
     Ok(Line::Ran(turns))

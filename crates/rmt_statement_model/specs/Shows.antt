@@ -1,12 +1,13 @@
 -- A cluster shows the state of a table: it has the same log, numbers and blocks, and what is known at a replica holds there.
 -- No public source: this program's own.
-use Rattle.std.specs.Prelude.{◌≡◌, ℕ, ◌≤◌, cond, nat_eq, Bool, true, false, List, [], ◌∷◌, length}
+use Rattle.std.specs.Prelude.{◌≡◌, ℕ, ◌≤◌, cond, nat_eq, Bool, true, false, List, [], ◌∷◌, length, OnOk}
+use Rattle.std.specs.declared.result.Result.{Result}
 use Rattle.rmt_model.specs.Words.{Has}
 use Rattle.rmt_model.specs.Fair.{AreFair}
 use Rattle.rmt_model.specs.CopiedParts.{names_of}
 use Rattle.rmt_events.specs.Views.{Replica}
 use Rattle.rmt_events.specs.Clusters.{Cluster, accepted}
-use Rattle.rmt_events.specs.ClusterChanges.{IsNumbered}
+use Rattle.rmt_events.specs.ClusterChanges.{IsNumbered, KeepsTable}
 use Rattle.rmt_events.specs.ReplicaCalls.{IsDrained}
 use Rattle.rmt_statement_model.specs.TableStates.{TableState}
 
@@ -35,6 +36,11 @@ up_at (x ∷ others) k = cond (nat_eq x.number k) x.up (up_at others k)
 -- which replicas are up
 abbrev pub ups : Cluster → ℕ → Bool
 ups s k = up_at s.replicas k
+
+-- whatever came of it the schema stays and no replica comes or goes; where it was done, those are up that were up
+pub record KeepsUps {A E : Type 0} (s : Cluster) (r : Result A E) (t : Cluster) : Type 0 where
+  pub table : KeepsTable s t
+  pub ups : OnOk r (ups t ≡ ups s)
 
 -- the replica of a number has the whole log, and has done all of it
 pub record IsUpToDate (s : Cluster) (k : ℕ) : Type 0 where

@@ -1,6 +1,7 @@
 //! Background events that a generator draws.
 ghost use Rattle.std.specs.Prelude.{◌≡◌, ◌<◌, ◌^◌, IfOk, OnOk, OnErr, length};
 ghost use Rattle.rmt_events.specs.Draws.{turn as turn_in};
+ghost use Rattle.rmt_events.specs.ClusterChanges.{KeepsTable};
 ghost use Rattle.rmt_cluster.specs.Clusters.{MayStep, Stops};
 ghost use Rattle.rmt_cluster.specs.Runs.{RunsAll, RunsSome, TakesTurn};
 
@@ -16,8 +17,7 @@ impl Cluster {
         requires seed { seed < 2 ^ 31 }
         ensures ok { OnOk result (RunsAll self.old seed turns self.new) }
         ensures err { OnErr result (RunsSome self.old seed turns self.new) }
-        ensures schema { self.new.table.schema ≡ self.old.table.schema }
-        ensures replicas { length self.new.replicas ≡ length self.old.replicas }
+        ensures keeps { KeepsTable self.old self.new }
     {
         let mut state = seed;
         'turns: for _turn in 0..turns {
@@ -33,8 +33,7 @@ impl Cluster {
         ensures ok { IfOk result (λ next. TakesTurn self.old state self.new next) }
         ensures below { IfOk result (λ next. next < 2 ^ 31) }
         ensures err { OnErr result (Stops self.old (turn_in self.old state).event self.new) }
-        ensures schema { self.new.table.schema ≡ self.old.table.schema }
-        ensures replicas { length self.new.replicas ≡ length self.old.replicas }
+        ensures keeps { KeepsTable self.old self.new }
     {
         let (event, next) = self.draw(alloc, state)?;
         match self.step(alloc, event) {

@@ -4,7 +4,7 @@ ghost use Rattle.std.specs.declared.option.Option.TheVariants.{Some, None};
 ghost use Rattle.rmt_entries.specs.declared.entry.Entry.{Entry as Source};
 ghost use Rattle.rmt_model.specs.Lawful.{entry_at};
 ghost use Rattle.rmt_events.specs.Views.{Replica as Worker};
-ghost use Rattle.rmt_events.specs.ClusterChanges.{IsUp};
+ghost use Rattle.rmt_events.specs.ClusterChanges.{IsUp, KeepsTable};
 ghost use Rattle.rmt_events.specs.Whole.{IsWhole};
 ghost use Rattle.rmt_replica_view.specs.Shown.{shown};
 ghost use Rattle.rmt_state.specs.States.{IsNumber};
@@ -72,8 +72,7 @@ impl Cluster {
         requires here { IsNumber replica (length self.old.replicas) }
         ensures pulls { PullsFor self.old replica result self.new }
         ensures whole { IsWhole self.old }
-        ensures schema { self.new.table.schema ≡ self.old.table.schema }
-        ensures replicas { length self.new.replicas ≡ length self.old.replicas }
+        ensures keeps { KeepsTable self.old self.new }
     {
         let reply = self.step(alloc, Event::Pull { replica });
         if reply.is_err() {
@@ -105,8 +104,7 @@ impl Cluster {
         requires place { i < length self.old.table.log }
         ensures does { DoesNext self.old replica i result self.new }
         ensures log { self.new.table.log ≡ self.old.table.log }
-        ensures schema { self.new.table.schema ≡ self.old.table.schema }
-        ensures replicas { length self.new.replicas ≡ length self.old.replicas }
+        ensures keeps { KeepsTable self.old self.new }
     {
         self.state.sound();
         let source = source_of(self.state.worker(replica), i);
@@ -134,8 +132,7 @@ impl Cluster {
         requires here { IsNumber replica (length self.old.replicas) }
         ensures syncs { SyncsTo self.old replica result self.new }
         ensures complete { (x : Worker) → IsUp self.old replica x → SourcesAreUp self.old → IsDoneOrStopped result }
-        ensures schema { self.new.table.schema ≡ self.old.table.schema }
-        ensures replicas { length self.new.replicas ≡ length self.old.replicas }
+        ensures keeps { KeepsTable self.old self.new }
     {
         self.pull_all(alloc, replica)?;
         let mut from = 0;

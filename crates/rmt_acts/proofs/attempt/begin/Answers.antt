@@ -16,8 +16,11 @@ returns-clause-begins c =
     begins-by c.args.cluster.now c.step.new.self c.args.replica c.in_ok-block.block (without_kinds c.args.block) c.in_ok-reply.reply c.begun_by.result (ap without_kinds c.in_ok-block.ensures.ok)
     c.step.ensures.whole c.requires.idle.free c.in_ok-reply.ensures.ok c.begun_by.ensures
 
-pub returns-clause-ups : goal.returns-clause-ups
-returns-clause-ups c = ups-step c.args.cluster.now c.step.new.self (ev.Allocate c.args.replica c.in_ok-block.block 0) c.in_ok-reply.reply c.step.ensures.whole tt c.in_ok-reply.ensures.ok
+pub returns-clause-keeps : goal.returns-clause-keeps
+returns-clause-keeps c = record {
+  table = c.step.ensures.keeps;
+  ups = ups-step c.args.cluster.now c.step.new.self (ev.Allocate c.args.replica c.in_ok-block.block 0) c.in_ok-reply.reply c.step.ensures.whole tt c.in_ok-reply.ensures.ok;
+}
 
 pub returns-clause-whole : goal.returns-clause-whole
 returns-clause-whole c = whole-step c.args.cluster.now c.step.new.self (ev.Allocate c.args.replica c.in_ok-block.block 0) c.in_ok-reply.reply c.step.ensures.whole c.in_ok-reply.ensures.ok

@@ -16,8 +16,11 @@ returns-clause-commits c =
     commits-by c.args.cluster.now c.step.new.self c.step-2.new.self c.args.attempt c.in_ok-_staged._staged c.in_ok-reply.reply c.committed_by.result c.step.ensures.whole c.requires.up
     c.in_ok-_staged.ensures.ok c.in_ok-reply.ensures.ok c.committed_by.ensures
 
-pub returns-clause-ups : goal.returns-clause-ups
-returns-clause-ups c = commit-ups c.args.cluster.now c.step.new.self c.step-2.new.self c.args.attempt c.in_ok-_staged._staged c.in_ok-reply.reply c.step.ensures.whole c.in_ok-_staged.ensures.ok c.in_ok-reply.ensures.ok
+pub returns-clause-keeps : goal.returns-clause-keeps
+returns-clause-keeps c = record {
+  table = record { schema = c.step-2.ensures.keeps.schema ∙ c.step.ensures.keeps.schema; replicas = c.step-2.ensures.keeps.replicas ∙ c.step.ensures.keeps.replicas };
+  ups = commit-ups c.args.cluster.now c.step.new.self c.step-2.new.self c.args.attempt c.in_ok-_staged._staged c.in_ok-reply.reply c.step.ensures.whole c.in_ok-_staged.ensures.ok c.in_ok-reply.ensures.ok;
+}
 
 pub returns-clause-free : goal.returns-clause-free
 returns-clause-free c =

@@ -15,10 +15,11 @@ returns-in_ok-reply c = record {
       c.in_ok-_pulled.ensures.ok c.in_ok-reply.ensures.ok;
   idle = get-idle c.args.cluster.now c.step.new.self c.step-2.new.self c.args.replica c.args.entry c.in_ok-_pulled._pulled c.in_ok-reply.reply c.step.ensures.whole c.requires.idle
       c.in_ok-_pulled.ensures.ok c.in_ok-reply.ensures.ok;
-  ups = get-ups c.args.cluster.now c.step.new.self c.step-2.new.self c.args.replica c.args.entry c.in_ok-_pulled._pulled c.in_ok-reply.reply c.step.ensures.whole
+  keeps = record {
+    table = record { schema = c.step-2.ensures.keeps.schema ∙ c.step.ensures.keeps.schema; replicas = c.step-2.ensures.keeps.replicas ∙ c.step.ensures.keeps.replicas };
+    ups = get-ups c.args.cluster.now c.step.new.self c.step-2.new.self c.args.replica c.args.entry c.in_ok-_pulled._pulled c.in_ok-reply.reply c.step.ensures.whole
       c.in_ok-_pulled.ensures.ok c.in_ok-reply.ensures.ok;
-  schema = c.step-2.ensures.schema ∙ c.step.ensures.schema;
-  replicas = c.step-2.ensures.replicas ∙ c.step.ensures.replicas;
+  };
 }
 
 pub returns-in_ok-reply-2 : goal.returns-in_ok-reply-2
@@ -28,8 +29,9 @@ returns-in_ok-reply-2 c = record {
       c.in_ok-_pulled.ensures.ok c.in_ok-reply.ensures.ok;
   idle = get-idle c.args.cluster.now c.step.new.self c.step-2.new.self c.args.replica c.args.entry c.in_ok-_pulled._pulled c.in_ok-reply.reply c.step.ensures.whole c.requires.idle
       c.in_ok-_pulled.ensures.ok c.in_ok-reply.ensures.ok;
-  ups = get-ups c.args.cluster.now c.step.new.self c.step-2.new.self c.args.replica c.args.entry c.in_ok-_pulled._pulled c.in_ok-reply.reply c.step.ensures.whole
+  keeps = record {
+    table = record { schema = c.step-2.ensures.keeps.schema ∙ c.step.ensures.keeps.schema; replicas = c.step-2.ensures.keeps.replicas ∙ c.step.ensures.keeps.replicas };
+    ups = get-ups c.args.cluster.now c.step.new.self c.step-2.new.self c.args.replica c.args.entry c.in_ok-_pulled._pulled c.in_ok-reply.reply c.step.ensures.whole
       c.in_ok-_pulled.ensures.ok c.in_ok-reply.ensures.ok;
-  schema = c.step-2.ensures.schema ∙ c.step.ensures.schema;
-  replicas = c.step-2.ensures.replicas ∙ c.step.ensures.replicas;
+  };
 }

@@ -15,10 +15,10 @@ use Rattle.rmt_acts.proofs.attempt.insert_block.Goals as goal
 pub commit-requires-clause-up : goal.commit-requires-clause-up
 commit-requires-clause-up c =
     let b = subst (λ (x : Begun). Begins c.args.cluster.now c.args.replica (without_kinds c.args.block) x c.begin.new.cluster) c.in-Attempt.is c.in_ok-begun.ensures.begins in
-    up-with c.begin.new.cluster c.in-Attempt.attempt c.args.replica (without_kinds c.args.block) c.in-Attempt.number c.in_ok-begun.ensures.whole b.0 (ap (λ (f : ℕ → Bool). f c.args.replica) c.in_ok-begun.ensures.ups ∙ c.requires.idle.up)
+    up-with c.begin.new.cluster c.in-Attempt.attempt c.args.replica (without_kinds c.args.block) c.in-Attempt.number c.in_ok-begun.ensures.whole b.0 (ap (λ (f : ℕ → Bool). f c.args.replica) c.in_ok-begun.ensures.keeps.ups ∙ c.requires.idle.up)
 
 pub do_get-requires-clause-idle : goal.do_get-requires-clause-idle
-do_get-requires-clause-idle c = idle-as c.args.cluster.now c.commit.new.cluster c.args.replica (c.in_ok-entry.ensures.ups ∙ c.in_ok-begun.ensures.ups) c.requires.idle.up c.in_ok-entry.ensures.free
+do_get-requires-clause-idle c = idle-as c.args.cluster.now c.commit.new.cluster c.args.replica (c.in_ok-entry.ensures.keeps.ups ∙ c.in_ok-begun.ensures.keeps.ups) c.requires.idle.up c.in_ok-entry.ensures.free
 
 pub returns-in-Duplicate-clause-inserts : goal.returns-in-Duplicate-clause-inserts
 returns-in-Duplicate-clause-inserts c =
@@ -47,12 +47,12 @@ returns-in-Full-2-clause-inserts c =
     (subst (λ (x : Committed). Commits c.begin.new.cluster c.in-Attempt.attempt x c.commit.new.cluster) c.in-Full-2.is c.in_ok-entry.ensures.commits)
 
 pub returns-in-Duplicate-clause-idle : goal.returns-in-Duplicate-clause-idle
-returns-in-Duplicate-clause-idle c = idle-as c.args.cluster.now c.begin.new.cluster c.args.replica c.in_ok-begun.ensures.ups c.requires.idle.up
+returns-in-Duplicate-clause-idle c = idle-as c.args.cluster.now c.begin.new.cluster c.args.replica c.in_ok-begun.ensures.keeps.ups c.requires.idle.up
     (subst (λ (x : Begun). Begins c.args.cluster.now c.args.replica (without_kinds c.args.block) x c.begin.new.cluster) c.in-Duplicate.is c.in_ok-begun.ensures.begins).0
 
 pub returns-in-Full-clause-idle : goal.returns-in-Full-clause-idle
-returns-in-Full-clause-idle c = idle-as c.args.cluster.now c.begin.new.cluster c.args.replica c.in_ok-begun.ensures.ups c.requires.idle.up
+returns-in-Full-clause-idle c = idle-as c.args.cluster.now c.begin.new.cluster c.args.replica c.in_ok-begun.ensures.keeps.ups c.requires.idle.up
     (subst (λ (x : Begun). Begins c.args.cluster.now c.args.replica (without_kinds c.args.block) x c.begin.new.cluster) c.in-Full.is c.in_ok-begun.ensures.begins).0
 
 pub returns-in-Full-2-clause-idle : goal.returns-in-Full-2-clause-idle
-returns-in-Full-2-clause-idle c = idle-as c.args.cluster.now c.commit.new.cluster c.args.replica (c.in_ok-entry.ensures.ups ∙ c.in_ok-begun.ensures.ups) c.requires.idle.up c.in_ok-entry.ensures.free
+returns-in-Full-2-clause-idle c = idle-as c.args.cluster.now c.commit.new.cluster c.args.replica (c.in_ok-entry.ensures.keeps.ups ∙ c.in_ok-begun.ensures.keeps.ups) c.requires.idle.up c.in_ok-entry.ensures.free

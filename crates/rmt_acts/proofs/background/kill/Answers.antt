@@ -9,8 +9,7 @@ returns-in_ok-killed c = record {
   shows = killed-shows c.args.cluster.now c.step.new.self c.args.replica c.in_ok-killed.killed c.step.ensures.whole c.in_ok-killed.ensures.ok;
   up = killed-ups c.args.cluster.now c.step.new.self c.args.replica c.in_ok-killed.killed c.in_ok-killed.ensures.ok;
   free = none-held c.args.cluster.now c.step.new.self (ev.Kill c.args.replica) c.in_ok-killed.killed tt c.in_ok-killed.ensures.ok;
-  schema = c.step.ensures.schema;
-  replicas = c.step.ensures.replicas;
+  keeps = c.step.ensures.keeps;
 }
 
 pub returns-in_ok-killed-2 : goal.returns-in_ok-killed-2
@@ -19,6 +18,5 @@ returns-in_ok-killed-2 c = record {
   shows = killed-shows c.args.cluster.now c.step.new.self c.args.replica c.in_ok-killed.killed c.step.ensures.whole c.in_ok-killed.ensures.ok;
   up = killed-ups c.args.cluster.now c.step.new.self c.args.replica c.in_ok-killed.killed c.in_ok-killed.ensures.ok;
   free = none-held c.args.cluster.now c.step.new.self (ev.Kill c.args.replica) c.in_ok-killed.killed tt c.in_ok-killed.ensures.ok;
-  schema = c.step.ensures.schema;
-  replicas = c.step.ensures.replicas;
+  keeps = c.step.ensures.keeps;
 }

@@ -9,8 +9,7 @@ returns-in_ok-restarted c = record {
   shows = restarted-shows c.args.cluster.now c.step.new.self c.args.replica c.in_ok-restarted.restarted c.step.ensures.whole c.in_ok-restarted.ensures.ok;
   up = restarted-ups c.args.cluster.now c.step.new.self c.args.replica c.in_ok-restarted.restarted c.in_ok-restarted.ensures.ok;
   free = none-held c.args.cluster.now c.step.new.self (ev.Restart c.args.replica) c.in_ok-restarted.restarted tt c.in_ok-restarted.ensures.ok;
-  schema = c.step.ensures.schema;
-  replicas = c.step.ensures.replicas;
+  keeps = c.step.ensures.keeps;
 }
 
 pub returns-in_ok-restarted-2 : goal.returns-in_ok-restarted-2
@@ -19,6 +18,5 @@ returns-in_ok-restarted-2 c = record {
   shows = restarted-shows c.args.cluster.now c.step.new.self c.args.replica c.in_ok-restarted.restarted c.step.ensures.whole c.in_ok-restarted.ensures.ok;
   up = restarted-ups c.args.cluster.now c.step.new.self c.args.replica c.in_ok-restarted.restarted c.in_ok-restarted.ensures.ok;
   free = none-held c.args.cluster.now c.step.new.self (ev.Restart c.args.replica) c.in_ok-restarted.restarted tt c.in_ok-restarted.ensures.ok;
-  schema = c.step.ensures.schema;
-  replicas = c.step.ensures.replicas;
+  keeps = c.step.ensures.keeps;
 }

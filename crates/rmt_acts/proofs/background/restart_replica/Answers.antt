@@ -6,9 +6,11 @@ pub returns-clause-restarts : goal.returns-clause-restarts
 returns-clause-restarts c =
     restart-shows c.args.cluster.now c.step.new.self c.step-2.new.self c.args.replica c.in_ok-killed.killed c.in_ok-_restarted._restarted c.step.ensures.whole c.in_ok-killed.ensures.ok c.in_ok-_restarted.ensures.ok
 
-pub returns-clause-ups : goal.returns-clause-ups
-returns-clause-ups c =
-    restart-ups c.args.cluster.now c.step.new.self c.step-2.new.self c.args.replica c.in_ok-killed.killed c.in_ok-_restarted._restarted c.in_ok-killed.ensures.ok c.in_ok-_restarted.ensures.ok c.requires.idle.up
+pub returns-clause-keeps : goal.returns-clause-keeps
+returns-clause-keeps c = record {
+  table = record { schema = c.step-2.ensures.keeps.schema ∙ c.step.ensures.keeps.schema; replicas = c.step-2.ensures.keeps.replicas ∙ c.step.ensures.keeps.replicas };
+  ups = restart-ups c.args.cluster.now c.step.new.self c.step-2.new.self c.args.replica c.in_ok-killed.killed c.in_ok-_restarted._restarted c.in_ok-killed.ensures.ok c.in_ok-_restarted.ensures.ok c.requires.idle.up;
+}
 
 pub returns-clause-idle : goal.returns-clause-idle
 returns-clause-idle c =

@@ -10,6 +10,8 @@ pub returns-clause-free : goal.returns-clause-free
 returns-clause-free c =
     on-ok c.run.result _ _ (λ y. run-free c.args.cluster.now c.run.new.self c.args.seed c.args.turns y.0 c.drained_replicas_agree.ensures.whole y.1 c.requires.free) c.run.ensures.ok
 
-pub returns-clause-ups : goal.returns-clause-ups
-returns-clause-ups c =
-    on-ok c.run.result _ _ (λ y. run-ups c.args.cluster.now c.run.new.self c.args.seed c.args.turns y.0 c.drained_replicas_agree.ensures.whole y.1) c.run.ensures.ok
+pub returns-clause-keeps : goal.returns-clause-keeps
+returns-clause-keeps c = record {
+  table = c.run.ensures.keeps;
+  ups = on-ok c.run.result _ _ (λ y. run-ups c.args.cluster.now c.run.new.self c.args.seed c.args.turns y.0 c.drained_replicas_agree.ensures.whole y.1) c.run.ensures.ok;
+}

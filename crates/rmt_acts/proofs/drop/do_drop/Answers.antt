@@ -41,6 +41,8 @@ pub returns-clause-idle : goal.returns-clause-idle
 returns-clause-idle c =
     get-idle c.args.cluster.now c.step.new.self c.step-2.new.self c.args.replica c.args.entry c.in_ok-_pulled._pulled c.in_ok-reply.reply c.step.ensures.whole c.requires.idle c.in_ok-_pulled.ensures.ok c.in_ok-reply.ensures.ok
 
-pub returns-clause-ups : goal.returns-clause-ups
-returns-clause-ups c =
-    get-ups c.args.cluster.now c.step.new.self c.step-2.new.self c.args.replica c.args.entry c.in_ok-_pulled._pulled c.in_ok-reply.reply c.step.ensures.whole c.in_ok-_pulled.ensures.ok c.in_ok-reply.ensures.ok
+pub returns-clause-keeps : goal.returns-clause-keeps
+returns-clause-keeps c = record {
+  table = record { schema = c.step-2.ensures.keeps.schema ∙ c.step.ensures.keeps.schema; replicas = c.step-2.ensures.keeps.replicas ∙ c.step.ensures.keeps.replicas };
+  ups = get-ups c.args.cluster.now c.step.new.self c.step-2.new.self c.args.replica c.args.entry c.in_ok-_pulled._pulled c.in_ok-reply.reply c.step.ensures.whole c.in_ok-_pulled.ensures.ok c.in_ok-reply.ensures.ok;
+}

@@ -37,5 +37,8 @@ returns-in-LimitReached-clause-drops c =
     let k = subst (λ (y : Reply). Step s (ev.DropPartition c.args.partition) y u) (c.in-Refused.is ∙ ap rp.Refused r.is) c.in_ok-reply.ensures.ok in
     drop-refused s u c.args.partition r.limit r.value c.step.ensures.whole k
 
-pub returns-in_ok-below-in-Entry-clause-ups : goal.returns-in_ok-below-in-Entry-clause-ups
-returns-in_ok-below-in-Entry-clause-ups c = c.in_ok-below-in-Entry.ensures.ups ∙ ups-step c.args.cluster.now c.step.new.self (ev.DropPartition c.args.partition) c.in_ok-reply.reply c.step.ensures.whole tt c.in_ok-reply.ensures.ok
+pub returns-in_ok-below-in-Entry-clause-keeps : goal.returns-in_ok-below-in-Entry-clause-keeps
+returns-in_ok-below-in-Entry-clause-keeps c = record {
+  table = record { schema = c.do_drop.ensures.keeps.table.schema ∙ c.step.ensures.keeps.schema; replicas = c.do_drop.ensures.keeps.table.replicas ∙ c.step.ensures.keeps.replicas };
+  ups = c.in_ok-below-in-Entry.ensures.keeps.ups ∙ ups-step c.args.cluster.now c.step.new.self (ev.DropPartition c.args.partition) c.in_ok-reply.reply c.step.ensures.whole tt c.in_ok-reply.ensures.ok;
+}

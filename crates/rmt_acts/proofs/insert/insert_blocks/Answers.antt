@@ -17,7 +17,7 @@ inserts-preserved c =
     let came = λ (t : TableState) (h : Shows c.inserts.cluster t). subst (λ (x : Outcome). Leads c.insert_block.new.cluster (ComesTo t c.args.replica (without_kinds c.in-Some.block) x)) c.in-Inserted.is (c.in_ok-piece.ensures.inserts t h) in
     subst (SoFar c.args.cluster.now c.insert_block.new.cluster c.args.replica c.args.blocks.items (c.inserts.yielded ++ c.in-Some.block ∷ []) c.next.new.self.rest.items) (sym c.in_ok-push-in-Inserted.ensures.items)
     (so-far-more c.args.cluster.now c.inserts.cluster c.insert_block.new.cluster c.args.replica c.args.blocks.items c.inserts.yielded c.inserts.block-iterator.rest.items c.next.new.self.rest.items
-    c.in-Some.block c.inserts.pieces.items c.in-Inserted.piece c.inserts.invariant step came c.in_ok-piece.ensures.idle c.in_ok-piece.ensures.ups c.insert_block.ensures.schema c.insert_block.ensures.replicas)
+    c.in-Some.block c.inserts.pieces.items c.in-Inserted.piece c.inserts.invariant step came c.in_ok-piece.ensures.idle c.in_ok-piece.ensures.keeps.ups c.insert_block.ensures.keeps.table.schema c.insert_block.ensures.keeps.table.replicas)
 
 pub returns-in-Refused-clause-inserts : goal.returns-in-Refused-clause-inserts
 returns-in-Refused-clause-inserts c t h =

@@ -22,7 +22,7 @@ pub partitions-init : goal.partitions-init
 partitions-init c =
     let done = c.in_ok-refusal.ensures in
     let y = synced-told c.args.cluster.now c.sync_replica.new.cluster c.args.replica c.in_ok-refusal.field-0 c.in_default.not-Some done.syncs in
-    none-yet c.args.cluster.now c.sync_replica.new.cluster c.args.replica c.new-names.result.items c.new-names.ensures.items y.shows y.whole done.idle done.ups done.schema done.replicas
+    none-yet c.args.cluster.now c.sync_replica.new.cluster c.args.replica c.new-names.result.items c.new-names.ensures.items y.shows y.whole done.idle done.keeps.ups done.keeps.table.schema done.keeps.table.replicas
 
 pub optimize_partition-requires-clause-some : goal.optimize_partition-requires-clause-some
 optimize_partition-requires-clause-some c =
@@ -34,7 +34,7 @@ pub partitions-preserved : goal.partitions-preserved
 partitions-preserved c =
     let done = c.in_ok-name.ensures in
     one-more c.args.cluster.now c.partitions.cluster c.optimize_partition.new.cluster c.args.replica c.deref-partition-items.result.now c.partitions.partition-index c.partitions.names.items c.push.new.self.items c.in_ok-name.field-0 c.in-Name.name
-    c.partitions-test.true c.partitions.invariant done.optimizes c.in-Name.is c.in_ok-push-in-Name.ensures.items done.whole done.idle done.ups done.schema done.replicas
+    c.partitions-test.true c.partitions.invariant done.optimizes c.in-Name.is c.in_ok-push-in-Name.ensures.items done.whole done.idle done.keeps.ups done.keeps.table.schema done.keeps.table.replicas
 
 pub returns-in-Refused-clause-optimizes : goal.returns-in-Refused-clause-optimizes
 returns-in-Refused-clause-optimizes c =

@@ -30,11 +30,17 @@ catch_up-requires-in-Entry-clause-gets c = merge-gets _ _ _ _ _ _ (merges (goal.
 pub catch_up-requires-clause-gets : goal.catch_up-requires-clause-gets
 catch_up-requires-clause-gets c = gets-done c.args.cluster.now c.args.replica c.drained_replicas_agree.ensures.whole c.requires.whole
 
-pub returns-in_ok-catch_up-in-Entry-clause-ups : goal.returns-in_ok-catch_up-in-Entry-clause-ups
-returns-in_ok-catch_up-in-Entry-clause-ups c = c.in_ok-catch_up-in-Entry.ensures.ups ∙ merge-ups _ _ _ _ _ _ (merges (goal.at.returns-in_ok-catch_up-in-Entry-clause-ups c).In_ok-reply _ c.in-Entry.is)
+pub returns-in_ok-catch_up-in-Entry-clause-keeps : goal.returns-in_ok-catch_up-in-Entry-clause-keeps
+returns-in_ok-catch_up-in-Entry-clause-keeps c = record {
+  table = record { schema = c.catch_up-in-Entry.ensures.keeps.table.schema ∙ c.step.ensures.keeps.schema; replicas = c.catch_up-in-Entry.ensures.keeps.table.replicas ∙ c.step.ensures.keeps.replicas };
+  ups = c.in_ok-catch_up-in-Entry.ensures.keeps.ups ∙ merge-ups _ _ _ _ _ _ (merges (goal.at.returns-in_ok-catch_up-in-Entry-clause-keeps c).In_ok-reply _ c.in-Entry.is);
+}
 
-pub returns-in-Refused-clause-ups : goal.returns-in-Refused-clause-ups
-returns-in-Refused-clause-ups c = merge-ups _ _ _ _ _ _ (merges (goal.at.returns-in-Refused-clause-ups c).In_ok-reply _ c.in-Refused.is)
+pub returns-in-Refused-clause-keeps : goal.returns-in-Refused-clause-keeps
+returns-in-Refused-clause-keeps c = record {
+  table = c.step.ensures.keeps;
+  ups = merge-ups _ _ _ _ _ _ (merges (goal.at.returns-in-Refused-clause-keeps c).In_ok-reply _ c.in-Refused.is);
+}
 
 pub merged_at-name-requires : goal.merged_at-name-requires
 merged_at-name-requires c =

@@ -9,9 +9,10 @@ returns-in-Ok c =
       syncs = is-synced c.args.cluster.now c.sync.new.self c.args.replica w y.0 y.1;
       table = sync-table c.args.cluster.now c.sync.new.self c.args.replica w y.0;
       idle = sync-idle c.args.cluster.now c.sync.new.self c.args.replica w y.0 c.requires.idle;
-      ups = sync-ups c.args.cluster.now c.sync.new.self c.args.replica w y.0;
-      schema = c.sync.ensures.schema;
-      replicas = c.sync.ensures.replicas;
+      keeps = record {
+        table = c.sync.ensures.keeps;
+        ups = sync-ups c.args.cluster.now c.sync.new.self c.args.replica w y.0;
+      };
     }
 
 pub unreachable-requires : goal.unreachable-requires

@@ -13,9 +13,10 @@ returns-in-Ok c =
       syncs = is-synced c.args.cluster.now c.sync.new.self c.args.replica w y.0 y.1;
       table = sync-table c.args.cluster.now c.sync.new.self c.args.replica w y.0;
       idle = sync-idle c.args.cluster.now c.sync.new.self c.args.replica w y.0 c.requires.idle;
-      ups = sync-ups c.args.cluster.now c.sync.new.self c.args.replica w y.0;
-      schema = c.sync.ensures.schema;
-      replicas = c.sync.ensures.replicas;
+      keeps = record {
+        table = c.sync.ensures.keeps;
+        ups = sync-ups c.args.cluster.now c.sync.new.self c.args.replica w y.0;
+      };
     }
 
 pub returns-in-Err-clause-syncs : goal.returns-in-Err-clause-syncs
@@ -27,5 +28,5 @@ returns-in-Err-clause-table c = IfOk-weaker c.refusal_of.result _ _ (λ o e. e.t
 pub returns-in-Err-clause-idle : goal.returns-in-Err-clause-idle
 returns-in-Err-clause-idle c = IfOk-weaker c.refusal_of.result _ _ (λ o e. e.idle) (early-told c.args.cluster.now c.sync.new.self c.args.replica c.in-Err.error c.refusal_of.result c.drained_replicas_agree.ensures.whole c.requires.idle c.in-Err.ensures.syncs c.refusal_of.ensures)
 
-pub returns-in-Err-clause-ups : goal.returns-in-Err-clause-ups
-returns-in-Err-clause-ups c = IfOk-weaker c.refusal_of.result _ _ (λ o e. e.ups_are) (early-told c.args.cluster.now c.sync.new.self c.args.replica c.in-Err.error c.refusal_of.result c.drained_replicas_agree.ensures.whole c.requires.idle c.in-Err.ensures.syncs c.refusal_of.ensures)
+pub returns-in-Err-clause-keeps : goal.returns-in-Err-clause-keeps
+returns-in-Err-clause-keeps c = record { table = c.sync.ensures.keeps; ups = IfOk-weaker c.refusal_of.result _ _ (λ o e. e.ups_are) (early-told c.args.cluster.now c.sync.new.self c.args.replica c.in-Err.error c.refusal_of.result c.drained_replicas_agree.ensures.whole c.requires.idle c.in-Err.ensures.syncs c.refusal_of.ensures) }

@@ -35,11 +35,17 @@ catch_up-requires-clause-idle c =
     idle-as c.args.cluster.now c.step.new.self c.args.replica (ups-step c.args.cluster.now c.step.new.self (ev.Mutate c.args.replica c.args.old c.args.upto) c.in_ok-reply.reply c.step.ensures.whole tt c.in_ok-reply.ensures.ok) c.requires.idle.up
     (none-held c.args.cluster.now c.step.new.self (ev.Mutate c.args.replica c.args.old c.args.upto) c.in_ok-reply.reply tt c.in_ok-reply.ensures.ok c.requires.idle.free)
 
-pub returns-in_ok-catch_up-in-Entry-clause-ups : goal.returns-in_ok-catch_up-in-Entry-clause-ups
-returns-in_ok-catch_up-in-Entry-clause-ups c = c.in_ok-catch_up-in-Entry.ensures.ups ∙ ups-step c.args.cluster.now c.step.new.self (ev.Mutate c.args.replica c.args.old c.args.upto) c.in_ok-reply.reply c.step.ensures.whole tt c.in_ok-reply.ensures.ok
+pub returns-in_ok-catch_up-in-Entry-clause-keeps : goal.returns-in_ok-catch_up-in-Entry-clause-keeps
+returns-in_ok-catch_up-in-Entry-clause-keeps c = record {
+  table = record { schema = c.catch_up-in-Entry.ensures.keeps.table.schema ∙ c.step.ensures.keeps.schema; replicas = c.catch_up-in-Entry.ensures.keeps.table.replicas ∙ c.step.ensures.keeps.replicas };
+  ups = c.in_ok-catch_up-in-Entry.ensures.keeps.ups ∙ ups-step c.args.cluster.now c.step.new.self (ev.Mutate c.args.replica c.args.old c.args.upto) c.in_ok-reply.reply c.step.ensures.whole tt c.in_ok-reply.ensures.ok;
+}
 
-pub returns-in-LimitReached-clause-ups : goal.returns-in-LimitReached-clause-ups
-returns-in-LimitReached-clause-ups c = ups-step c.args.cluster.now c.step.new.self (ev.Mutate c.args.replica c.args.old c.args.upto) c.in_ok-reply.reply c.step.ensures.whole tt c.in_ok-reply.ensures.ok
+pub returns-in-LimitReached-clause-keeps : goal.returns-in-LimitReached-clause-keeps
+returns-in-LimitReached-clause-keeps c = record {
+  table = c.step.ensures.keeps;
+  ups = ups-step c.args.cluster.now c.step.new.self (ev.Mutate c.args.replica c.args.old c.args.upto) c.in_ok-reply.reply c.step.ensures.whole tt c.in_ok-reply.ensures.ok;
+}
 
 pub returns-in-LimitReached-clause-idle : goal.returns-in-LimitReached-clause-idle
 returns-in-LimitReached-clause-idle c =

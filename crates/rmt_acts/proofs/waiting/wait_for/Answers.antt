@@ -22,7 +22,7 @@ parts-init c =
     c.deref-part-items.ensures.value ∙ (c.in_ok-parts.ensures.items ∙ (c.live.ensures ∙ ap live (whole-log u c.args.replica c.copy-2.result.now.log y.whole c.copy-2.ensures.log))) in
     let place = subst (λ (l : List Entry). IsPlaceOf l c.args.id c.place_of-place.result) (whole-log u c.args.replica c.copy.result.now.log y.whole c.copy.ensures.log) c.place_of-place.ensures in
     subst (λ (ps : List Name). IsWaiting c.args.cluster.now c.args.replica c.args.id c.place_of-place.result ps u) (sym parts)
-    (waiting-begins c.args.cluster.now u c.args.replica c.args.id c.place_of-place.result c.drained_replicas_agree.ensures.whole place done.idle done.ups y.whole done.schema done.replicas y.shows)
+    (waiting-begins c.args.cluster.now u c.args.replica c.args.id c.place_of-place.result c.drained_replicas_agree.ensures.whole place done.idle done.keeps.ups y.whole done.keeps.table.schema done.keeps.table.replicas y.shows)
 
 pub settle_part-requires-clause-below : goal.settle_part-requires-clause-below
 settle_part-requires-clause-below c = place-below c.parts.cluster.table.log c.args.id c.place_of-place.result c.parts.invariant.placed
@@ -49,7 +49,7 @@ parts-preserved c =
     let done = c.in_ok-refusal.ensures in
     waiting-goes-on c.args.cluster.now c.parts.cluster c.settle_part.new.cluster c.args.replica c.args.id c.place_of-place.result c.part-item.result (drop (c.parts.part-index + 1) c.deref-part-items.result.now)
     c.drained_replicas_agree-in-parts.ensures.whole (subst (λ (o : Option Refusal). Settles c.parts.cluster c.args.replica c.part-item.result c.place_of-place.result o c.settle_part.new.cluster) c.in_default-2.is done.settles)
-    done.idle done.ups done.schema done.replicas (to-come (goal.at.parts-preserved c).In_ok-refusal)
+    done.idle done.keeps.ups done.keeps.table.schema done.keeps.table.replicas (to-come (goal.at.parts-preserved c).In_ok-refusal)
 
 pub returns-clause-waits : goal.returns-clause-waits
 returns-clause-waits c =

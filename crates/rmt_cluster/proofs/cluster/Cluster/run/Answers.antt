@@ -21,8 +21,8 @@ turns-preserved c =
     let i = c.turns.invariant in (
       one-more c.args.self.now c.args.seed c.turns._turn c.turns.self c.turns.state c.take_turn.new.self c.in_ok-state.state i.0 c.in_ok-state.ensures.ok,
       c.in_ok-state.ensures.below,
-      c.take_turn.ensures.schema ∙ i.2,
-      c.take_turn.ensures.replicas ∙ i.3,
+      c.take_turn.ensures.keeps.schema ∙ i.2,
+      c.take_turn.ensures.keeps.replicas ∙ i.3,
     )
 
 pub returns-clause-ok : goal.returns-clause-ok

@@ -61,21 +61,13 @@ returns-in_err-reply-clause-log c =
     let r = rests s t c.args.event (stops i.state c.act.new.state i.attempts c.act.new.attempts (reverse i.events.items) c.args.event c.in_err-reply.ensures.err) in
     at-err c.from_residual-in_err-reply.result _ (r.log ∙ ap (λ (v : Cluster). v.table.log) c.self.view_is)
 
-pub returns-in_err-reply-clause-schema : goal.returns-in_err-reply-clause-schema
-returns-in_err-reply-clause-schema c =
+pub returns-in_err-reply-clause-keeps : goal.returns-in_err-reply-clause-keeps
+returns-in_err-reply-clause-keeps c =
     let i = c.self.inside in
     let s = cluster_of i.state i.attempts.made i.attempts.open_ones (reverse i.events.items) in
     let t = cluster_of c.act.new.state c.act.new.attempts.made c.act.new.attempts.open_ones (reverse i.events.items) in
     let r = rests s t c.args.event (stops i.state c.act.new.state i.attempts c.act.new.attempts (reverse i.events.items) c.args.event c.in_err-reply.ensures.err) in
-    r.schema ∙ ap (λ (v : Cluster). v.table.schema) c.self.view_is
-
-pub returns-in_err-reply-clause-replicas : goal.returns-in_err-reply-clause-replicas
-returns-in_err-reply-clause-replicas c =
-    let i = c.self.inside in
-    let s = cluster_of i.state i.attempts.made i.attempts.open_ones (reverse i.events.items) in
-    let t = cluster_of c.act.new.state c.act.new.attempts.made c.act.new.attempts.open_ones (reverse i.events.items) in
-    let r = rests s t c.args.event (stops i.state c.act.new.state i.attempts c.act.new.attempts (reverse i.events.items) c.args.event c.in_err-reply.ensures.err) in
-    r.replicas ∙ ap (λ (v : Cluster). length v.replicas) c.self.view_is
+    record { schema = r.schema ∙ ap (λ (v : Cluster). v.table.schema) c.self.view_is; replicas = r.replicas ∙ ap (λ (v : Cluster). length v.replicas) c.self.view_is }
 
 pub invariant_of-self-2 : goal.invariant_of-self-2
 invariant_of-self-2 c =
@@ -95,14 +87,11 @@ returns-clause-ok c =
       stored = ap (λ (es : List (Event × Reply)). cluster_of t b.made b.open_ones es) (stored-last i.events.items c.reserve.new.self.items c.push.new.self.items c.args.event c.in_ok-reply.reply c.in_ok-reserve.ensures.items c.in_ok-push.ensures.items);
     })
 
-pub returns-clause-schema : goal.returns-clause-schema
-returns-clause-schema c =
+pub returns-clause-keeps : goal.returns-clause-keeps
+returns-clause-keeps c =
     let i = c.self.inside in
     let m = subst (λ (v : Cluster). MayStep v c.args.event) (sym c.self.view_is) c.requires.may in
-    schema-stays i.state c.act.new.state i.attempts c.act.new.attempts (reverse i.events.items) c.args.event c.in_ok-reply.reply m c.in_ok-reply.ensures.ok ∙ ap (λ (v : Cluster). v.table.schema) c.self.view_is
-
-pub returns-clause-replicas : goal.returns-clause-replicas
-returns-clause-replicas c =
-    let i = c.self.inside in
-    let m = subst (λ (v : Cluster). MayStep v c.args.event) (sym c.self.view_is) c.requires.may in
-    as-many i.state c.act.new.state i.attempts c.act.new.attempts (reverse i.events.items) c.args.event c.in_ok-reply.reply m c.in_ok-reply.ensures.ok ∙ ap (λ (v : Cluster). length v.replicas) c.self.view_is
+    record {
+      schema = schema-stays i.state c.act.new.state i.attempts c.act.new.attempts (reverse i.events.items) c.args.event c.in_ok-reply.reply m c.in_ok-reply.ensures.ok ∙ ap (λ (v : Cluster). v.table.schema) c.self.view_is;
+      replicas = as-many i.state c.act.new.state i.attempts c.act.new.attempts (reverse i.events.items) c.args.event c.in_ok-reply.reply m c.in_ok-reply.ensures.ok ∙ ap (λ (v : Cluster). length v.replicas) c.self.view_is;
+    }

@@ -31,7 +31,7 @@ pub overflow_add-from : goal.overflow_add-from
 overflow_add-from c = let l = c.in-Some.ensures.few in grind (arith, l)
 
 pub entries-init : goal.entries-init
-entries-init c = syncing-begins c.args.self.now c.pull_all.new.self c.args.replica c.pull_all.ensures.whole c.in_ok-pull_all.ensures.pulls c.in_ok-pull_all.ensures.schema c.in_ok-pull_all.ensures.replicas
+entries-init c = syncing-begins c.args.self.now c.pull_all.new.self c.args.replica c.pull_all.ensures.whole c.in_ok-pull_all.ensures.pulls c.in_ok-pull_all.ensures.keeps.schema c.in_ok-pull_all.ensures.keeps.replicas
 
 pub entries-preserved : goal.entries-preserved
-entries-preserved c = syncing-on c.args.self.now c.entries.self c.do_next.new.self c.args.replica c.entries.from c.in-Some.i c.entries.invariant c.in-Some.ensures.next c.in_ok-do_next.ensures.does c.in_ok-do_next.ensures.log c.in_ok-do_next.ensures.schema c.in_ok-do_next.ensures.replicas
+entries-preserved c = syncing-on c.args.self.now c.entries.self c.do_next.new.self c.args.replica c.entries.from c.in-Some.i c.entries.invariant c.in-Some.ensures.next c.in_ok-do_next.ensures.does c.in_ok-do_next.ensures.log c.in_ok-do_next.ensures.keeps.schema c.in_ok-do_next.ensures.keeps.replicas
