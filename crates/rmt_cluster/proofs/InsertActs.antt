@@ -168,7 +168,7 @@ gone-acts s t a id why x lock suit h i own n r some gone w events =
     let k = gone events in
     inr (inr (record {
       why = why;
-      cause = subst (insert.NoCommit (cluster_of s a.made a.open_ones events) id) (sym k.cause) (x, found-is s a id x events h i, staged-of s a x lock events suit h own n r some, refl, k.gone);
+      cause = subst (insert.NoCommit (cluster_of s a.made a.open_ones events) id) (sym k.cause) (x, found-is s a id x events h i, staged-of s a x lock events suit h own n r some, (refl, k.gone));
       answer = refl;
       unchanged = same-cluster s t (table_at s.tree) (map shown s.replicas) a.made a.open_ones a events (ap table_at k.same) (ap (map shown) w) refl refl;
     }))

@@ -106,7 +106,7 @@ commits s id a x i n z q l u w =
     }
 
 pub lock-gone : (s : Cluster) (id : ℕ) (a : Attempt) → IsAttempt s id a → HasStaged s a → (IsLocked s.table.locks a.block.partition a.number → ⊥) → Step s (ev.Commit id) (rp.Refused (rf.LockGone a.number)) (with_event s (ev.Commit id) (rp.Refused (rf.LockGone a.number)))
-lock-gone s id a i z g = record { after = s; does = inr (inr (record { why = rf.LockGone a.number; cause = (a, i, z, refl, g); answer = refl; unchanged = refl })); stored = refl }
+lock-gone s id a i z g = record { after = s; does = inr (inr (record { why = rf.LockGone a.number; cause = (a, i, z, (refl, g)); answer = refl; unchanged = refl })); stored = refl }
 
 abbrev pub ended : Cluster → ℕ → Attempt → Replica → Cluster
 ended s id a x = record s {

@@ -92,10 +92,12 @@ module _ (schema : Shape) (column : Column) (one two five : Shared) (d1 d2 d5 : 
         record (holding 1 (under 0 (row_block 1 d1) ∷ under 2 (row_block 5 d5) ∷ [])) { log = s7.table.log; done = grown [] 2 },
         record { at = record { is_in = inl refl; number = refl }; up = refl },
         (record { left = []; right = []; among = refl }, (refl, tt)),
-        refl,
-        λ left right h. elim h [ inl k ↦ k.0 refl | inr k ↦ k.1 ],
-        ((record { lock = lock_of 1 1; is_in = inl refl; partition = refl; number = refl }), record { partition = refl; low = (let k : 0 ≤ 1 = omega arith in k); high = (let k : 1 ≤ 2 = omega arith in k) }),
-        lowest,
+        (
+          refl,
+          λ left right h. elim h [ inl k ↦ k.0 refl | inr k ↦ k.1 ],
+          ((record { lock = lock_of 1 1; is_in = inl refl; partition = refl; number = refl }), record { partition = refl; low = (let k : 0 ≤ 1 = omega arith in k); high = (let k : 1 ≤ 2 = omega arith in k) }),
+          lowest,
+        ),
       );
       answer = refl;
       unchanged = refl;

@@ -61,7 +61,7 @@ mine s id r b n a w o k = one-attempt s a (attempt_of id r b n) w k.is_in o.ther
 refused-commit : (s : Cluster) (id r : ℕ) (b : Block) (n : ℕ) (why : StepRefused) → IsWhole s → IsReady s id r b n → NoCommit s id why → ⊥
 refused-commit s id r b n rf.NoAttempt w o c = c (attempt_of id r b n) (record { is_in = o.is_open.there; id_is = refl })
 refused-commit s id r b n rf.NotStaged w o c = subst (λ (a : Attempt). HasStaged s a → ⊥) (mine s id r b n c.0 w o.is_open c.1) c.2 (record { replica = o.staged.replica; at = o.staged.at; staged = o.staged.staged })
-refused-commit s id r b n (rf.LockGone m) w o c = subst (λ (a : Attempt). IsLocked s.table.locks a.block.partition a.number → ⊥) (mine s id r b n c.0 w o.is_open c.1) c.4 o.is_open.locked
+refused-commit s id r b n (rf.LockGone m) w o c = subst (λ (a : Attempt). IsLocked s.table.locks a.block.partition a.number → ⊥) (mine s id r b n c.0 w o.is_open c.1) c.3.1 o.is_open.locked
 refused-commit s id r b n why w o c = c
 
 -- nothing else is answered

@@ -51,9 +51,9 @@ refused-merge s k first second rest rf.Down w i d m c = absurd (not-down s k w i
 refused-merge s k first second rest rf.NotLive w i d m c = absurd (c.2 (subst (λ (l : List Entry). AreMergeable l (first ∷ second ∷ rest)) (sym (whole-copy s k c.0 w d c.1)) m))
 refused-merge s k first second rest (rf.LogMoved seen found) w i d m c =
     let e : length c.0.log ≡ length s.table.log = ap (λ (l : List Entry). length l) (whole-copy s k c.0 w d c.1) in
-    let f = c.3 in let g = c.4 in let h = c.5 in absurd (omega (arith, e, f, g, h))
+    let f = c.3.0 in let g = c.3.1 in let h = c.3.2 in absurd (omega (arith, e, f, g, h))
 refused-merge s k first second rest (rf.Differ left right) w i d m c = tt
-refused-merge s k first second rest (rf.InFlight n) w i d m c = let l = c.5.0 in absurd (subst (λ (xs : List Lock). Has xs l.lock) i.free l.is_in)
+refused-merge s k first second rest (rf.InFlight n) w i d m c = let l = c.3.2.0 in absurd (subst (λ (xs : List Lock). Has xs l.lock) i.free l.is_in)
 refused-merge s k first second rest (rf.LimitReached limit value) w i d m c = tt
 refused-merge s k first second rest why w i d m c = absurd c.3
 

@@ -184,7 +184,7 @@ differ-row s u k p names left right w e step t h =
     let r = refuses s u k names (rf.Differ left right) w step in
     record {
       state = t;
-      holds = (subst (λ (l : List Entry). AreFirstToDiffer l (live_of l p) left right) (sym h.log) (subst (λ (xs : List Name). AreFirstToDiffer s.table.log xs left right) (sym e) r.cause.4), refl);
+      holds = (subst (λ (l : List Entry). AreFirstToDiffer l (live_of l p) left right) (sym h.log) (subst (λ (xs : List Name). AreFirstToDiffer s.table.log xs left right) (sym e) r.cause.3.1), refl);
       shows = r.shows t h;
     }
 
@@ -196,7 +196,7 @@ no-entry-row s u k p names limit value w n e step t h =
       state = t;
       holds = (
         subst (λ (l : List Entry). (2 ≤ length (live_of l p)) × AreAlike l (live_of l p) × (worker_limit l ≡ Some (limit, value))) (sym h.log)
-            (subst (λ (xs : List Name). 2 ≤ length xs) (sym e) n, subst (λ (xs : List Name). AreAlike s.table.log xs) (sym e) r.cause.4, r.cause.6),
+            (subst (λ (xs : List Name). 2 ≤ length xs) (sym e) n, subst (λ (xs : List Name). AreAlike s.table.log xs) (sym e) r.cause.3.1, r.cause.3.3),
         refl,
       );
       shows = r.shows t h;

@@ -51,9 +51,9 @@ refused-mutate s k old upto rf.Down w up d m c = absurd (not-down s k w up c)
 refused-mutate s k old upto rf.NotLive w up d m c = absurd (c.2 (subst (λ (l : List Entry). IsMutable l old upto) (sym (own-log s k c.0 w d c.1)) m))
 refused-mutate s k old upto (rf.LogMoved seen found) w up d m c =
     let e = ap (λ (l : List Entry). length l) (own-log s k c.0 w d c.1) in
-    let p = c.3 in
-    let q = c.4 in
-    let l = c.5 in
+    let p = c.3.0 in
+    let q = c.3.1 in
+    let l = c.3.2 in
     absurd (omega (arith, e, p, q, l))
 refused-mutate s k old upto (rf.LimitReached limit value) w up d m c = tt
 refused-mutate s k old upto why w up d m c = absurd c.3
@@ -119,7 +119,7 @@ refused-shows s u k old upto limit value w st t h = go st.does
     go (inr a) =
         let e : a.why ≡ rf.LimitReached limit value = let q = a.answer in cc in
         let c = subst (λ (y : StepRefused). NoMutate s k old upto y) e a.cause in (
-          ap worker_limit h.log ∙ c.4,
+          ap worker_limit h.log ∙ c.3.1,
           shows-quiet s u (ev.Mutate k old upto) (rp.Refused (rf.LimitReached limit value)) t w st (ap (λ (x : Cluster). x.table) a.unchanged) (ap (λ (x : Cluster). x.events) a.unchanged) (λ xs i. refl) h,
         )
 

@@ -51,10 +51,10 @@ module _ (h now : Held) (e : h ≡ now) (lock : Lock) (values : ℕ) (part : Opt
 
   module _ (locked : IsLocked (table_at now).locks lock.id.partition lock.number) where
     pub refused-kept : (a : Name) → part ≡ Some a → HasCause (commit.Duplicate a)
-    refused-kept a f = (locked, unasked now 0 refl, kept-now (Some a) f)
+    refused-kept a f = (locked, (unasked now 0 refl, kept-now (Some a) f))
 
     refused-limit : part ≡ None → (limit : Limit) (m : ℕ) → commit_limit h.log h.values values ≡ Some (limit, m) → HasCause (commit.LimitReached limit m)
-    refused-limit f limit m q = (locked, unasked now 0 refl, kept-now None f, subst (λ (w : Held). commit_limit w.log w.values values ≡ Some (limit, m)) e q)
+    refused-limit f limit m q = (locked, (unasked now 0 refl, kept-now None f, subst (λ (w : Held). commit_limit w.log w.values values ≡ Some (limit, m)) e q))
 
     pub refused-entries : part ≡ None → (clients : ℕ) → clients ≡ client_count h.log → 32768 ≤ clients → (m : ℕ) → m ≡ clients → HasCause (commit.LimitReached limits.ClientEntries m)
     refused-entries f clients c l m q = refused-limit f limits.ClientEntries m (entries-limit h.log h.values values (omega (arith, c, l)) ∙ ap (λ (x : ℕ). Some (limits.ClientEntries, x)) (omega (arith, c, q)))
