@@ -16,4 +16,3 @@ pub mod Steps
 pub mod Shown
 pub mod Starts
 pub mod Draws
-pub mod WorkedEvents

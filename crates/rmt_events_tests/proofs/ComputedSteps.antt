@@ -20,7 +20,7 @@ use Rattle.rmt_events.specs.Clusters.{Attempt, Cluster, without_kinds, with_repl
 use Rattle.rmt_events.specs.ClusterChanges.{IsNumbered, IsAttempt, attempts_without, renumbered}
 use Rattle.rmt_events.specs.InsertEvents.{HasQuorum, HasStaged, BeginsAttempt, LostFor}
 use Rattle.rmt_events.specs.Steps.{Step}
-use Rattle.rmt_events.specs.WorkedEvents.{Shared}
+use Rattle.rmt_events_tests.specs.WorkedEvents.{Shared}
 use Rattle.rmt_events.specs.declared.event.Event.{Event}
 use Rattle.rmt_events.specs.declared.reply.Reply.{Reply}
 use Rattle.rmt_events.specs.declared.step_refused.StepRefused.{StepRefused}
