@@ -143,7 +143,7 @@ needed-active schema x i e new c k s w done q r h over = elim (s.fair.answered c
     gone : Dropped x.log c → ⊥
     gone d = elim (drop-past schema k.later (e ∷ k.earlier) c.partition f.0 lawful (subst (λ (l : List Entry). DropIn l c.partition f.0) k.is f.1)) [
       | inl g ↦ in-base g
-      | inr g ↦ w.not_dropped (record { name = new; makes = makes; gone = drop-takes schema x.log c.partition f.0 new s.lawful f.1 (made-at x.log i new makes) (sym over.partition) (past g) })
+      | inr g ↦ w.not_dropped (record { name = new; makes = makes; dropped = drop-takes schema x.log c.partition f.0 new s.lawful f.1 (made-at x.log i new makes) (sym over.partition) (past g) })
     ]
       where
         f : (n : ℕ) × DropIn x.log c.partition n × (c.max ≤ n)
@@ -239,7 +239,7 @@ get-ready s x i p n source need digest w h e v q up = go (w.committed i p n sour
 
     not-waiting : (y : Replica) → y ≡ x → CoveredBy (names_of y.parts) (block_name p n) ⊎ Dropped y.log (block_name p n) → ⊥
     not-waiting y g (inl c) = v.open_entry (inr (inr (record { name = block_name p n; makes = makes; covered = subst (λ (z : Replica). CoveredBy (names_of z.parts) (block_name p n)) g c })))
-    not-waiting y g (inr d) = v.not_dropped (record { name = block_name p n; makes = makes; gone = subst (λ (z : Replica). Dropped z.log (block_name p n)) g d })
+    not-waiting y g (inr d) = v.not_dropped (record { name = block_name p n; makes = makes; dropped = subst (λ (z : Replica). Dropped z.log (block_name p n)) g d })
 
     go : HasReplica s.replicas source → KeepsBlock x p n digest ⊎ IsHeld s x.number (length x.log) p n digest
     go r = decide (nat-same y.number x.number)

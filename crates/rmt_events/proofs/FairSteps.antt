@@ -11,6 +11,7 @@ use Rattle.rmt_entries.specs.declared.entry.Entry.TheVariants.{Get, Merge, Mutat
 use Rattle.rmt_model.specs.Live.{placed, in_drop, TakesAway}
 use Rattle.rmt_model.specs.Lawful.{entry_at, is_mutation, MakesAt}
 use Rattle.rmt_model.specs.Fair.{MadeAtMark, DroppedAtMark, AreFair}
+use Rattle.rmt_model.specs.EntryStates.{IsDroppedEntry}
 use Rattle.rmt_model.specs.CopiedParts.{Copied, names_of, IsCopied}
 use Rattle.rmt_model.proofs.Lists.{Each-at, Each-all}
 use Rattle.rmt_model.proofs.LiveLaws.{Covers-trans}
@@ -18,7 +19,7 @@ use Rattle.rmt_model.proofs.Drops.{dropped-with, marked-dropped}
 use Rattle.rmt_model.proofs.Standing.{with_mark, fair-more, fair-looked, fair-dropped, fair-marked, fair-installed, fair-fewer}
 use Rattle.rmt_queue.specs.Marks.{done_at}
 use Rattle.rmt_events.specs.Views.{Replica}
-use Rattle.rmt_events.specs.ReplicaCalls.{IsStanding, IsDroppedEntry, IsAlready, without_range, Fits}
+use Rattle.rmt_events.specs.ReplicaCalls.{IsStanding, IsAlready, without_range, Fits}
 use Rattle.rmt_events.proofs.Copies.{made-at}
 
 -- a part covers what the waiting entry makes, was made in the copy, and holds what the copy says of it
@@ -90,7 +91,7 @@ looked-takes-none (Mutate old new upto count mcount) x q t = t
 looked-takes-none (DropRange p n) x q t = absurd (cc)
 
 -- nothing was to do
-pub fair-settled : (schema : Shape) (r : Replica) (i : ℕ) (m : ℕ → Bool) → IsStanding schema r → IsAlready r i ⊎ IsDroppedEntry r i → AreFair r.log m (names_of r.parts) → AreFair r.log (with_mark i m) (names_of r.parts)
+pub fair-settled : (schema : Shape) (r : Replica) (i : ℕ) (m : ℕ → Bool) → IsStanding schema r → IsAlready r i ⊎ IsDroppedEntry r.log i → AreFair r.log m (names_of r.parts) → AreFair r.log (with_mark i m) (names_of r.parts)
 fair-settled schema r i m s (inl (inl e)) f =
     fair-fewer r.log (with_mark i m) (λ j. m j || done_at r.done j) (names_of r.parts) (λ j l q. go j (nat_eq j i) refl q) (fair-both r.log m (done_at r.done) (names_of r.parts) f s.fair)
   where
@@ -109,7 +110,7 @@ fair-settled schema r i m s (inl (inr (inl k))) f =
 fair-settled schema r i m s (inl (inr (inr k))) f =
     fair-marked r.log i m (names_of r.parts) k.makes.entry k.name k.makes.stands k.makes.makes f (inl k.covered)
 fair-settled schema r i m s (inr k) f =
-    fair-marked r.log i m (names_of r.parts) k.makes.entry k.name k.makes.stands k.makes.makes f (inr k.gone)
+    fair-marked r.log i m (names_of r.parts) k.makes.entry k.name k.makes.stands k.makes.makes f (inr k.dropped)
 
 pub names-without : (p : Option ℕ) (n : ℕ) (parts : List Copied) → names_of (without_range p n parts) ≡ filter (λ a. not (in_drop p n a)) (names_of parts)
 names-without p n [] = refl
@@ -129,5 +130,5 @@ fair-swept schema r i m p n s q f =
 pub fair-served : (schema : Shape) (r : Replica) (i : ℕ) (m : ℕ → Bool) (part : Copied) → IsStanding schema r → Serves schema r i part → AreFair r.log m (names_of r.parts) → AreFair r.log (with_mark i m) (placed part.name (names_of r.parts))
 fair-served schema r i m part s v f =
     fair-installed schema r.log i m (names_of r.parts) v.fits.makes.entry v.fits.name part.name s.lawful v.fits.makes.stands v.fits.makes.makes f (made-at r.log part.place part.name v.of_copy) v.fits.covers
-    (λ d. v.fits.waits.not_dropped (record { name = v.fits.name; makes = v.fits.makes; gone = dropped-with schema r.log part.name v.fits.name s.lawful (made-at r.log i v.fits.name v.fits.makes) v.fits.covers (marked-dropped r.log m part.name d) }))
+    (λ d. v.fits.waits.not_dropped (record { name = v.fits.name; makes = v.fits.makes; dropped = dropped-with schema r.log part.name v.fits.name s.lawful (made-at r.log i v.fits.name v.fits.makes) v.fits.covers (marked-dropped r.log m part.name d) }))
     (λ x h c. v.fits.waits.open_entry (inr (inr (record { name = v.fits.name; makes = v.fits.makes; covered = record { name = x; is_in = h; covers = Covers-trans x part.name v.fits.name c v.fits.covers } }))))

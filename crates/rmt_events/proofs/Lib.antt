@@ -16,7 +16,3 @@ pub mod Converge
 pub mod Drains
 pub mod RunLemmas
 pub mod Started
-pub mod ComputedSteps
-pub mod WorkedDrop
-pub mod WorkedMerge
-pub mod WorkedKills

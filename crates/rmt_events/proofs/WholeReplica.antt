@@ -12,6 +12,7 @@ use Rattle.rmt_model.specs.Words.{Has, Each}
 use Rattle.rmt_model.specs.Live.{made, Dropped}
 use Rattle.rmt_model.specs.Lawful.{Lawful, entry_at, is_mutation, MakesAt, IsPrefix}
 use Rattle.rmt_model.specs.Fair.{CoveredBy, MadeAtMark}
+use Rattle.rmt_model.specs.EntryStates.{IsDroppedEntry}
 use Rattle.rmt_model.specs.CopiedParts.{Copied, names_of}
 use Rattle.rmt_model.proofs.Lists.{Each-at, Each-all, Has-filter, Has-kept, rank-injective}
 use Rattle.rmt_model.proofs.LiveLaws.{covered-placed, placed-new, Get-made}
@@ -19,7 +20,7 @@ use Rattle.rmt_model.proofs.Drops.{some-same, entry-cases}
 use Rattle.rmt_queue.specs.Marks.{done_at, grown}
 use Rattle.rmt_events.specs.Views.{Staged, Replica}
 use Rattle.rmt_events.specs.Sound.{IsSoundTable}
-use Rattle.rmt_events.specs.ReplicaCalls.{IsStanding, IsStaged, waits_at, staged_without, staged_after, IsDroppedEntry, IsAlready, with_entry_done, Settles, DoesDrop, DoesPart, without_range, Pulls}
+use Rattle.rmt_events.specs.ReplicaCalls.{IsStanding, IsStaged, waits_at, staged_without, staged_after, IsAlready, with_entry_done, Settles, DoesDrop, DoesPart, without_range, Pulls}
 use Rattle.rmt_events.proofs.FairSteps.{Serves}
 use Rattle.rmt_events.specs.Clusters.{Cluster}
 use Rattle.rmt_events.specs.Whole.{HasItsBlocks, IsRightlyStaged, KeepsBlock, IsKeptAt, Follows, IsWhole}
@@ -119,11 +120,11 @@ mutation-makes-none (Mutate old new upto count mcount) a q r = absurd (cc)
 mutation-makes-none (DropRange p n) a q r = absurd (cc)
 
 -- what is done, covered or dropped has its result covered or dropped
-answered-entry : (schema : Shape) (x : Replica) (i : ℕ) (e : Entry) (a : Name) → IsStanding schema x → IsAlready x i ⊎ IsDroppedEntry x i → entry_at x.log i ≡ Some e → result_name e ≡ Some a → CoveredBy (names_of x.parts) a ⊎ Dropped x.log a
+answered-entry : (schema : Shape) (x : Replica) (i : ℕ) (e : Entry) (a : Name) → IsStanding schema x → IsAlready x i ⊎ IsDroppedEntry x.log i → entry_at x.log i ≡ Some e → result_name e ≡ Some a → CoveredBy (names_of x.parts) a ⊎ Dropped x.log a
 answered-entry schema x i e a t (inl (inl d)) q r = t.fair.answered a (made-mark x.log i (done_at x.done) e a q r d)
 answered-entry schema x i e a t (inl (inr (inl k))) q r = absurd (mutation-makes-none e a (ap is_mutation (some-same e k.entry (sym q ∙ k.stands)) ∙ k.is) r)
 answered-entry schema x i e a t (inl (inr (inr k))) q r = inl (subst (CoveredBy (names_of x.parts)) (one-result x.log i e a k.name q r k.makes) k.covered)
-answered-entry schema x i e a t (inr k) q r = inr (subst (Dropped x.log) (one-result x.log i e a k.name q r k.makes) k.gone)
+answered-entry schema x i e a t (inr k) q r = inr (subst (Dropped x.log) (one-result x.log i e a k.name q r k.makes) k.dropped)
 
 -- the staged block of a Get that is done is needed no more
 kept-released : (x : Replica) (i : ℕ) (parts : List Copied) (p : Option ℕ) (n : ℕ) (digest : List ℕ) → KeepsBlock x p n digest

@@ -17,4 +17,3 @@ pub mod Steps
 pub mod Shown
 pub mod Starts
 pub mod Draws
-pub mod WorkedEvents

@@ -10,8 +10,9 @@ use Rattle.rmt_entries.specs.declared.entry.Entry.{Entry}
 use Rattle.rmt_entries.specs.declared.entry.Entry.TheVariants.{Get, DropRange}
 use Rattle.rmt_model.specs.Words.{Has, Each}
 use Rattle.rmt_model.specs.Live.{placed, in_drop, made, Dropped}
-use Rattle.rmt_model.specs.Lawful.{Lawful, MakesAt, entry_at, is_mutation}
+use Rattle.rmt_model.specs.Lawful.{Lawful, MakesAt, entry_at}
 use Rattle.rmt_model.specs.Fair.{CoveredBy, AreFair, AllMarked}
+use Rattle.rmt_model.specs.EntryStates as entries
 use Rattle.rmt_model.specs.CopiedParts.{Copied, IsCopied, names_of}
 use Rattle.rmt_queue.specs.Marks.{done_at, grown}
 use Rattle.rmt_events.specs.Views.{Block, Staged, Replica}
@@ -70,32 +71,13 @@ staged_after entry zs = zs
 
 -- ---- whether an entry is still to be done
 
--- an active part covers the part that the entry at the place makes
-pub record IsCoveredEntry (r : Replica) (i : ℕ) : Type 0 where
-  pub name : Name
-  pub makes : MakesAt r.log i name
-  pub covered : CoveredBy (names_of r.parts) name
-
--- a later drop takes away the part that the entry at the place makes
-pub record IsDroppedEntry (r : Replica) (i : ℕ) : Type 0 where
-  pub name : Name
-  pub makes : MakesAt r.log i name
-  pub gone : Dropped r.log name
-
--- the entry at the place is a Mutation
-pub record IsMutationEntry (r : Replica) (i : ℕ) : Type 0 where
-  pub entry : Entry
-  pub stands : entry_at r.log i ≡ Some entry
-  pub is : is_mutation entry ≡ true
-
 -- nothing is left to do for the entry at the place
 abbrev pub IsAlready : Replica → ℕ → Type 0
-IsAlready r i = (done_at r.done i ≡ true) ⊎ (IsMutationEntry r i ⊎ IsCoveredEntry r i)
+IsAlready r i = entries.IsAlready r.log (done_at r.done) (names_of r.parts) i
 
 -- the entry at the place is still to be done
-pub record Waits (r : Replica) (i : ℕ) : Type 0 where
-  pub open_entry : IsAlready r i → ⊥
-  pub not_dropped : IsDroppedEntry r i → ⊥
+abbrev pub Waits : Replica → ℕ → Type 0
+Waits r i = entries.Waits r.log (done_at r.done) (names_of r.parts) i
 
 -- ---- apply
 
@@ -122,7 +104,7 @@ pub record Fits (r : Replica) (i : ℕ) (part : Copied) : Type 0 where
 
 -- the entry is done, and nothing was to do
 pub record Settles (r : Replica) (i : ℕ) (s : Replica) : Type 0 where
-  pub cause : IsAlready r i ⊎ IsDroppedEntry r i
+  pub cause : IsAlready r i ⊎ entries.IsDroppedEntry r.log i
   pub change : s ≡ with_entry_done r i
 
 -- a drop is done

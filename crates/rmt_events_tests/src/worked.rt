@@ -8,7 +8,7 @@ ghost use Rattle.rmt_values.specs.Commands.{CommandFits};
 ghost use Rattle.rmt_events.specs.Clusters.{Cluster};
 ghost use Rattle.rmt_events.specs.Steps.{After};
 ghost use Rattle.rmt_events.specs.Draws.{draws};
-ghost use Rattle.rmt_events.specs.WorkedEvents.{Shared, IsRow, of_one_column, two_replicas, overtaken, in_flight, killed_beside, killed_at};
+ghost use Rattle.rmt_events_tests.specs.WorkedEvents.{Shared, IsRow, of_one_column, two_replicas, overtaken, in_flight, killed_beside, killed_at};
 
 /// A drop takes the lock of a block that isn't committed yet, which gets another number; and of two attempts of one block the
 /// first to be committed is accepted.

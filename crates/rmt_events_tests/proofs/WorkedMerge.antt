@@ -11,12 +11,12 @@ use Rattle.rmt_events.specs.Clusters.{Cluster}
 use Rattle.rmt_events.specs.Starts.{new_replica}
 use Rattle.rmt_events.specs.TableRefusals.{IsInFlight}
 use Rattle.rmt_events.specs.Steps.{Step, After}
-use Rattle.rmt_events.specs.WorkedEvents.{Shared, IsRow, of_one_column, two_replicas, in_flight}
+use Rattle.rmt_events_tests.specs.WorkedEvents.{Shared, IsRow, of_one_column, two_replicas, in_flight}
 use Rattle.rmt_events.specs.declared.step_refused.StepRefused.TheVariants as rf
 use Rattle.rmt_events.specs.declared.event.Event.TheVariants as ev
 use Rattle.rmt_events.specs.declared.reply.Reply.TheVariants as rp
-use Rattle.rmt_events.proofs.ComputedSteps.{with_event, allocated, allocates, staged, stages, committed, commits, pulled, pulls}
-use Rattle.rmt_events.proofs.WorkedDrop.{row_block, attempt_of, holding, under, lock_of, unkept}
+use Rattle.rmt_events_tests.proofs.ComputedSteps.{with_event, allocated, allocates, staged, stages, committed, commits, pulled, pulls}
+use Rattle.rmt_events_tests.proofs.WorkedDrop.{row_block, attempt_of, holding, under, lock_of, unkept}
 
 module _ (schema : Shape) (column : Column) (one two five : Shared) (d1 d2 d5 : List ℕ) (e1 : IsRow one 1 d1) (e2 : IsRow two 2 d2) (e5 : IsRow five 5 d5) (apart : bytes_eq d5 d1 ≡ false) where
   abbrev s0 : Cluster

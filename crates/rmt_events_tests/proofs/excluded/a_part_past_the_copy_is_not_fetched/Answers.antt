@@ -4,7 +4,7 @@ use Rattle.rmt_model.specs.CopiedParts.{IsCopied}
 use Rattle.rmt_model.proofs.Lists.{Each-at}
 use Rattle.rmt_model.proofs.Drops.{entry-below}
 use Rattle.rmt_events.specs.Whole.{Follows}
-use Rattle.rmt_events.proofs.excluded.a_part_past_the_copy_is_not_fetched.Goals as goal
+use Rattle.rmt_events_tests.proofs.excluded.a_part_past_the_copy_is_not_fetched.Goals as goal
 
 pub returns-clause-no_step : goal.returns-clause-no_step
 returns-clause-no_step c = λ s x i part past k. let w = k.within in omega (arith, past, w)

@@ -1,5 +1,5 @@
-use Rattle.rmt_events.proofs.WorkedKills.{beside, at-home}
-use Rattle.rmt_events.proofs.worked.a_replica_is_killed_between_every_two_events.Goals as goal
+use Rattle.rmt_events_tests.proofs.WorkedKills.{beside, at-home}
+use Rattle.rmt_events_tests.proofs.worked.a_replica_is_killed_between_every_two_events.Goals as goal
 
 pub returns-clause-beside : goal.returns-clause-beside
 returns-clause-beside c = λ schema column one d1 e1. beside schema column one d1 e1

@@ -1,6 +1,6 @@
 use Rattle.std.proofs.Common.{◌≡◌, sym, ◌∙◌}
 use Rattle.std.specs.declared.option.Option.TheVariants.{Some, None}
-use Rattle.rmt_events.proofs.excluded.a_kept_block_is_not_committed.Goals as goal
+use Rattle.rmt_events_tests.proofs.excluded.a_kept_block_is_not_committed.Goals as goal
 
 apart : {A : Type 0} (a : A) → Some a ≡ None → ⊥
 apart a e = absurd (cc)

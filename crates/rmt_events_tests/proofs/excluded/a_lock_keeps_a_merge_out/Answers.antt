@@ -2,7 +2,7 @@ use Rattle.std.proofs.Common.{sym, subst, ◌∙◌, ◌≤◌}
 use Rattle.rmt_names.specs.Names.{Spans}
 use Rattle.rmt_model.proofs.Lists.{Each-at}
 use Rattle.rmt_events.specs.Views.{Lock}
-use Rattle.rmt_events.proofs.excluded.a_lock_keeps_a_merge_out.Goals as goal
+use Rattle.rmt_events_tests.proofs.excluded.a_lock_keeps_a_merge_out.Goals as goal
 
 pub returns : goal.returns
 returns c = λ old new a sources count p n l h k.

@@ -4,7 +4,7 @@ use Rattle.rmt_model.specs.Words.{Has}
 use Rattle.rmt_model.proofs.Lists.{Each-at}
 use Rattle.rmt_model.proofs.Drops.{entry-has}
 use Rattle.rmt_events.specs.Whole.{Follows}
-use Rattle.rmt_events.proofs.excluded.a_get_has_its_block.Goals as goal
+use Rattle.rmt_events_tests.proofs.excluded.a_get_has_its_block.Goals as goal
 
 pub returns : goal.returns
 returns c = λ s i p n source need digest q none w.

@@ -16,13 +16,13 @@ use Rattle.rmt_events.specs.ReplicaCalls.{with_entry_done, without_range}
 use Rattle.rmt_events.specs.Clusters.{Cluster, with_replica}
 use Rattle.rmt_events.specs.Starts.{new_replica}
 use Rattle.rmt_events.specs.Steps.{Step, After}
-use Rattle.rmt_events.specs.WorkedEvents.{Shared, IsRow, of_one_column, two_replicas, killed_beside, killed_at}
+use Rattle.rmt_events_tests.specs.WorkedEvents.{Shared, IsRow, of_one_column, two_replicas, killed_beside, killed_at}
 use Rattle.rmt_events.specs.declared.applied.Applied.TheVariants as ap_
 use Rattle.rmt_events.specs.declared.step_refused.StepRefused.TheVariants as rf
 use Rattle.rmt_events.specs.declared.event.Event.TheVariants as ev
 use Rattle.rmt_events.specs.declared.reply.Reply.TheVariants as rp
-use Rattle.rmt_events.proofs.ComputedSteps.{with_event, allocated, allocates, staged, stages, committed, commits, lock-gone, dropped, drops, pulled, pulls, down, killed, kills, restarted, restarts, no-session}
-use Rattle.rmt_events.proofs.WorkedDrop.{row_block, attempt_of, holding, under, lock_of}
+use Rattle.rmt_events_tests.proofs.ComputedSteps.{with_event, allocated, allocates, staged, stages, committed, commits, lock-gone, dropped, drops, pulled, pulls, down, killed, kills, restarted, restarts, no-session}
+use Rattle.rmt_events_tests.proofs.WorkedDrop.{row_block, attempt_of, holding, under, lock_of}
 
 -- an entry that is no mutation
 no-mutation : (e f : Entry) → ◌≡◌ {A = Option Entry} (Some e) (Some f) → is_mutation f ≡ true → is_mutation e ≡ false → ⊥
@@ -120,7 +120,7 @@ module _ (schema : Shape) (column : Column) (one : Shared) (d1 : List ℕ) (e1 :
           (let k : 0 < 2 = omega arith in k),
           (
             λ h. elim h [ inl e ↦ absurd (cc) | inr (inl m) ↦ no-mutation (Get None 0 d1 2 0) m.entry m.stands m.is refl | inr (inr c) ↦ c.covered.is_in ],
-            record { cause = inr (record { name = block_name None 0; makes = record { entry = Get None 0 d1 2 0; stands = refl; makes = refl }; gone = inr (inl refl, (refl, (let k : 0 ≤ 1 = omega arith in k))) }); change = refl },
+            record { cause = inr (record { name = block_name None 0; makes = record { entry = Get None 0 d1 2 0; stands = refl; makes = refl }; dropped = inr (inl refl, (refl, (let k : 0 ≤ 1 = omega arith in k))) }); change = refl },
           ),
         );
         change = refl;

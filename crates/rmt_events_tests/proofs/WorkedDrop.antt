@@ -14,11 +14,11 @@ use Rattle.rmt_events.specs.Clusters.{Attempt, Cluster}
 use Rattle.rmt_events.specs.Starts.{new_replica}
 use Rattle.rmt_events.specs.TableCalls.{kept_part}
 use Rattle.rmt_events.specs.Steps.{Step, After}
-use Rattle.rmt_events.specs.WorkedEvents.{Shared, IsRow, of_one_column, two_replicas, overtaken}
+use Rattle.rmt_events_tests.specs.WorkedEvents.{Shared, IsRow, of_one_column, two_replicas, overtaken}
 use Rattle.rmt_events.specs.declared.step_refused.StepRefused.TheVariants as rf
 use Rattle.rmt_events.specs.declared.event.Event.TheVariants as ev
 use Rattle.rmt_events.specs.declared.reply.Reply.TheVariants as rp
-use Rattle.rmt_events.proofs.ComputedSteps.{with_event, allocated, allocates, staged, stages, committed, commits, lock-gone, ended, loses, renewed, renews, with_mutation, creates, dropped, drops}
+use Rattle.rmt_events_tests.proofs.ComputedSteps.{with_event, allocated, allocates, staged, stages, committed, commits, lock-gone, ended, loses, renewed, renews, with_mutation, creates, dropped, drops}
 
 -- bytes equal themselves
 bytes-same : (d : List ℕ) → bytes_eq d d ≡ true

@@ -21,7 +21,7 @@ use Rattle.rmt_events.specs.ClusterChanges.{IsNumbered, IsAttempt, attempts_with
 use Rattle.rmt_events.specs.TableRefusals.{HasQuorum}
 use Rattle.rmt_events.specs.InsertEvents.{HasStaged, BeginsAttempt, LostFor}
 use Rattle.rmt_events.specs.Steps.{Step}
-use Rattle.rmt_events.specs.WorkedEvents.{Shared}
+use Rattle.rmt_events_tests.specs.WorkedEvents.{Shared}
 use Rattle.rmt_events.specs.declared.event.Event.{Event}
 use Rattle.rmt_events.specs.declared.reply.Reply.{Reply}
 use Rattle.rmt_events.specs.declared.step_refused.StepRefused.{StepRefused}

@@ -1,0 +1,4 @@
+pub mod ComputedSteps
+pub mod WorkedDrop
+pub mod WorkedMerge
+pub mod WorkedKills
