@@ -16,7 +16,7 @@ use Rattle.rmt_table.specs.declared.merge_error.MergeError.TheVariants as merge
 use Rattle.rmt_table.specs.declared.mutate_error.MutateError.{MutateError}
 use Rattle.rmt_table.specs.declared.mutate_error.MutateError.TheVariants as mutate
 use Rattle.rmt_replica.specs.Replicas.{ReplicaView}
-use Rattle.rmt_replica_view.specs.Shown.{shown}
+use Rattle.rmt_replica.specs.SeenReplica.{shown}
 use Rattle.rmt_events.specs.Views.{Table}
 use Rattle.rmt_events.specs.Clusters.{Attempt, Cluster}
 use Rattle.rmt_events.specs.ClusterChanges.{IsUp, Declines}

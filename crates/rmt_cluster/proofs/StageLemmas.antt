@@ -13,9 +13,9 @@ use Rattle.rmt_replica.specs.StagedBlocks.{staged_at, with_staged, without}
 use Rattle.rmt_replica.specs.Replicas.{ReplicaView, IsStandingReplica}
 use Rattle.rmt_replica.specs.declared.replica_error.ReplicaError.{ReplicaError}
 use Rattle.rmt_replica.specs.declared.replica_error.ReplicaError.TheVariants as errors
-use Rattle.rmt_replica_view.specs.Shown.{shown}
-use Rattle.rmt_replica_view.proofs.StagedOrder.{found, missing}
-use Rattle.rmt_replica_view.proofs.CallViews.{stages-seen, unstages-seen}
+use Rattle.rmt_replica.specs.SeenReplica.{shown}
+use Rattle.rmt_replica.proofs.StagedViews.{found, missing}
+use Rattle.rmt_replica.proofs.CallViews.{stages-seen, unstages-seen}
 use Rattle.rmt_events.specs.Views.{Replica}
 use Rattle.rmt_events.specs.Clusters.{with_replica, without_kinds}
 use Rattle.rmt_events.specs.ReplicaCalls.{Stages, Unstages}

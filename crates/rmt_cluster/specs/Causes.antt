@@ -18,9 +18,6 @@ use Rattle.rmt_table.specs.declared.merge_error.MergeError.TheVariants as merge
 use Rattle.rmt_table.specs.declared.mutate_error.MutateError.{MutateError}
 use Rattle.rmt_table.specs.declared.mutate_error.MutateError.TheVariants as mutate
 use Rattle.rmt_events.specs.declared.applied.Applied.{Applied}
-use Rattle.rmt_events.specs.declared.applied.Applied.TheVariants as came
-use Rattle.rmt_replica.specs.declared.applied.Applied.{Applied as Done}
-use Rattle.rmt_replica.specs.declared.applied.Applied.TheVariants as done
 use Rattle.rmt_replica.specs.declared.apply_error.ApplyError.{ApplyError}
 use Rattle.rmt_replica.specs.declared.apply_error.ApplyError.TheVariants as apply
 use Rattle.rmt_events.specs.declared.step_refused.StepRefused.{StepRefused}
@@ -73,12 +70,6 @@ IsMutateReply place (Err (mutate.LogMoved seen found)) reply = reply ≡ Ok (rp.
 IsMutateReply place (Err (mutate.LimitReached limit value)) reply = reply ≡ Ok (rp.Refused (rf.LimitReached limit value))
 IsMutateReply place (Err mutate.Memory) reply = IsErr reply
 
--- what an entry came to at its replica
-abbrev pub what_came : Done → Applied
-what_came done.Already = came.Already
-what_came done.Dropped = came.Dropped
-what_came done.Installed = came.Installed
-
 -- why an entry wasn't done
 abbrev pub apply_cause : ApplyError → Option StepRefused
 apply_cause apply.Down = Some rf.Down
@@ -86,6 +77,6 @@ apply_cause (apply.NeedsPart part) = Some (rf.NeedsPart part)
 apply_cause apply.Memory = None
 
 -- the reply to an entry that a replica looked at; none where no memory was left
-abbrev pub IsApplyReply : Result Done ApplyError → Result Reply AllocError → Type 0
-IsApplyReply (Ok d) reply = reply ≡ Ok (rp.Applied (what_came d))
+abbrev pub IsApplyReply : Result Applied ApplyError → Result Reply AllocError → Type 0
+IsApplyReply (Ok d) reply = reply ≡ Ok (rp.Applied d)
 IsApplyReply (Err error) reply = MatchOption (apply_cause error) (IsErr reply) (λ why. reply ≡ Ok (rp.Refused why))

@@ -7,7 +7,7 @@ use Rattle.rmt_model.specs.Words.{Has}
 use Rattle.rmt_table_model.specs.Held.{Held}
 use Rattle.rmt_table.specs.TableTrees.{table_at, IsCopyOf}
 use Rattle.rmt_replica.specs.Replicas.{ReplicaView, copy_of}
-use Rattle.rmt_replica_view.specs.Shown.{shown}
+use Rattle.rmt_replica.specs.SeenReplica.{shown}
 use Rattle.rmt_events.specs.Views.{Block, Replica}
 use Rattle.rmt_events.specs.Clusters.{Attempt, Cluster, with_replica}
 use Rattle.rmt_events.specs.ClusterChanges.{IsNumbered, AtReplica, IsDown}

@@ -10,7 +10,7 @@ ghost use Rattle.rmt_events.specs.Shown.{names_and_rows, read_rows};
 ghost use Rattle.rmt_events.specs.Steps.{Step};
 ghost use Rattle.rmt_events.specs.Whole.{HasReplica, IsWhole};
 ghost use Rattle.rmt_table.specs.TableTrees.{table_at};
-ghost use Rattle.rmt_replica_view.specs.Shown.{shown};
+ghost use Rattle.rmt_replica.specs.SeenReplica.{shown};
 ghost use Rattle.rmt_cluster.specs.NewClusters.{IsNewCluster};
 ghost use Rattle.rmt_cluster.specs.Clusters.{IsNumber, MayStep, Stops};
 
