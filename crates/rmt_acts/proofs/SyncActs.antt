@@ -110,7 +110,7 @@ is-lacking s u k a source w up e t h = record {
     kept = λ d. l.waits.waits.not_dropped (record {
       name = block_name l.partition l.number;
       makes = record { entry = Get l.partition l.number l.digest source l.need; stands = l.waits.at; makes = refl };
-      gone = subst (λ (log : List Entry). Dropped log (block_name l.partition l.number)) (sym same-log) d;
+      dropped = subst (λ (log : List Entry). Dropped log (block_name l.partition l.number)) (sym same-log) d;
     });
     down = ap (λ (f : ℕ → Bool). f source) (sym ups-are) ∙ down-told u source whole l.down;
     unknown = nowhere k up;

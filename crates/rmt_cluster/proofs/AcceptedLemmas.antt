@@ -14,8 +14,8 @@ use Rattle.rmt_model.specs.Content.{Row}
 use Rattle.rmt_model.proofs.Lists.{Each-at}
 use Rattle.rmt_replica.specs.Replicas.{ReplicaView, IsStandingReplica}
 use Rattle.rmt_replica.specs.StagedBlocks.{staged_at}
-use Rattle.rmt_replica_view.specs.Shown.{shown}
-use Rattle.rmt_replica_view.proofs.StagedOrder.{found}
+use Rattle.rmt_replica.specs.SeenReplica.{shown}
+use Rattle.rmt_replica.proofs.StagedViews.{found}
 use Rattle.rmt_events.specs.Views.{Block}
 use Rattle.rmt_events.specs.Clusters.{Cluster, block_of, committed_at, without_kinds}
 use Rattle.rmt_events.specs.Whole.{Follows, IsRightlyStaged, IsCommitted}

@@ -24,13 +24,11 @@ use Rattle.rmt_replica.specs.Supplies.{supplied}
 use Rattle.rmt_replica.specs.Answers as own
 use Rattle.rmt_replica.specs.declared.supply.Supply.{Supply}
 use Rattle.rmt_replica.specs.declared.supply.Supply.TheVariants.{Nothing, Built, Fetched}
-use Rattle.rmt_replica.specs.declared.applied.Applied.{Applied as Done}
-use Rattle.rmt_replica.specs.declared.applied.Applied.TheVariants as done
 use Rattle.rmt_replica.specs.declared.apply_error.ApplyError.{ApplyError}
 use Rattle.rmt_replica.specs.declared.apply_error.ApplyError.TheVariants as errors
-use Rattle.rmt_replica_view.specs.Shown.{shown}
-use Rattle.rmt_replica_view.proofs.StateViews.{already-same, waits-same}
-use Rattle.rmt_replica_view.proofs.CallViews.{settles-seen, drop-seen, part-seen}
+use Rattle.rmt_replica.specs.SeenReplica.{shown}
+use Rattle.rmt_replica.proofs.StateViews.{already-same, waits-same}
+use Rattle.rmt_replica.proofs.CallViews.{settles-seen, drop-seen, part-seen}
 use Rattle.rmt_events.specs.Views.{Replica}
 use Rattle.rmt_events.specs.Clusters.{Attempt, Cluster}
 use Rattle.rmt_events.specs.ClusterChanges.{AtReplica}
@@ -41,13 +39,14 @@ use Rattle.rmt_events.specs.declared.event.Event.TheVariants as ev
 use Rattle.rmt_events.specs.declared.reply.Reply.{Reply}
 use Rattle.rmt_events.specs.declared.reply.Reply.TheVariants as rp
 use Rattle.rmt_events.specs.declared.step_refused.StepRefused.TheVariants as rf
+use Rattle.rmt_events.specs.declared.applied.Applied.{Applied}
 use Rattle.rmt_events.specs.declared.applied.Applied.TheVariants as came
 use Rattle.rmt_supply.specs.declared.found.Found.{Found}
 use Rattle.rmt_supply.specs.declared.found.Found.TheVariants as found
 use Rattle.rmt_supply.specs.PartSources.{AreOfOneTable, IsClusterOf, Does, Suits, IsMissing, IsFoundFor}
 use Rattle.rmt_state.specs.States.{StateView, Belongs, AreNumbered, IsState, cluster_of, Acts}
 use Rattle.rmt_cluster.specs.Acting.{KeepsAccepted}
-use Rattle.rmt_cluster.specs.Causes.{IsApplyReply, what_came}
+use Rattle.rmt_cluster.specs.Causes.{IsApplyReply}
 use Rattle.rmt_state.proofs.StateLemmas.{at-place}
 use Rattle.rmt_state.proofs.PullLemmas.{changed-at, down-in}
 use Rattle.rmt_state.proofs.AssignLemmas.{IsWorker, up-at, declined}
@@ -103,13 +102,13 @@ supply-seen rs x i (Fetched p) part z c u g =
     subst (λ (q : PartValue). IsSupply z (shown x) i (copied q)) e (elim (u.1 z c) [ inl h ↦ inr (inr (inl h)) | inr h ↦ inr (inr (inr h)) ])
 
 -- what an entry came to at a replica that changed so
-came-to : (s : StateView) (k j : ℕ) (x y : ReplicaView) (i : ℕ) (supply : Supply) (d : Done) → IsWorker s k j x → IsStandingReplica x → Suits s.replicas x i supply → own.IsAnswer x i supply (Ok d) → own.IsChange x i supply (Ok d) y
-    → (made : ℕ) (attempts : List Attempt) (events : List (Event × Reply)) → AppliesTo (cluster_of s made attempts events) i (what_came d) (shown x) (shown y)
-came-to s k j x y i supply done.Already w t u a c made attempts events =
+came-to : (s : StateView) (k j : ℕ) (x y : ReplicaView) (i : ℕ) (supply : Supply) (d : Applied) → IsWorker s k j x → IsStandingReplica x → Suits s.replicas x i supply → own.IsAnswer x i supply (Ok d) → own.IsChange x i supply (Ok d) y
+    → (made : ℕ) (attempts : List Attempt) (events : List (Event × Reply)) → AppliesTo (cluster_of s made attempts events) i d (shown x) (shown y)
+came-to s k j x y i supply came.Already w t u a c made attempts events =
     ((already-same x i).0 a.1, subst (λ (v : ReplicaView). Settles (shown x) i (shown v)) (sym c) (settles-seen x i t.waiting (inl a.1)))
-came-to s k j x y i supply done.Dropped w t u a c made attempts events =
+came-to s k j x y i supply came.Dropped w t u a c made attempts events =
     (λ h. a.1 ((already-same x i).1 h), subst (λ (v : ReplicaView). Settles (shown x) i (shown v)) (sym c) (settles-seen x i t.waiting (inr a.2)))
-came-to s k j x y i supply done.Installed w t u a c made attempts events = go a.2
+came-to s k j x y i supply came.Installed w t u a c made attempts events = go a.2
   where
     z : Cluster
     z = cluster_of s made attempts events
@@ -127,13 +126,13 @@ came-to s k j x y i supply done.Installed w t u a c made attempts events = go a.
           does = part-seen x i h.0 v.part y t ((waits-same x i).0 a.1) h.1 v.covers (c.others ∙ ap (λ (ps : List PartValue). record (own.settled x i) { parts = ps }) parts);
         })
 
-apply-acts : (s : StateView) (k j : ℕ) (x y : ReplicaView) (i : ℕ) (supply : Supply) (d : Done) → IsWorker s k j x → IsStandingReplica x → x.up ≡ true → i < length x.log → Suits s.replicas x i supply → own.IsAnswer x i supply (Ok d) → own.IsChange x i supply (Ok d) y
-    → Acts s (ev.Apply k i) (rp.Applied (what_came d)) (record s { replicas = slice_set s.replicas j y })
+apply-acts : (s : StateView) (k j : ℕ) (x y : ReplicaView) (i : ℕ) (supply : Supply) (d : Applied) → IsWorker s k j x → IsStandingReplica x → x.up ≡ true → i < length x.log → Suits s.replicas x i supply → own.IsAnswer x i supply (Ok d) → own.IsChange x i supply (Ok d) y
+    → Acts s (ev.Apply k i) (rp.Applied d) (record s { replicas = slice_set s.replicas j y })
 apply-acts s k j x y i supply d w t u l f a c made attempts events =
     let z = cluster_of s made attempts events in
-    let D : Replica → Replica → Type 0 = λ v o. (i < length v.log) × AppliesTo z i (what_came d) v o in
+    let D : Replica → Replica → Type 0 = λ v o. (i < length v.log) × AppliesTo z i d v o in
     inl (record {
-      comes = what_came d;
+      comes = d;
       at = subst (λ m. AtReplica z m D (cluster_of (record s { replicas = slice_set s.replicas j y }) made attempts events)) (sym w.numbered)
           (changed-at s (record s { replicas = slice_set s.replicas j y }) j x y D w.state w.there u (l, came-to s k j x y i supply d w t f a c made attempts events) refl refl made attempts events);
       answer = refl;
@@ -211,7 +210,7 @@ apply-lacks s k i j x a w u l m = let e = entry-within x.log i l in apply-missin
 
 -- ---- told by the replica's call
 
-pub apply-told : (s : StateView) (k j : ℕ) (x y : ReplicaView) (i : ℕ) (supply : Supply) (r : Result Done ApplyError) (q : Result Reply AllocError) → IsWorker s k j x → IsStandingReplica x → x.up ≡ true → i < length x.log → Suits s.replicas x i supply → own.IsAnswer x i supply r → own.IsChange x i supply r y
+pub apply-told : (s : StateView) (k j : ℕ) (x y : ReplicaView) (i : ℕ) (supply : Supply) (r : Result Applied ApplyError) (q : Result Reply AllocError) → IsWorker s k j x → IsStandingReplica x → x.up ≡ true → i < length x.log → Suits s.replicas x i supply → own.IsAnswer x i supply r → own.IsChange x i supply r y
     → IsApplyReply r q → IfOk q (λ reply. Acts s (ev.Apply k i) reply (record s { replicas = slice_set s.replicas j y }))
 apply-told s k j x y i supply (Ok d) q w t u l f a c e =
     subst (λ (o : Result Reply AllocError). IfOk o (λ reply. Acts s (ev.Apply k i) reply (record s { replicas = slice_set s.replicas j y }))) (sym e) (apply-acts s k j x y i supply d w t u l f a c)

@@ -10,7 +10,7 @@ use Rattle.rmt_model.proofs.Lists.{Each-at, Has-filter}
 use Rattle.rmt_model.specs.BlockNumbers.{next_number, with_next, next_numbers_after}
 use Rattle.rmt_table.specs.TableTrees.{table_at}
 use Rattle.rmt_replica.specs.Replicas.{ReplicaView}
-use Rattle.rmt_replica_view.specs.Shown.{shown}
+use Rattle.rmt_replica.specs.SeenReplica.{shown}
 use Rattle.rmt_events.specs.Views.{Replica, Table}
 use Rattle.rmt_events.specs.Clusters.{Attempt, Cluster, with_replica, without_kinds}
 use Rattle.std.specs.Arc.{arc_value}

@@ -6,7 +6,7 @@ use Rattle.rmt_table_model.specs.Held.{Held}
 use Rattle.rmt_table.specs.declared.lock.Lock.{Lock}
 use Rattle.rmt_table.specs.TableTrees.{table_at}
 use Rattle.rmt_replica.specs.Replicas.{ReplicaView}
-use Rattle.rmt_replica_view.specs.Shown.{shown}
+use Rattle.rmt_replica.specs.SeenReplica.{shown}
 use Rattle.rmt_events.specs.Views.{Block, Replica, Table}
 use Rattle.rmt_events.specs.Clusters.{Attempt, values_of, with_replica}
 use Rattle.rmt_events.specs.TableCalls.{IsLocked, Allocates, Commits, Unlocks}

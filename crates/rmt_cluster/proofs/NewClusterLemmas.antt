@@ -4,7 +4,7 @@ use Rattle.rmt_values.specs.Rows.{Shape}
 use Rattle.rmt_model.specs.Words.{Has, Each}
 use Rattle.rmt_table_model.specs.Held.{Held}
 use Rattle.rmt_replica.specs.Replicas.{ReplicaView}
-use Rattle.rmt_replica_view.specs.Shown.{shown}
+use Rattle.rmt_replica.specs.SeenReplica.{shown}
 use Rattle.rmt_events.specs.Clusters.{Attempt}
 use Rattle.rmt_events.specs.Whole.{IsWhole}
 use Rattle.rmt_events.specs.declared.event.Event.{Event}

@@ -15,7 +15,7 @@ use Rattle.rmt_part.specs.Lineages.{PartValue}
 use Rattle.rmt_part.specs.CopiedPart.{copied}
 use Rattle.rmt_compact.proofs.SentLemmas.{length-in_key_order}
 use Rattle.rmt_replica.specs.Replicas.{ReplicaView}
-use Rattle.rmt_replica_view.specs.Shown.{shown}
+use Rattle.rmt_replica.specs.SeenReplica.{shown}
 use Rattle.rmt_supply.specs.PartSources.{HasSmallParts, AreSmall}
 use Rattle.rmt_events.specs.Views.{Replica}
 use Rattle.rmt_events.specs.Clusters.{Accepted, Cluster, rows_at, accepted, values_in}

@@ -29,7 +29,7 @@ use Rattle.rmt_replica.specs.Parts.{IsMadeIn}
 use Rattle.rmt_replica.specs.Replicas.{ReplicaView, IsStandingReplica}
 use Rattle.rmt_replica.specs.declared.replica_error.ReplicaError.{ReplicaError}
 use Rattle.rmt_replica.specs.declared.replica_error.ReplicaError.TheVariants as errors
-use Rattle.rmt_replica_view.specs.Shown.{shown}
+use Rattle.rmt_replica.specs.SeenReplica.{shown}
 use Rattle.rmt_events.specs.Views.{Replica}
 use Rattle.rmt_events.specs.Clusters.{Cluster}
 use Rattle.rmt_events.specs.Whole.{HasReplica, IsWhole}

@@ -15,7 +15,7 @@ use Rattle.rmt_model.specs.Lawful.{IsPrefix}
 use Rattle.rmt_history.proofs.ListLemmas.{get-has}
 use Rattle.rmt_table_model.specs.Held.{Held}
 use Rattle.rmt_replica.specs.Replicas.{ReplicaView}
-use Rattle.rmt_replica_view.specs.Shown.{shown}
+use Rattle.rmt_replica.specs.SeenReplica.{shown}
 use Rattle.rmt_events.specs.Views.{Replica}
 use Rattle.rmt_events.specs.Clusters.{Attempt, Cluster}
 use Rattle.rmt_events.specs.Draws.{Runs, stepped, drawn, pending, chosen, next_mutation_among, turn, turn_with, turn_at, apply_or_pull, merge_or_pull, mutate_or_pull}

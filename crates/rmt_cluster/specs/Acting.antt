@@ -5,7 +5,7 @@ use Rattle.rmt_entries.specs.declared.entry.Entry.{Entry}
 use Rattle.rmt_model.specs.Words.{Has}
 use Rattle.rmt_model.specs.Lawful.{entry_at}
 use Rattle.rmt_replica.specs.Replicas.{ReplicaView, IsStandingReplica}
-use Rattle.rmt_replica_view.specs.Shown.{shown}
+use Rattle.rmt_replica.specs.SeenReplica.{shown}
 use Rattle.rmt_supply.specs.PartSources.{staged_for, IsAccepted}
 use Rattle.rmt_events.specs.Views.{Replica, Staged}
 use Rattle.rmt_events.specs.Clusters.{Attempt}

@@ -11,9 +11,6 @@ use Rattle.std.specs.declared.option.Option.TheVariants.{Some, None}
 use Rattle.rmt_table.specs.declared.commit_error.CommitError.{CommitError}
 use Rattle.rmt_table.specs.declared.commit_error.CommitError.TheVariants as commit
 use Rattle.rmt_events.specs.declared.applied.Applied.{Applied}
-use Rattle.rmt_events.specs.declared.applied.Applied.TheVariants as came
-use Rattle.rmt_replica.specs.declared.applied.Applied.{Applied as Done}
-use Rattle.rmt_replica.specs.declared.applied.Applied.TheVariants as done
 use Rattle.rmt_replica.specs.declared.apply_error.ApplyError.{ApplyError}
 use Rattle.rmt_replica.specs.declared.apply_error.ApplyError.TheVariants as apply
 use Rattle.rmt_events.specs.declared.step_refused.StepRefused.{StepRefused}
@@ -28,12 +25,6 @@ is_final (commit.QuorumPending part) = true
 is_final (commit.Duplicate part) = true
 is_final (commit.LimitReached limit value) = true
 
--- what an entry came to at its replica
-abbrev pub what_came : Done → Applied
-what_came done.Already = came.Already
-what_came done.Dropped = came.Dropped
-what_came done.Installed = came.Installed
-
 -- why an entry wasn't done
 abbrev pub apply_cause : ApplyError → Option StepRefused
 apply_cause apply.Down = Some rf.Down
@@ -41,6 +32,6 @@ apply_cause (apply.NeedsPart part) = Some (rf.NeedsPart part)
 apply_cause apply.Memory = None
 
 -- the reply to an entry that a replica looked at; none where no memory was left
-abbrev pub IsApplyReply : Result Done ApplyError → Result Reply AllocError → Type 0
-IsApplyReply (Ok d) reply = reply ≡ Ok (rp.Applied (what_came d))
+abbrev pub IsApplyReply : Result Applied ApplyError → Result Reply AllocError → Type 0
+IsApplyReply (Ok d) reply = reply ≡ Ok (rp.Applied d)
 IsApplyReply (Err error) reply = MatchOption (apply_cause error) (IsErr reply) (λ why. reply ≡ Ok (rp.Refused why))

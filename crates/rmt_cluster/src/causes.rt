@@ -1,9 +1,9 @@
 //! Why a call on the state did nothing, as an event is answered.
 ghost use Rattle.std.specs.Prelude.{◌≡◌};
-ghost use Rattle.rmt_cluster.specs.Causes.{IsApplyReply, apply_cause, what_came, is_final as ends_attempt};
+ghost use Rattle.rmt_cluster.specs.Causes.{IsApplyReply, apply_cause, is_final as ends_attempt};
 
 use rmt_events::{Applied, Reply, StepRefused};
-use rmt_replica::{Applied as Done, ApplyError};
+use rmt_replica::ApplyError;
 use rmt_table::CommitError;
 use std::alloc::AllocError;
 
@@ -20,17 +20,6 @@ pub(crate) fn is_final(error: &CommitError) -> bool
     }
 }
 
-/// What an entry came to at its replica, as an event is answered.
-fn what_it_came_to(done: Done) -> Applied
-    ensures { result ≡ what_came done }
-{
-    match done {
-        Done::Already => Applied::Already,
-        Done::Dropped => Applied::Dropped,
-        Done::Installed => Applied::Installed,
-    }
-}
-
 /// Why an entry wasn't done; `None` where no memory was left.
 fn no_apply(error: &ApplyError) -> Option<StepRefused>
     ensures { result ≡ apply_cause error.now }
@@ -43,11 +32,11 @@ fn no_apply(error: &ApplyError) -> Option<StepRefused>
 }
 
 /// The reply to an entry that a replica looked at. At an error no memory was left.
-pub(crate) fn apply_reply(answer: Result<Done, ApplyError>) -> Result<Reply, AllocError>
+pub(crate) fn apply_reply(answer: Result<Applied, ApplyError>) -> Result<Reply, AllocError>
     ensures { IsApplyReply answer result }
 {
     let error = match answer {
-        Ok(done) => return Ok(Reply::Applied(what_it_came_to(done))),
+        Ok(done) => return Ok(Reply::Applied(done)),
         Err(error) => error,
     };
     match no_apply(&error) {

@@ -11,7 +11,7 @@ ghost use Rattle.rmt_events.specs.Steps.{Step};
 ghost use Rattle.rmt_events.specs.Whole.{HasReplica, IsWhole};
 ghost use Rattle.rmt_events.specs.ClusterChanges.{KeepsTable};
 ghost use Rattle.rmt_table.specs.TableTrees.{table_at};
-ghost use Rattle.rmt_replica_view.specs.Shown.{shown};
+ghost use Rattle.rmt_replica.specs.SeenReplica.{shown};
 ghost use Rattle.rmt_cluster.specs.NewClusters.{IsNewCluster};
 ghost use Rattle.rmt_state.specs.States.{IsNumber};
 ghost use Rattle.rmt_cluster.specs.Clusters.{MayStep, Stops};

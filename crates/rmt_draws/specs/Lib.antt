@@ -1,3 +1,3 @@
 pub use Rattle.rmt_events.specs.Draws
-pub use Rattle.rmt_replica_view.specs.Shown
+pub use Rattle.rmt_replica.specs.SeenReplica
 pub mod Turns

@@ -3,7 +3,7 @@
 -- draw gives is this program's own.
 use Rattle.std.specs.Prelude.{◌≡◌, ℕ, List, map}
 use Rattle.rmt_replica.specs.Replicas.{ReplicaView}
-use Rattle.rmt_replica_view.specs.Shown.{shown}
+use Rattle.rmt_replica.specs.SeenReplica.{shown}
 use Rattle.rmt_events.specs.Clusters.{Cluster}
 use Rattle.rmt_events.specs.Draws.{turn}
 use Rattle.rmt_events.specs.declared.event.Event.{Event}

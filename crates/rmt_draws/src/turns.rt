@@ -2,7 +2,7 @@
 ghost use Rattle.std.specs.Prelude.{◌≡◌, ◌<◌, ◌≤◌, ◌^◌, IfOk, IfSome, cond, length, slice_get};
 ghost use Rattle.rmt_model.specs.Words.{Has};
 ghost use Rattle.rmt_replica.specs.Replicas.{ReplicaView};
-ghost use Rattle.rmt_replica_view.specs.Shown.{shown};
+ghost use Rattle.rmt_replica.specs.SeenReplica.{shown};
 ghost use Rattle.rmt_events.specs.declared.event.Event.TheVariants as ev;
 ghost use Rattle.rmt_events.specs.Draws.{chosen, next_mutation as mutation_next, pending, turn_at as turn_at_replica, apply_or_pull as apply_or_pull_turn, merge_or_pull as merge_or_pull_event, mutate_or_pull as mutate_or_pull_event};
 ghost use Rattle.rmt_draws.specs.Turns.{IsTurn};

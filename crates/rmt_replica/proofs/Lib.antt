@@ -7,3 +7,6 @@ pub mod RestartLemmas
 pub mod PullLemmas
 pub mod StepLemmas
 pub mod Agreement
+pub mod StagedViews
+pub mod StateViews
+pub mod CallViews

@@ -17,7 +17,8 @@ use Rattle.rmt_model.proofs.Drops.{some-same, entry-below, entry-cases, entry-ha
 use Rattle.rmt_part.specs.Lineages.{PartValue, IsPart, IsOfLog}
 use Rattle.rmt_partset.specs.ActiveParts.{Replace, Drop, after, put_in, part_names}
 use Rattle.rmt_partset.proofs.Replacing.{names-replaced}
-use Rattle.rmt_replica.specs.Parts.{IsMadeIn, IsFirstInactive}
+use Rattle.rmt_replica.specs.Parts.{IsMadeIn}
+use Rattle.rmt_events.specs.ApplyEvents.{IsFirstInactive}
 
 -- the part is in place of those that it covers, and all others stay
 pub record Installs (old : List PartValue) (part : PartValue) (new : List PartValue) : Type 0 where
@@ -117,10 +118,7 @@ takes schema log i p n parts l q each = record {
         go true false f h = absurd (cc)
         go false true f h = absurd (cc)
 
-split-at : {A : Type 0} (xs : List A) (i : ℕ) (x : A) → slice_get xs i ≡ Some x → xs ≡ take i xs ++ x ∷ drop (suc i) xs
-split-at [] i x e = absurd (cc)
-split-at (y ∷ xs) zero x e = ap (λ z. z ∷ xs) (some-same y x e)
-split-at (y ∷ xs) (suc i) x e = ap (λ zs. y ∷ zs) (split-at xs i x e)
-
-pub first-inactive : (active names : List Name) (i : ℕ) (a : Name) → slice_get names i ≡ Some a → Each (Has active) (take i names) → (Has active a → ⊥) → IsFirstInactive active names a
-first-inactive active names i a e k n = record { prefix = take i names; after = drop (suc i) names; parts = split-at names i a e; before = k; inactive = n }
+pub first-inactive : (active names : List Name) (i : ℕ) (a : Name) → slice_get names i ≡ Some a → Each (Has active) (take i names) → (Has active a → ⊥) → IsFirstInactive names active a
+first-inactive active [] i a e k n = absurd (cc)
+first-inactive active (y ∷ names) zero a e k n = let q = some-same y a e in inl (subst (λ z. Has active z → ⊥) (sym q) n, sym q)
+first-inactive active (y ∷ names) (suc i) a e k n = inr (k.0, first-inactive active names i a e k.1 n)

@@ -13,6 +13,7 @@ use Rattle.rmt_model.specs.Live.{made, placed, in_drop, TakesAway, Dropped, Drop
 use Rattle.rmt_model.specs.Lawful.{entry_at, MakesAt, is_mutation}
 use Rattle.rmt_model.specs.Laws.{Supersedes}
 use Rattle.rmt_model.specs.Fair.{CoveredBy, AreFair, DroppedAtMark}
+use Rattle.rmt_model.specs.EntryStates.{IsMutationEntry}
 use Rattle.rmt_model.proofs.Lists.{Each-at, Each-all}
 use Rattle.rmt_model.proofs.LiveLaws.{Covers-refl, Covers-trans, Pairwise-cases, later-covers}
 use Rattle.rmt_model.proofs.Drops.{some-same, entry-made, dropped-with, marked-dropped, after-dropped, dropped-after}
@@ -26,7 +27,7 @@ use Rattle.rmt_part.specs.Lineages.{PartValue}
 use Rattle.rmt_partset.specs.ActiveParts.{Replace, Drop, after, part_names}
 use Rattle.rmt_replica.specs.Parts.{IsMadeIn}
 use Rattle.rmt_replica.specs.Replicas.{ReplicaView, IsStandingReplica, HasMarks, IsReplica, replica_of}
-use Rattle.rmt_replica.specs.Answers.{IsMutationEntry, IsAlready, IsEmptied, CanSettle, CanInstall, IsEntryState, IsEntryStateWithout, settled, released, InstallsSupplied, PartsAfter}
+use Rattle.rmt_replica.specs.Answers.{IsAlready, IsEmptied, CanSettle, CanInstall, IsEntryState, IsEntryStateWithout, settled, released, InstallsSupplied, PartsAfter}
 use Rattle.rmt_replica.specs.StagedBlocks.{Staged}
 use Rattle.rmt_replica.proofs.StagedOrder.{staged-released}
 use Rattle.rmt_replica.proofs.PartLemmas.{Installs, TakesParts, installs, takes}
@@ -57,7 +58,7 @@ done-within copy marks i b l e = done-take (length copy.log) marks i l ∙ e
 
 -- ---- how an entry stands
 
-not-looked : (r : ReplicaView) (i : ℕ) (a : Name) → MakesAt r.log i a → IsMutationEntry r i → ⊥
+not-looked : (r : ReplicaView) (i : ℕ) (a : Name) → MakesAt r.log i a → IsMutationEntry r.log i → ⊥
 not-looked r i a m k =
     let e = some-same m.entry k.entry (sym m.stands ∙ k.stands) in
     let none = looked-makes-none k.entry k.is in

@@ -10,14 +10,15 @@ use Rattle.rmt_names.specs.Names.{Name, Covers, block_name}
 use Rattle.rmt_entries.specs.declared.entry.Entry.{Entry}
 use Rattle.rmt_entries.specs.declared.entry.Entry.TheVariants.{Get, Merge, Mutate, Mutation, DropRange}
 use Rattle.rmt_model.specs.Words.{Has, Each}
-use Rattle.rmt_model.specs.Live.{Dropped, in_drop}
-use Rattle.rmt_model.specs.Lawful.{entry_at, MakesAt, is_mutation}
-use Rattle.rmt_model.specs.Fair.{CoveredBy}
+use Rattle.rmt_model.specs.Live.{in_drop}
+use Rattle.rmt_model.specs.Lawful.{entry_at, MakesAt}
+use Rattle.rmt_model.specs.EntryStates.{IsDroppedEntry}
+use Rattle.rmt_model.specs.EntryStates as entries
 use Rattle.rmt_queue.specs.Marks.{done_at}
 use Rattle.rmt_replica.specs.declared.supply.Supply.{Supply}
 use Rattle.rmt_replica.specs.Supplies.{supplied}
-use Rattle.rmt_replica.specs.declared.applied.Applied.{Applied}
-use Rattle.rmt_replica.specs.declared.applied.Applied.TheVariants as applied
+use Rattle.rmt_events.specs.declared.applied.Applied.{Applied}
+use Rattle.rmt_events.specs.declared.applied.Applied.TheVariants as applied
 use Rattle.rmt_replica.specs.declared.apply_error.ApplyError.{ApplyError}
 use Rattle.rmt_replica.specs.declared.apply_error.ApplyError.TheVariants as errors
 use Rattle.rmt_replica.specs.declared.entry_state.EntryState.{EntryState}
@@ -27,38 +28,20 @@ use Rattle.rmt_replica.specs.declared.why.Why.TheVariants as whys
 use Rattle.rmt_part.specs.Lineages.{PartValue}
 use Rattle.rmt_part.specs.Lineages as parts
 use Rattle.rmt_partset.specs.ActiveParts.{Replace, Drop, after, part_names}
-use Rattle.rmt_replica.specs.Parts.{IsMadeIn, IsFirstInactive}
+use Rattle.rmt_replica.specs.Parts.{IsMadeIn}
+use Rattle.rmt_events.specs.ApplyEvents.{IsFirstInactive}
 use Rattle.rmt_replica.specs.StagedBlocks.{Staged, staged_at, without}
 use Rattle.rmt_replica.specs.Replicas.{ReplicaView}
 
 -- ---- how an entry stands
 
--- an active part covers the entry's result
-pub record IsCoveredEntry (r : ReplicaView) (i : ℕ) : Type 0 where
-  pub name : Name
-  pub makes : MakesAt r.log i name
-  pub covered : CoveredBy (part_names r.parts) name
-
--- a later drop takes the entry's result away
-pub record IsDroppedEntry (r : ReplicaView) (i : ℕ) : Type 0 where
-  pub name : Name
-  pub makes : MakesAt r.log i name
-  pub dropped : Dropped r.log name
-
--- the entry is a Mutation
-pub record IsMutationEntry (r : ReplicaView) (i : ℕ) : Type 0 where
-  pub entry : Entry
-  pub stands : entry_at r.log i ≡ Some entry
-  pub is : is_mutation entry ≡ true
-
 -- nothing is left to do: the entry is done, a Mutation, or covered
 abbrev pub IsAlready : ReplicaView → ℕ → Type 0
-IsAlready r i = (done_at r.done i ≡ true) ⊎ (IsMutationEntry r i ⊎ IsCoveredEntry r i)
+IsAlready r i = entries.IsAlready r.log (done_at r.done) (part_names r.parts) i
 
 -- the entry is neither that nor dropped
-pub record Waits (r : ReplicaView) (i : ℕ) : Type 0 where
-  pub open_entry : IsAlready r i → ⊥
-  pub not_dropped : IsDroppedEntry r i → ⊥
+abbrev pub Waits : ReplicaView → ℕ → Type 0
+Waits r i = entries.Waits r.log (done_at r.done) (part_names r.parts) i
 
 -- ---- supplies
 
@@ -85,7 +68,7 @@ abbrev pub IsAnswer : ReplicaView → ℕ → Supply → Result Applied ApplyErr
 IsAnswer r i supply (Err errors.Down) = r.up ≡ false
 IsAnswer r i supply (Err errors.Memory) = r.up ≡ true
 IsAnswer r i supply (Ok applied.Already) = (r.up ≡ true) × IsAlready r i
-IsAnswer r i supply (Ok applied.Dropped) = (r.up ≡ true) × (IsAlready r i → ⊥) × IsDroppedEntry r i
+IsAnswer r i supply (Ok applied.Dropped) = (r.up ≡ true) × (IsAlready r i → ⊥) × IsDroppedEntry r.log i
 IsAnswer r i supply (Ok applied.Installed) = (r.up ≡ true) × Waits r i × CanBeDone r i supply
 IsAnswer r i supply (Err (errors.NeedsPart a)) = (r.up ≡ true) × Waits r i × MakesAt r.log i a × (Serves r a supply → ⊥)
 
@@ -141,7 +124,7 @@ IsReady r (DropRange p n) = Unit {0}
 -- the first part that it needs and that isn't here
 abbrev pub Lacks : ReplicaView → Entry → Name → Type 0
 Lacks r (Get p n digest source need) a = (staged_at r.staged (record { partition = p; number = n }) ≡ None) × (a ≡ block_name p n)
-Lacks r (Merge new sources count) a = IsFirstInactive (part_names r.parts) sources a
+Lacks r (Merge new sources count) a = IsFirstInactive sources (part_names r.parts) a
 Lacks r (Mutate old new upto count mcount) a = (a ≡ old) × (Has (part_names r.parts) old → ⊥)
 Lacks r (Mutation id numbers command) a = ⊥
 Lacks r (DropRange p n) a = ⊥
@@ -149,14 +132,14 @@ Lacks r (DropRange p n) a = ⊥
 -- what an entry waits for, and why
 abbrev pub IsWhy : ReplicaView → ℕ → Why → Type 0
 IsWhy r i whys.Covered = IsAlready r i
-IsWhy r i whys.Dropped = (IsAlready r i → ⊥) × IsDroppedEntry r i
+IsWhy r i whys.Dropped = (IsAlready r i → ⊥) × IsDroppedEntry r.log i
 IsWhy r i whys.Ready = Waits r i × IfSome (entry_at r.log i) (IsReady r)
 IsWhy r i (whys.NeedsPart a) = Waits r i × IfSome (entry_at r.log i) (λ e. Lacks r e a)
 
 -- how an entry stands
 abbrev pub IsEntryState : ReplicaView → ℕ → EntryState → Type 0
 IsEntryState r i states.Already = IsAlready r i
-IsEntryState r i states.Dropped = (IsAlready r i → ⊥) × IsDroppedEntry r i
+IsEntryState r i states.Dropped = (IsAlready r i → ⊥) × IsDroppedEntry r.log i
 IsEntryState r i (states.Drops p n) = Waits r i × (entry_at r.log i ≡ Some (DropRange p n))
 IsEntryState r i (states.Waits a) = Waits r i × MakesAt r.log i a
 
@@ -177,7 +160,7 @@ pub record IsEmptied (r : ReplicaView) (i : ℕ) : Type 0 where
 
 -- the entry may be marked as done
 abbrev pub CanSettle : ReplicaView → ℕ → Type 0
-CanSettle r i = IsAlready r i ⊎ (IsDroppedEntry r i ⊎ IsEmptied r i)
+CanSettle r i = IsAlready r i ⊎ (IsDroppedEntry r.log i ⊎ IsEmptied r i)
 
 -- a part that was made within the copy and covers what the entry makes, where no active part does and no drop takes it away
 pub record CanInstall (r : ReplicaView) (i : ℕ) (a : Name) (part : PartValue) : Type 0 where

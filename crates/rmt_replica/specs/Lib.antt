@@ -6,6 +6,7 @@ pub use Rattle.rmt_model.specs.Words
 pub use Rattle.rmt_model.specs.Live
 pub use Rattle.rmt_model.specs.Lawful
 pub use Rattle.rmt_model.specs.Fair
+pub use Rattle.rmt_model.specs.EntryStates
 pub use Rattle.rmt_part.specs.Lineages
 pub use Rattle.rmt_partset.specs.ActiveParts
 pub mod Parts
@@ -13,3 +14,4 @@ pub mod StagedBlocks
 pub mod Replicas
 pub mod Supplies
 pub mod Answers
+pub mod SeenReplica

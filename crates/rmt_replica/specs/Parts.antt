@@ -3,11 +3,9 @@
 -- its parts by the entries of the log.
 use Rattle.std.specs.Prelude.{◌≡◌, List, [], ◌∷◌, ◌++◌, map}
 use Rattle.rmt_values.specs.Rows.{Shape}
-use Rattle.rmt_names.specs.Names.{Name}
 use Rattle.rmt_entries.specs.declared.entry.Entry.{Entry}
 use Rattle.rmt_block.specs.Blocks.{BlockView, id_of}
 use Rattle.rmt_block.specs.declared.block_id.BlockId.{BlockId}
-use Rattle.rmt_model.specs.Words.{Has, Each}
 use Rattle.rmt_part.specs.Lineages.{PartValue, IsPart, IsOfLog}
 
 -- a part of the table that was made within a copy of its log
@@ -24,11 +22,3 @@ part_blocks (part ∷ parts) = map (λ b. b.block) part.blocks ++ part_blocks pa
 -- the ids of the parts' blocks
 abbrev pub part_ids : List PartValue → List BlockId
 part_ids parts = map id_of (part_blocks parts)
-
--- these names are active, and this one, which is the next, isn't
-pub record IsFirstInactive (active names : List Name) (a : Name) : Type 0 where
-  pub prefix : List Name
-  pub after : List Name
-  pub parts : names ≡ prefix ++ a ∷ after
-  pub before : Each (Has active) prefix
-  pub inactive : Has active a → ⊥

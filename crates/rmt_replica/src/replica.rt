@@ -10,7 +10,7 @@ ghost use Rattle.rmt_replica.specs.declared.replica_error.ReplicaError.TheVarian
 ghost use Rattle.std.specs.declared.result.Result.TheVariants.{Err};
 ghost use Rattle.rmt_model.specs.Fair.{CoveredBy};
 ghost use Rattle.rmt_partset.specs.ActiveParts.{Replace, Drop, after, part_names, shown, IsCovering};
-ghost use Rattle.rmt_replica.specs.Parts.{IsFirstInactive};
+ghost use Rattle.rmt_events.specs.ApplyEvents.{IsFirstInactive};
 ghost use Rattle.rmt_replica.specs.StagedBlocks.{staged_at, with_staged, without};
 ghost use Rattle.rmt_replica.specs.Replicas.{IsStandingReplica, IsDrained};
 ghost use Rattle.rmt_replica.specs.Answers.{IsEntryState, IsEntryStateWithout, CanSettle, CanInstall, Waits, IsOfTable, IsAnswer, IsChange, IsReady, Lacks, IsWhy, settled, released};
@@ -21,7 +21,6 @@ ghost use Rattle.std.specs.declared.option.Option.TheVariants.{Some, None};
 
 mod pull;
 
-use crate::applied::Applied;
 use crate::apply_error::ApplyError;
 use crate::block_number::BlockNumber;
 use crate::entry_state::EntryState;
@@ -31,6 +30,7 @@ use crate::supply::Supply;
 use crate::why::Why;
 use rmt_block::Block;
 use rmt_entries::{Entry, result_of};
+use rmt_events::Applied;
 use rmt_history::LogCopy;
 use rmt_names::{PartName, PartitionId, block_name, covers};
 use rmt_part::Part;
@@ -237,7 +237,7 @@ impl Replica {
 
     /// The first of the names that isn't active; none where all are.
     fn first_inactive(&self, names: &[PartName]) -> Option<PartName>
-        ensures { MatchOption result (Each (Has (part_names self.now.parts)) names.now) (IsFirstInactive (part_names self.now.parts) names.now) }
+        ensures { MatchOption result (Each (Has (part_names self.now.parts)) names.now) (IsFirstInactive names.now (part_names self.now.parts)) }
     {
         'names: for name in names {
             if !self.parts.contains(name) {

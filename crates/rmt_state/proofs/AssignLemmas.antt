@@ -15,7 +15,7 @@ use Rattle.rmt_table.specs.Causes.{merge_cause, mutate_cause}
 use Rattle.rmt_table.specs.declared.merge_error.MergeError.{MergeError}
 use Rattle.rmt_table.specs.declared.mutate_error.MutateError.{MutateError}
 use Rattle.rmt_replica.specs.Replicas.{ReplicaView}
-use Rattle.rmt_replica_view.specs.Shown.{shown}
+use Rattle.rmt_replica.specs.SeenReplica.{shown}
 use Rattle.rmt_events.specs.Views.{Table}
 use Rattle.rmt_events.specs.Clusters.{Attempt, Cluster}
 use Rattle.rmt_events.specs.ClusterChanges.{IsUp, Declines}

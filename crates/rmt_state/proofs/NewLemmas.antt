@@ -7,7 +7,7 @@ use Rattle.rmt_model.specs.Words.{Has, Each, Pairwise}
 use Rattle.rmt_table_model.specs.Held.{Held}
 use Rattle.rmt_table.specs.TableTrees.{table_at}
 use Rattle.rmt_replica.specs.Replicas.{ReplicaView}
-use Rattle.rmt_replica_view.specs.Shown.{shown}
+use Rattle.rmt_replica.specs.SeenReplica.{shown}
 use Rattle.rmt_events.specs.Views.{Replica, Table}
 use Rattle.rmt_events.specs.TableCalls.{Opens, with_session}
 use Rattle.rmt_events.specs.Whole.{IsWhole}

@@ -13,7 +13,7 @@ use Rattle.rmt_table.specs.TableTrees.{table_at, IsCopyOf}
 use Rattle.rmt_replica.specs.Replicas.{ReplicaView, copy_of}
 use Rattle.rmt_replica.specs.declared.replica_error.ReplicaError.{ReplicaError}
 use Rattle.rmt_replica.specs.declared.replica_error.ReplicaError.TheVariants as errors
-use Rattle.rmt_replica_view.specs.Shown.{shown}
+use Rattle.rmt_replica.specs.SeenReplica.{shown}
 use Rattle.rmt_events.specs.Views.{Replica, Table}
 use Rattle.rmt_events.specs.ReplicaCalls.{Pulls}
 use Rattle.rmt_events.specs.declared.reply.Reply.{Reply}

@@ -7,7 +7,7 @@ use Rattle.rmt_model.specs.Lawful.{IsPrefix}
 use Rattle.rmt_table_model.specs.Held.{Held}
 use Rattle.rmt_table.specs.TableTrees.{table_at}
 use Rattle.rmt_replica.specs.Replicas.{ReplicaView}
-use Rattle.rmt_replica_view.specs.Shown.{shown}
+use Rattle.rmt_replica.specs.SeenReplica.{shown}
 use Rattle.rmt_events.specs.Views.{Replica, Table}
 use Rattle.rmt_events.specs.Clusters.{with_replica}
 use Rattle.rmt_events.specs.TableCalls.{Closes, Opens}

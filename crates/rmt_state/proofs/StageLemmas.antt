@@ -13,14 +13,14 @@ use Rattle.rmt_replica.specs.StagedBlocks.{staged_at, with_staged, without}
 use Rattle.rmt_replica.specs.Replicas.{ReplicaView, IsStandingReplica}
 use Rattle.rmt_replica.specs.Answers as own
 use Rattle.rmt_replica.specs.declared.supply.Supply.{Supply}
-use Rattle.rmt_replica.specs.declared.applied.Applied.{Applied as Done}
-use Rattle.rmt_replica.specs.declared.applied.Applied.TheVariants as done
+use Rattle.rmt_events.specs.declared.applied.Applied.{Applied}
+use Rattle.rmt_events.specs.declared.applied.Applied.TheVariants as came
 use Rattle.rmt_replica.specs.declared.apply_error.ApplyError.{ApplyError}
 use Rattle.rmt_replica.specs.declared.replica_error.ReplicaError.{ReplicaError}
 use Rattle.rmt_replica.specs.declared.replica_error.ReplicaError.TheVariants as errors
-use Rattle.rmt_replica_view.specs.Shown.{shown}
-use Rattle.rmt_replica_view.proofs.StagedOrder.{found, missing}
-use Rattle.rmt_replica_view.proofs.CallViews.{stages-seen, unstages-seen}
+use Rattle.rmt_replica.specs.SeenReplica.{shown}
+use Rattle.rmt_replica.proofs.StagedViews.{found, missing}
+use Rattle.rmt_replica.proofs.CallViews.{stages-seen, unstages-seen}
 use Rattle.rmt_events.specs.Views.{Replica}
 use Rattle.rmt_events.specs.Clusters.{with_replica, without_kinds}
 use Rattle.rmt_events.specs.ReplicaCalls.{Stages, Unstages}
@@ -48,11 +48,11 @@ state-kept tree rs i x y s e k = changed-state tree tree rs i x y s (goes-on-sam
 same-copy : (x y z : ReplicaView) → z ≡ y → KeepsCopy x y → KeepsCopy x z
 same-copy x y z e k = subst (KeepsCopy x) (sym e) k
 
-pub change-keeps : (x y : ReplicaView) (i : ℕ) (supply : Supply) (r : Result Done ApplyError) → own.IsChange x i supply r y → KeepsCopy x y
+pub change-keeps : (x y : ReplicaView) (i : ℕ) (supply : Supply) (r : Result Applied ApplyError) → own.IsChange x i supply r y → KeepsCopy x y
 change-keeps x y i supply (Err e) c = same-copy x x y c (record { number = refl; schema = refl; log = refl })
-change-keeps x y i supply (Ok done.Already) c = same-copy x (own.settled x i) y c (record { number = refl; schema = refl; log = refl })
-change-keeps x y i supply (Ok done.Dropped) c = same-copy x (own.settled x i) y c (record { number = refl; schema = refl; log = refl })
-change-keeps x y i supply (Ok done.Installed) c = same-copy x (record (own.settled x i) { parts = y.parts }) y c.others (record { number = refl; schema = refl; log = refl })
+change-keeps x y i supply (Ok came.Already) c = same-copy x (own.settled x i) y c (record { number = refl; schema = refl; log = refl })
+change-keeps x y i supply (Ok came.Dropped) c = same-copy x (own.settled x i) y c (record { number = refl; schema = refl; log = refl })
+change-keeps x y i supply (Ok came.Installed) c = same-copy x (record (own.settled x i) { parts = y.parts }) y c.others (record { number = refl; schema = refl; log = refl })
 
 pub stages-at : (r : Result (Unit {0}) ReplicaError) (s : StateView) (k i n : ℕ) (x y : ReplicaView) (b : BlockView) → IsState s → k ≡ 1 + i → slice_get s.replicas i ≡ Some x → IsStandingReplica x → (r ≡ Err errors.Down) ↔ (x.up ≡ false)
     → OnOk r (y ≡ record x { staged = with_staged x.staged (record { partition = b.partition; number = n }) b }) → OnOk r (ActsAt s k (λ a c. Stages a n (without_kinds b) c) (record s { replicas = slice_set s.replicas i y }))

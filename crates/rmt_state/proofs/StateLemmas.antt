@@ -13,7 +13,7 @@ use Rattle.rmt_model.specs.Lawful.{IsPrefix}
 use Rattle.rmt_table_model.specs.Held.{Held}
 use Rattle.rmt_table.specs.TableTrees.{IsReplica}
 use Rattle.rmt_replica.specs.Replicas.{ReplicaView}
-use Rattle.rmt_replica_view.specs.Shown.{shown}
+use Rattle.rmt_replica.specs.SeenReplica.{shown}
 use Rattle.rmt_events.specs.Views.{Replica}
 use Rattle.rmt_events.specs.Clusters.{Attempt, with_replica}
 use Rattle.rmt_events.specs.ClusterChanges.{IsNumbered}

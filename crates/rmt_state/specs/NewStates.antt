@@ -4,7 +4,7 @@ use Rattle.std.specs.Prelude.{◌≡◌, ℕ, ◌+◌, Bool, true, false, List, 
 use Rattle.rmt_values.specs.Rows.{Shape}
 use Rattle.rmt_table.specs.TableTrees.{table_at}
 use Rattle.rmt_replica.specs.Replicas.{ReplicaView}
-use Rattle.rmt_replica_view.specs.Shown.{shown}
+use Rattle.rmt_replica.specs.SeenReplica.{shown}
 use Rattle.rmt_events.specs.Starts.{new_table, AreNew}
 use Rattle.rmt_state.specs.States.{StateView, IsState}
 

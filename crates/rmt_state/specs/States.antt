@@ -11,9 +11,9 @@ use Rattle.rmt_table.specs.TableTrees.{table_at, IsCopyOf}
 use Rattle.rmt_replica.specs.Replicas.{ReplicaView, copy_of}
 use Rattle.rmt_replica.specs.Answers.{IsAnswer, IsChange}
 use Rattle.rmt_replica.specs.declared.supply.Supply.{Supply}
-use Rattle.rmt_replica.specs.declared.applied.Applied.{Applied}
+use Rattle.rmt_events.specs.declared.applied.Applied.{Applied}
 use Rattle.rmt_replica.specs.declared.apply_error.ApplyError.{ApplyError}
-use Rattle.rmt_replica_view.specs.Shown.{shown}
+use Rattle.rmt_replica.specs.SeenReplica.{shown}
 use Rattle.rmt_events.specs.Views.{Block, Replica}
 use Rattle.rmt_events.specs.Clusters.{Attempt, Cluster, with_replica}
 use Rattle.rmt_events.specs.ClusterChanges.{IsNumbered, AtReplica, IsDown}

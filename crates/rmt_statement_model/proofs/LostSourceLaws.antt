@@ -86,7 +86,7 @@ unknown-there u r i x p n source need digest a known w whole t l f k up = go (kn
     makes = record { entry = Get p n digest source need; stands = t.at; makes = refl }
 
     dropped : Dropped y.replica.log (block_name p n) → ⊥
-    dropped d = t.waits.not_dropped (record { name = block_name p n; makes = makes; gone = subst (λ (z : List Entry). Dropped z (block_name p n)) (sym prefix.is) (dropped-behind prefix.gained y.replica.log (block_name p n) d) })
+    dropped d = t.waits.not_dropped (record { name = block_name p n; makes = makes; dropped = subst (λ (z : List Entry). Dropped z (block_name p n)) (sym prefix.is) (dropped-behind prefix.gained y.replica.log (block_name p n) d) })
 
     covered : CoveredBy (names_of y.replica.parts) (block_name p n) → ⊥
     covered c = elim (nat-same y.replica.number r) [

@@ -26,8 +26,8 @@ use Rattle.rmt_partset.proofs.PartLists.{Pairwise-along}
 use Rattle.rmt_replica.specs.Parts.{IsMadeIn}
 use Rattle.rmt_replica.specs.StagedBlocks.{staged_at}
 use Rattle.rmt_replica.specs.Replicas.{ReplicaView, IsStandingReplica}
-use Rattle.rmt_replica_view.specs.Shown.{shown}
-use Rattle.rmt_replica_view.proofs.StagedOrder.{missing}
+use Rattle.rmt_replica.specs.SeenReplica.{shown}
+use Rattle.rmt_replica.proofs.StagedViews.{missing}
 use Rattle.rmt_events.specs.Views.{Replica}
 use Rattle.rmt_events.specs.Clusters.{Cluster}
 use Rattle.rmt_events.specs.ClusterChanges.{IsOther}

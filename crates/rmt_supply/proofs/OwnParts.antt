@@ -38,8 +38,8 @@ use Rattle.rmt_events.proofs.Drains.{CutAt, cut-at}
 use Rattle.rmt_replica.specs.Parts.{IsMadeIn}
 use Rattle.rmt_replica.specs.Replicas.{ReplicaView, IsStandingReplica}
 use Rattle.rmt_replica.specs.Answers as own
-use Rattle.rmt_replica_view.specs.Shown.{shown}
-use Rattle.rmt_replica_view.proofs.StateViews.{names-shown, active-seen, made-seen}
+use Rattle.rmt_replica.specs.SeenReplica.{shown}
+use Rattle.rmt_replica.proofs.StateViews.{names-shown, active-seen, made-seen}
 use Rattle.rmt_supply.specs.PartSources.{Does, AreActive, IsMadeOfActive}
 
 -- ---- images of lists

@@ -17,9 +17,9 @@ use Rattle.rmt_replica.specs.Replicas.{ReplicaView, IsStandingReplica}
 use Rattle.rmt_replica.specs.StagedBlocks.{staged_at}
 use Rattle.rmt_replica.specs.Answers as own
 use Rattle.rmt_replica.specs.declared.why.Why.TheVariants as whys
-use Rattle.rmt_replica_view.specs.Shown.{shown}
-use Rattle.rmt_replica_view.proofs.StagedOrder.{missing}
-use Rattle.rmt_replica_view.proofs.StateViews.{names-shown, inactive-seen}
+use Rattle.rmt_replica.specs.SeenReplica.{shown}
+use Rattle.rmt_replica.proofs.StagedViews.{missing}
+use Rattle.rmt_replica.proofs.StateViews.{names-shown, inactive-seen}
 use Rattle.rmt_events.specs.Clusters.{Cluster}
 use Rattle.rmt_events.specs.ApplyEvents.{LacksBlock, LacksPart}
 use Rattle.rmt_events.proofs.Copies.{entry-behind}

@@ -24,8 +24,8 @@ use Rattle.rmt_compact.specs.NewParts as new
 use Rattle.rmt_replica.specs.StagedBlocks.{staged_at}
 use Rattle.rmt_replica.specs.Replicas.{ReplicaView, IsStandingReplica}
 use Rattle.rmt_replica.specs.Answers as own
-use Rattle.rmt_replica_view.specs.Shown.{shown}
-use Rattle.rmt_replica_view.proofs.StagedOrder.{found}
+use Rattle.rmt_replica.specs.SeenReplica.{shown}
+use Rattle.rmt_replica.proofs.StagedViews.{found}
 use Rattle.rmt_events.specs.Views.{Block, Replica}
 use Rattle.rmt_events.specs.Clusters.{Cluster, without_kinds}
 use Rattle.rmt_events.specs.ReplicaCalls.{IsStaged}

@@ -16,6 +16,7 @@ use Rattle.rmt_row.specs.Token.{Token}
 use Rattle.rmt_block.specs.Blocks.{BlockView}
 use Rattle.rmt_model.specs.Words.{Has, Each}
 use Rattle.rmt_model.specs.Lawful.{entry_at, IsPrefix, MakesAt}
+use Rattle.rmt_model.specs.EntryStates.{IsDroppedEntry}
 use Rattle.rmt_part.specs.Lineages.{AcceptedView, PartValue, IsPart, IsOfLog}
 use Rattle.rmt_part.specs.CopiedPart.{copied}
 use Rattle.rmt_partset.specs.ActiveParts.{part_names}
@@ -29,7 +30,7 @@ use Rattle.rmt_events.specs.Views.{Replica}
 use Rattle.rmt_events.specs.Clusters.{Cluster}
 use Rattle.rmt_events.specs.ClusterChanges.{IsOther}
 use Rattle.rmt_events.specs.ApplyEvents.{IsHolder, IsFromStage, IsFromParts, IsFetched, IsFetchedBlock, LacksPart}
-use Rattle.rmt_replica_view.specs.Shown.{shown}
+use Rattle.rmt_replica.specs.SeenReplica.{shown}
 use Rattle.rmt_supply.specs.declared.found.Found.{Found}
 use Rattle.rmt_supply.specs.declared.found.Found.TheVariants as found
 
@@ -82,7 +83,7 @@ pub record Does (x : ReplicaView) (i : ℕ) (part : PartValue) : Type 0 where
 
 -- the entry at a place needs no part
 abbrev pub NeedsNone : ReplicaView → ℕ → Type 0
-NeedsNone x i = (own.IsAlready x i ⊎ own.IsDroppedEntry x i) ⊎ ((p : Option ℕ) × (n : ℕ) × (entry_at x.log i ≡ Some (DropRange p n)))
+NeedsNone x i = (own.IsAlready x i ⊎ IsDroppedEntry x.log i) ⊎ ((p : Option ℕ) × (n : ℕ) × (entry_at x.log i ≡ Some (DropRange p n)))
 
 -- built of the block that is staged here, or of active parts
 abbrev pub IsBuilt : List ReplicaView → ReplicaView → ℕ → PartValue → Type 0

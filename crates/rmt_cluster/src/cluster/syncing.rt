@@ -6,7 +6,7 @@ ghost use Rattle.rmt_model.specs.Lawful.{entry_at};
 ghost use Rattle.rmt_events.specs.Views.{Replica as Worker};
 ghost use Rattle.rmt_events.specs.ClusterChanges.{IsUp, KeepsTable};
 ghost use Rattle.rmt_events.specs.Whole.{IsWhole};
-ghost use Rattle.rmt_replica_view.specs.Shown.{shown};
+ghost use Rattle.rmt_replica.specs.SeenReplica.{shown};
 ghost use Rattle.rmt_state.specs.States.{IsNumber};
 ghost use Rattle.rmt_cluster.specs.Syncs.{SyncsTo, SourcesAreUp, IsDoneOrStopped, HasDone, PullsFor, DoesNext, IsNext, IsNextEntry, missing, pulled, source_of as source_told};
 

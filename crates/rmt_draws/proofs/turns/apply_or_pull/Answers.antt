@@ -3,7 +3,7 @@ use Rattle.std.specs.Prelude.{slice_get, IfSome}
 use Rattle.std.specs.declared.option.Option.{Option}
 use Rattle.std.specs.declared.option.Option.TheVariants.{Some}
 use Rattle.rmt_events.specs.declared.event.Event.TheVariants as ev
-use Rattle.rmt_replica_view.specs.Shown.{shown}
+use Rattle.rmt_replica.specs.SeenReplica.{shown}
 use Rattle.rmt_events.specs.Draws.{Turn, stepped, drawn, pending}
 use Rattle.rmt_draws.proofs.TurnLemmas.{some-applies}
 use Rattle.rmt_draws.proofs.turns.apply_or_pull.Goals as goal

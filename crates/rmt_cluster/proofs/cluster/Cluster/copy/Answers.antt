@@ -1,5 +1,5 @@
 use Rattle.std.proofs.Common.{◌-◌, ◌∙◌, ap, map, subst, sym, arith}
-use Rattle.rmt_replica_view.specs.Shown.{shown}
+use Rattle.rmt_replica.specs.SeenReplica.{shown}
 use Rattle.rmt_events.specs.Clusters.{Cluster}
 use Rattle.rmt_state.specs.States.{AreNumbered}
 use Rattle.rmt_cluster.proofs.ReadingLemmas.{IsOnly, only-one, copies}

@@ -1,7 +1,7 @@
 use Rattle.std.proofs.Common.{◌≡◌, ◌∙◌, List, reverse, map, sym, ap, subst, arith, length}
 use Rattle.rmt_model.specs.Words.{Has}
 use Rattle.rmt_replica.specs.Replicas.{ReplicaView}
-use Rattle.rmt_replica_view.specs.Shown.{shown}
+use Rattle.rmt_replica.specs.SeenReplica.{shown}
 use Rattle.rmt_events.specs.Clusters.{Cluster}
 use Rattle.rmt_events.specs.Draws.{turn}
 use Rattle.rmt_cluster.specs.Clusters.{MayStep}

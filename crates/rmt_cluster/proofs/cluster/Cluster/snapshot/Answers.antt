@@ -1,7 +1,7 @@
 use Rattle.std.proofs.Common.{◌-◌, ◌∙◌, ap, map, subst, sym, arith}
 use Rattle.rmt_values.specs.Rows.{Shape}
 use Rattle.rmt_values.specs.Schemas.{IsSchema}
-use Rattle.rmt_replica_view.specs.Shown.{shown}
+use Rattle.rmt_replica.specs.SeenReplica.{shown}
 use Rattle.rmt_events.specs.Clusters.{Cluster}
 use Rattle.rmt_events.specs.Whole.{IsWhole}
 use Rattle.rmt_state.specs.States.{AreNumbered}

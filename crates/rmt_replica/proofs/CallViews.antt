@@ -11,6 +11,7 @@ use Rattle.rmt_block.specs.Blocks.{BlockView}
 use Rattle.rmt_model.specs.Words.{Has, Each}
 use Rattle.rmt_model.specs.Live.{in_drop, placed}
 use Rattle.rmt_model.specs.Lawful.{Lawful, MakesAt, entry_at}
+use Rattle.rmt_model.specs.EntryStates.{IsDroppedEntry}
 use Rattle.rmt_model.specs.CopiedParts.{Copied}
 use Rattle.rmt_part.specs.Lineages.{PartValue}
 use Rattle.rmt_part.specs.CopiedPart.{copied}
@@ -24,9 +25,9 @@ use Rattle.rmt_events.specs.Views.{Replica}
 use Rattle.rmt_events.specs.Views as views
 use Rattle.rmt_events.specs.Clusters.{without_kinds}
 use Rattle.rmt_events.specs.ReplicaCalls as seen
-use Rattle.rmt_replica_view.specs.Shown.{shown_block, shown}
-use Rattle.rmt_replica_view.proofs.StagedOrder.{rising, inserted, removed}
-use Rattle.rmt_replica_view.proofs.StateViews.{names-shown, already-same, dropped-same}
+use Rattle.rmt_replica.specs.SeenReplica.{shown_block, shown}
+use Rattle.rmt_replica.proofs.StagedViews.{rising, inserted, removed}
+use Rattle.rmt_replica.proofs.StateViews.{names-shown, already-same}
 
 -- ---- staged blocks
 
@@ -49,9 +50,9 @@ released-seen (Some (DropRange p n)) staged s = refl
 settled-seen : (r : ReplicaView) (i : ℕ) → AreStaged r.staged → shown (own.settled r i) ≡ seen.with_entry_done (shown r) i
 settled-seen r i s = ap (λ (zs : List views.Staged). record (shown r) { done = slice_set r.done i true; staged = zs }) (released-seen (entry_at r.log i) r.staged s)
 
-pub settles-seen : (r : ReplicaView) (i : ℕ) → AreStaged r.staged → own.IsAlready r i ⊎ own.IsDroppedEntry r i → seen.Settles (shown r) i (shown (own.settled r i))
+pub settles-seen : (r : ReplicaView) (i : ℕ) → AreStaged r.staged → own.IsAlready r i ⊎ IsDroppedEntry r.log i → seen.Settles (shown r) i (shown (own.settled r i))
 settles-seen r i s cause = record {
-  cause = elim cause [ inl a ↦ inl ((already-same r i).0 a) | inr d ↦ inr ((dropped-same r i).0 d) ];
+  cause = elim cause [ inl a ↦ inl ((already-same r i).0 a) | inr d ↦ inr d ];
   change = settled-seen r i s;
 }
 

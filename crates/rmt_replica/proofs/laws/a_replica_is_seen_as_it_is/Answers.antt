@@ -1,5 +1,5 @@
-use Rattle.rmt_replica_view.proofs.StateViews.{names-shown, standing-seen, already-same, dropped-same, waits-same, inactive-seen}
-use Rattle.rmt_replica_view.proofs.laws.a_replica_is_seen_as_it_is.Goals as goal
+use Rattle.rmt_replica.proofs.StateViews.{names-shown, standing-seen, already-same, waits-same, inactive-seen}
+use Rattle.rmt_replica.proofs.laws.a_replica_is_seen_as_it_is.Goals as goal
 
 pub returns-clause-standing : goal.returns-clause-standing
 returns-clause-standing c = standing-seen
@@ -8,7 +8,7 @@ pub returns-clause-already : goal.returns-clause-already
 returns-clause-already c = already-same
 
 pub returns-clause-dropped : goal.returns-clause-dropped
-returns-clause-dropped c = dropped-same
+returns-clause-dropped c = λ r i. (λ d. d, λ d. d)
 
 pub returns-clause-waits : goal.returns-clause-waits
 returns-clause-waits c = waits-same

@@ -1,6 +1,6 @@
-use Rattle.rmt_replica_view.proofs.CallViews.{stages-seen, unstages-seen, settles-seen, drop-seen, part-seen}
-use Rattle.rmt_replica_view.proofs.StateViews.{waits-same}
-use Rattle.rmt_replica_view.proofs.laws.each_call_is_seen_by_events.Goals as goal
+use Rattle.rmt_replica.proofs.CallViews.{stages-seen, unstages-seen, settles-seen, drop-seen, part-seen}
+use Rattle.rmt_replica.proofs.StateViews.{waits-same}
+use Rattle.rmt_replica.proofs.laws.each_call_is_seen_by_events.Goals as goal
 
 pub returns-clause-stage : goal.returns-clause-stage
 returns-clause-stage c r n b s = stages-seen r n b s.waiting

@@ -20,7 +20,7 @@ use Rattle.rmt_replica.specs.StagedBlocks.{number_cmp}
 use Rattle.rmt_events.specs.Views.{Staged}
 use Rattle.rmt_events.specs.Clusters.{without_kinds}
 use Rattle.rmt_events.specs.ReplicaCalls.{comes_before, with_block, waits_at, staged_without}
-use Rattle.rmt_replica_view.specs.Shown.{shown_block}
+use Rattle.rmt_replica.specs.SeenReplica.{shown_block}
 
 -- ---- numbers in order
 

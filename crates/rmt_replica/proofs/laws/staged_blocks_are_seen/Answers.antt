@@ -1,6 +1,6 @@
 use Rattle.std.proofs.Common.{refl}
-use Rattle.rmt_replica_view.proofs.StagedOrder.{found, missing}
-use Rattle.rmt_replica_view.proofs.laws.staged_blocks_are_seen.Goals as goal
+use Rattle.rmt_replica.proofs.StagedViews.{found, missing}
+use Rattle.rmt_replica.proofs.laws.staged_blocks_are_seen.Goals as goal
 
 pub returns-clause-there : goal.returns-clause-there
 returns-clause-there c r p n b s q =

@@ -1,3 +1,0 @@
-pub mod StagedOrder
-pub mod StateViews
-pub mod CallViews
