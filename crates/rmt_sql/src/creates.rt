@@ -5,17 +5,17 @@ ghost use Rattle.std.specs.Str.{bytes_eq};
 ghost use Rattle.rmt_sql_tokens.specs.Classes.{Exactly, AnyText};
 ghost use Rattle.rmt_sql_tokens.specs.Lexing.{tokens};
 ghost use Rattle.rmt_sql_tokens.specs.Exact.{ReadsAs, token, maybe, many, item};
-ghost use Rattle.rmt_sql_filters.specs.Phrases.{some_if};
+ghost use Rattle.rmt_sql_acts.specs.Phrases.{some_if};
 ghost use Rattle.rmt_sql.specs.Views.{called_rule, called_order};
 ghost use Rattle.rmt_sql.specs.Grammar.{a_kind, kind_of_word, column as column_rule, columns as columns_rule, two_texts as two_texts_rule, engine_arguments as arguments_rule, division as division_rule, partition_rule as rule_rule, partition_by as partition_by_rule, partition_of as partition_named, order as order_rule, key_of as key_named, a_setting, setting_word, setting as setting_rule, settings as settings_rule, further_setting, may_set, with_setting as setting_set, settings_of as settings_or, create_settings as create_settings_rule, create_order as create_order_rule, create_engine as create_engine_rule, create as create_rule};
-ghost use Rattle.rmt_sql_filters.specs.Phrases.{more_listed, opening, comma, word as word_class};
+ghost use Rattle.rmt_sql_acts.specs.Phrases.{more_listed, opening, comma, word as word_class};
 
 use crate::order::Order;
 use crate::partition_rule::PartitionRule;
 use crate::setting_name::SettingName;
 use crate::settings::Settings;
 use rmt_list::List;
-use rmt_sql_filters::{is_exactly, name, names_in_parentheses};
+use rmt_sql_acts::{is_exactly, name, names_in_parentheses};
 use rmt_sql_tokens::{
     Cursor, ReadError, SymbolKind, Token, end, exactly, is_keyword_next, is_symbol_next,
     is_text_next, keyword, next_symbol, next_token, number, symbol, text, word,

@@ -1,3 +1,6 @@
+pub mod PhraseLaws
+pub mod FilterReads
+pub mod Ends
 pub mod SelectLaws
 pub mod SelectReads
 pub mod InsertLaws

@@ -26,7 +26,7 @@ use Rattle.rmt_statements.specs.declared.act.Act.{Act}
 use Rattle.rmt_values.specs.declared.query.Query.{Query}
 use Rattle.rmt_values.specs.declared.mutation.Mutation.TheVariants.{Update, Delete}
 use Rattle.rmt_statements.specs.declared.act.Act.TheVariants.{Insert, Select, Explain, Mutate, DropPartition, Optimize, ShowParts, CheckTable, WaitMutation, SyncReplica, RestartReplica, StopFetches, StartFetches}
-use Rattle.rmt_sql_filters.specs.Phrases.{the, very, the_symbol, opening, comma, word, listed, Called, called, literal, names, names_in_parentheses, tuple_call, group, filter, where_filter, ended, Bare, Call}
+use Rattle.rmt_sql_acts.specs.Phrases.{the, very, the_symbol, opening, comma, word, listed, Called, called, literal, names, names_in_parentheses, tuple_call, group, filter, where_filter, ended, Bare, Call}
 
 -- ---- INSERT
 

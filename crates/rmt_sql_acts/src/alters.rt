@@ -2,12 +2,13 @@
 ghost use Rattle.std.specs.Prelude.{◌≡◌, Some, codes};
 ghost use Rattle.rmt_sql_tokens.specs.Lexing.{tokens};
 ghost use Rattle.rmt_sql_tokens.specs.Exact.{ReadsAs, token, maybe, item};
-ghost use Rattle.rmt_sql_filters.specs.Phrases.{word as word_class, more_listed};
+ghost use Rattle.rmt_sql_acts.specs.Phrases.{word as word_class, more_listed};
 ghost use Rattle.rmt_sql_acts.specs.Acts.{an_operator, operator_of as operator_in, change as change_rule, change_of, column_right as column_rule, right as right_rule, assignment as assignment_rule, assignments as assignments_rule, update as update_rule, delete as delete_rule, partition_word as partition_rule, partition_named as named_rule, drop_partition as drop_rule, alter as alter_rule, optimize as optimize_rule};
 
+use crate::filters::where_filter;
 use crate::operator::Operator;
+use crate::parts::{literal, name};
 use rmt_list::List;
-use rmt_sql_filters::{literal, name, where_filter};
 use rmt_sql_tokens::{
     Cursor, ReadError, SymbolKind, Token, end, exactly, is_keyword_next, is_number_next,
     is_some_word_next, is_symbol_next, is_word_next, keyword, next_symbol, next_token, number,

@@ -5,11 +5,11 @@ ghost use Rattle.rmt_sql_tokens.specs.declared.symbol_kind.SymbolKind.TheVariant
 ghost use Rattle.rmt_sql_tokens.specs.Classes.{Sign, next_among};
 ghost use Rattle.rmt_sql_tokens.specs.Lexing.{tokens};
 ghost use Rattle.rmt_sql_tokens.specs.Exact.{ReadsAs, maybe, many, item, always, longest};
-ghost use Rattle.rmt_sql_filters.specs.Phrases.{word, more_listed, literal as literal_rule};
+ghost use Rattle.rmt_sql_acts.specs.Phrases.{word, more_listed, literal as literal_rule};
 ghost use Rattle.rmt_sql_acts.specs.Acts.{row as row_rule, further_row as further_rule, rows as rows_rule, row_firsts, insertion, values as values_rule, csv as csv_rule, insert_rows as insert_rows_rule, quorum_setting as quorum_rule, quorum_and_rows as quorum_and_rows_rule, into as into_rule, into_table as into_table_rule, insert as insert_rule};
 
+use crate::parts::{literal, name, some_names};
 use rmt_list::List;
-use rmt_sql_filters::{literal, name, some_names};
 use rmt_sql_tokens::{
     Cursor, ReadError, SymbolKind, data, end, exactly, is_keyword_next, is_symbol_next, keyword,
     next_symbol, number, symbol,

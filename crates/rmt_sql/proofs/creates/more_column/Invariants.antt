@@ -2,7 +2,7 @@ use Rattle.std.proofs.Common.{length}
 use Rattle.rmt_sql_tokens.specs.Lexing.{tokens}
 use Rattle.rmt_sql_tokens.specs.Exact.{always}
 use Rattle.rmt_sql_tokens.proofs.Loops.{Left}
-use Rattle.rmt_sql_filters.specs.Phrases.{further, more_listed, comma}
+use Rattle.rmt_sql_acts.specs.Phrases.{further, more_listed, comma}
 use Rattle.rmt_sql.specs.Grammar.{column}
 use Rattle.rmt_sql.proofs.creates.more_column.Given as goal
 

@@ -4,8 +4,8 @@ use Rattle.rmt_sql_tokens.specs.Lexing.{tokens}
 use Rattle.rmt_sql_tokens.specs.Exact.{always, never, Fails}
 use Rattle.rmt_sql_tokens.proofs.Laws.{on_last}
 use Rattle.rmt_sql_tokens.proofs.Loops.{left_stop, left_fails, left_on, takes_some}
-use Rattle.rmt_sql_filters.specs.Phrases.{further, comma, literal}
-use Rattle.rmt_sql_filters.proofs.PhraseLaws.{law_further, literal_law}
+use Rattle.rmt_sql_acts.specs.Phrases.{further, comma, literal}
+use Rattle.rmt_sql_acts.proofs.PhraseLaws.{law_further, literal_law}
 use Rattle.rmt_sql_acts.proofs.inserts.more_literal.Goals as goal
 
 pub returns-in_default : goal.returns-in_default

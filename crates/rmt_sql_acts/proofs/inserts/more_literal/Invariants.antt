@@ -2,7 +2,7 @@ use Rattle.std.proofs.Common.{length}
 use Rattle.rmt_sql_tokens.specs.Lexing.{tokens}
 use Rattle.rmt_sql_tokens.specs.Exact.{always}
 use Rattle.rmt_sql_tokens.proofs.Loops.{Left}
-use Rattle.rmt_sql_filters.specs.Phrases.{further, more_listed, comma, literal}
+use Rattle.rmt_sql_acts.specs.Phrases.{further, more_listed, comma, literal}
 use Rattle.rmt_sql_acts.proofs.inserts.more_literal.Given as goal
 
 abbrev pub invariant-items : goal.invariant-items

@@ -5,7 +5,7 @@ use Rattle.std.proofs.lemmas.List.{append-nil}
 use Rattle.rmt_sql_tokens.specs.Tokens.{Token, Semicolon, Spot}
 use Rattle.rmt_sql_tokens.specs.Singles.{an_end, end_in, a_semicolon, semicolon_in}
 use Rattle.rmt_sql_tokens.specs.Exact.{One, Then, Gives, Either}
-use Rattle.rmt_sql_filters.specs.Phrases.{ended}
+use Rattle.rmt_sql_acts.specs.Phrases.{ended}
 
 -- the last of these tokens has so many bytes after it
 abbrev pub IsFollowedBy : List Spot → ℕ → Type 0

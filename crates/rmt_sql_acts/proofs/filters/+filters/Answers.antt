@@ -4,10 +4,10 @@ use Rattle.rmt_sql_tokens.specs.Lexing.{tokens}
 use Rattle.rmt_sql_tokens.specs.Exact.{always, never}
 use Rattle.rmt_sql_tokens.proofs.Loops.{left_stop, left_fails, left_on, takes_some}
 use Rattle.rmt_values.specs.declared.filter.Filter.TheVariants.{Both, Either}
-use Rattle.rmt_sql_filters.specs.Phrases.{and_unary, or_conj, unary}
-use Rattle.rmt_sql_filters.proofs.PhraseLaws.{and_word, or_word, and_law, or_law, on_conj, unary_firsts, unary_law}
-use Rattle.rmt_sql_filters.proofs.FilterReads.{tests_in-Both, tests_in-Either, and_reads, and_fails, or_reads, or_fails, close_fails}
-use Rattle.rmt_sql_filters.proofs.filters.+filters.Goals as goal
+use Rattle.rmt_sql_acts.specs.Phrases.{and_unary, or_conj, unary}
+use Rattle.rmt_sql_acts.proofs.PhraseLaws.{and_word, or_word, and_law, or_law, on_conj, unary_firsts, unary_law}
+use Rattle.rmt_sql_acts.proofs.FilterReads.{tests_in-Both, tests_in-Either, and_reads, and_fails, or_reads, or_fails, close_fails}
+use Rattle.rmt_sql_acts.proofs.filters.+filters.Goals as goal
 
 pub conj-returns-in_default-clause-reads : goal.conj-returns-in_default-clause-reads
 conj-returns-in_default-clause-reads t c =

@@ -3,8 +3,8 @@ ghost use Rattle.std.specs.Prelude.{◌≡◌, ◌≤◌, ◌+◌, IfOk};
 ghost use Rattle.rmt_sql_tokens.specs.Lexing.{tokens};
 ghost use Rattle.rmt_sql_tokens.specs.Exact.{ReadsAs};
 ghost use Rattle.rmt_values.specs.declared.filter.Filter.TheVariants.{Both, Either, Not, Test};
-ghost use Rattle.rmt_sql_filters.specs.Phrases.{tests_in};
-ghost use Rattle.rmt_sql_filters.specs.Phrases.{comparison as comparison_rule, unary as unary_rule, conj as conj_rule, disj as disj_rule, filter as filter_rule, where_filter as where_rule};
+ghost use Rattle.rmt_sql_acts.specs.Phrases.{tests_in};
+ghost use Rattle.rmt_sql_acts.specs.Phrases.{comparison as comparison_rule, unary as unary_rule, conj as conj_rule, disj as disj_rule, filter as filter_rule, where_filter as where_rule};
 
 use crate::parts::literal;
 use rmt_list::Boxed;

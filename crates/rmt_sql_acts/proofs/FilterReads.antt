@@ -11,10 +11,10 @@ use Rattle.rmt_sql_tokens.specs.Singles.{keyword, symbol}
 use Rattle.rmt_sql_tokens.specs.Exact.{◌>>=◌, one, Rule, ◌then◌, gives, Fails, left_of}
 use Rattle.rmt_values.specs.declared.filter.Filter.{Filter}
 use Rattle.rmt_values.specs.declared.filter.Filter.TheVariants.{Both, Either, rolls-Both, rolls-Either}
-use Rattle.rmt_sql_filters.specs.Phrases.{tests_in, tests_at}
+use Rattle.rmt_sql_acts.specs.Phrases.{tests_in, tests_at}
 use Rattle.rmt_values.specs.declared.filter.Filter.TheOpen as level
 use Rattle.rmt_values.specs.declared.filter.Filter.TheFolds.{fold-roll-Filter}
-use Rattle.rmt_sql_filters.specs.Phrases.{the, word, opening, and_unary, or_conj, conj, disj, unary, comparison, beyond_in}
+use Rattle.rmt_sql_acts.specs.Phrases.{the, word, opening, and_unary, or_conj, conj, disj, unary, comparison, beyond_in}
 
 pub tests_in-Both : (f g : Filter) → tests_in (Both f g) ≡ tests_in f + tests_in g
 tests_in-Both f g = ap tests_in (sym (rolls-Both f g)) ∙ fold-roll-Filter ℕ tests_at (level.Both f g)

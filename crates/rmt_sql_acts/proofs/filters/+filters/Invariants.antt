@@ -2,10 +2,10 @@ use Rattle.std.proofs.Common.{◌≡◌, ◌*◌, ◌+◌, ◌≤◌, length}
 use Rattle.rmt_sql_tokens.specs.Lexing.{tokens}
 use Rattle.rmt_sql_tokens.specs.Exact.{always}
 use Rattle.rmt_sql_tokens.proofs.Loops.{Left}
-use Rattle.rmt_sql_filters.specs.Phrases.{tests_in}
-use Rattle.rmt_sql_filters.specs.Phrases.{unary, conj, disj, and_unary, or_conj}
-use Rattle.rmt_sql_filters.proofs.PhraseLaws.{and_word, or_word}
-use Rattle.rmt_sql_filters.proofs.filters.+filters.Given as goal
+use Rattle.rmt_sql_acts.specs.Phrases.{tests_in}
+use Rattle.rmt_sql_acts.specs.Phrases.{unary, conj, disj, and_unary, or_conj}
+use Rattle.rmt_sql_acts.proofs.PhraseLaws.{and_word, or_word}
+use Rattle.rmt_sql_acts.proofs.filters.+filters.Given as goal
 
 abbrev pub decreases-unary : goal.decreases-unary
 decreases-unary l = 3 * l.depth

@@ -5,7 +5,7 @@ ghost use Rattle.std.specs.Str.{bytes_eq};
 ghost use Rattle.rmt_sql_tokens.specs.Lexing.{tokens};
 ghost use Rattle.rmt_sql_tokens.specs.Singles.{a_word};
 ghost use Rattle.rmt_sql_tokens.specs.Exact.{ReadsAs, token, maybe, item};
-ghost use Rattle.rmt_sql_filters.specs.Phrases.{more_listed, opening, literal as literal_rule, names as names_rule, names_in_parentheses as parentheses_rule};
+ghost use Rattle.rmt_sql_acts.specs.Phrases.{more_listed, opening, literal as literal_rule, names as names_rule, names_in_parentheses as parentheses_rule};
 
 use rmt_list::List;
 use rmt_sql_tokens::{

@@ -4,11 +4,11 @@ use Rattle.rmt_sql_tokens.specs.Lexing.{tokens}
 use Rattle.rmt_sql_tokens.specs.Exact.{token, always, never, Fails}
 use Rattle.rmt_sql_tokens.proofs.Laws.{on_last}
 use Rattle.rmt_sql_tokens.proofs.Loops.{left_stop, left_fails, left_on, takes_some}
-use Rattle.rmt_sql_filters.specs.Phrases.{further, comma}
-use Rattle.rmt_sql_filters.proofs.PhraseLaws.{law_further}
+use Rattle.rmt_sql_acts.specs.Phrases.{further, comma}
+use Rattle.rmt_sql_acts.proofs.PhraseLaws.{law_further}
 use Rattle.rmt_sql_tokens.specs.Singles.{a_word}
 use Rattle.rmt_sql_tokens.proofs.SingleLaws.{word_law}
-use Rattle.rmt_sql_filters.proofs.parts.more_name.Goals as goal
+use Rattle.rmt_sql_acts.proofs.parts.more_name.Goals as goal
 
 pub returns-in_default : goal.returns-in_default
 returns-in_default c = left_stop always comma (λ all. (further (token a_word) all).read) c.items.all.items (tokens c.items.rest) _ c.items.invariant c.in_default.ensures

@@ -14,8 +14,8 @@ use Rattle.rmt_sql_tokens.proofs.Laws.{Law, law_token, law_then, law_gives, law_
 use Rattle.rmt_sql_tokens.proofs.SingleLaws.{keyword_law, symbol_law, word_law, number_law, text_law, comparison_law, end_law}
 use Rattle.rmt_values.specs.declared.filter.Filter.{Filter}
 use Rattle.rmt_values.specs.declared.filter.Filter.TheVariants.{Both, Either, Not}
-use Rattle.rmt_sql_filters.specs.Phrases.{tests_in}
-use Rattle.rmt_sql_filters.specs.Phrases.{the_symbol, opening, comma, word, further, listed, Called, Bare, Call, called_of, call_after, called, literal, names, names_in_parentheses, tuple_call, and_unary, or_conj, column_after, beyond_in, comparison, conj, disj, unary, filter, where_filter, ended}
+use Rattle.rmt_sql_acts.specs.Phrases.{tests_in}
+use Rattle.rmt_sql_acts.specs.Phrases.{the_symbol, opening, comma, word, further, listed, Called, Bare, Call, called_of, call_after, called, literal, names, names_in_parentheses, tuple_call, and_unary, or_conj, column_after, beyond_in, comparison, conj, disj, unary, filter, where_filter, ended}
 
 pub open_law : Law (the_symbol symbols.Open) never opening
 open_law = symbol_law symbols.Open refl
