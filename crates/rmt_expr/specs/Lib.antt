@@ -2,4 +2,5 @@ pub mod Checks
 pub mod Mutations
 pub mod Placed
 pub mod Queries
+pub mod Sizes
 pub mod Updates

@@ -1,10 +1,11 @@
 //! The fields of a name's text, each read from the one text that it may have.
 ghost use Rattle.std.specs.Prelude.{◌≡◌, ℕ, ◌<◌, ◌^◌, ◌++◌, List, codes, Option, IfSome, IsSomeAnd};
 ghost use Rattle.std.specs.Fmt.{decimal};
-ghost use Rattle.rmt_names.specs.Texts.{partition_text, mutation_text};
+ghost use Rattle.rmt_names.specs.Texts.{partition_text, partition_of_text as partition_of, mutation_text};
 
 // The number that has this decimal. One below 2^64 has just one, with no sign and no zero at the start.
 fn read_number(text: &str) -> Option<u64>
+    ensures small { IfSome result (λ n. n < 2 ^ 64) }
     ensures read { IfSome result (λ n. decimal n ≡ text.now) }
     ensures only { (n : ℕ) → n < 2 ^ 64 → decimal n ≡ text.now → result ≡ Some n }
 {
@@ -27,6 +28,7 @@ fn read_small_number(text: &str) -> Option<u32>
 
 /// The partition whose id has this text: `all`, or its number.
 pub fn read_partition(text: &str) -> Option<Option<u64>>
+    ensures small { IfSome result (λ p. IfSome p (λ n. n < 2 ^ 64)) }
     ensures read { IfSome result (λ p. partition_text p ≡ text.now) }
     ensures only { (p : Option ℕ) → IfSome p (λ n. n < 2 ^ 64) → partition_text p ≡ text.now
         → result ≡ Some p }
@@ -35,6 +37,19 @@ pub fn read_partition(text: &str) -> Option<Option<u64>>
         return Some(None);
     }
     Some(Some(read_number(text)?))
+}
+
+/// The partition whose id has this text, given as bytes: `all`, or its number.
+pub fn partition_of_text(text: &[u8]) -> Option<Option<u64>>
+    ensures exact { result ≡ partition_of text.now }
+    ensures read { IfSome result (λ p. partition_text p ≡ text.now) }
+    ensures only { (p : Option ℕ) → IfSome p (λ n. n < 2 ^ 64) → partition_text p ≡ text.now
+        → result ≡ Some p }
+{
+    let Ok(text) = str::from_utf8(text) else {
+        return None;
+    };
+    read_partition(text)
 }
 
 /// The number before the first underscore, and what comes after it.

@@ -6,6 +6,7 @@ mod laws;
 mod merging;
 mod name;
 
+pub use fields::partition_of_text;
 pub use laws::one_spelling;
 pub use merging::merged;
 pub use name::{

@@ -55,7 +55,8 @@ unfolding unary
 close_fails k d before f ts inner later e is none opens goes read fails =
     rw is (rw none (rw opens (rw goes (rw read (fails_bind e (one (symbol symbols.Close) later) _ fails)))))
 
-beyond_none : (t : Token) → is_of Limit t ≡ false → beyond_in t ≡ None
+-- a token that no limit refuses has no value as one
+pub beyond_none : (t : Token) → is_of Limit t ≡ false → beyond_in t ≡ None
 beyond_none Beyond h = absurd cc
 beyond_none _ h = refl
 

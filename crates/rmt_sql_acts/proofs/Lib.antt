@@ -7,3 +7,5 @@ pub mod InsertLaws
 pub mod IntoReads
 pub mod ActLaws
 pub mod ActEnds
+pub mod LineFacts
+pub mod ActSizes

@@ -1,16 +1,20 @@
 -- Literals, names, calls and filters are read exactly.
-use Rattle.std.proofs.Common.{◌≡◌, ℕ, ◌+◌, zero, suc, List, [], ◌∷◌, refl, Bool, true, false, cond, Option, Some, None, nat_lt, not}
+use Rattle.std.proofs.Common.{◌≡◌, ℕ, ◌+◌, zero, suc, List, [], ◌∷◌, ◌<◌, length, refl, Bool, true, false, cond, Option, Some, None, Result, Ok, Err, IfOk, nat_lt, not}
 use Rattle.std.specs.Prelude.{codes, ◌||◌}
 use Rattle.std.specs.Option.{is_some}
 use Rattle.rmt_values.specs.declared.literal.Literal.TheVariants as literals
 use Rattle.rmt_sql_tokens.specs.declared.symbol_kind.SymbolKind.TheVariants as symbols
-use Rattle.rmt_sql_tokens.specs.Tokens.{Token, Word, Beyond, spot}
+use Rattle.rmt_sql_tokens.specs.Tokens.{Token, Word, Beyond, Spot, spot}
 use Rattle.rmt_sql_tokens.specs.Classes.{Class, Keyword, AnyWord, ColumnWord, AnyNumber, AnyText, Sign, Limit, is_connective, among, End}
+use Rattle.rmt_sql_tokens.specs.declared.cursor.Cursor.{Cursor}
+use Rattle.rmt_sql_tokens.specs.declared.read_error.ReadError.{ReadError}
+use Rattle.rmt_sql_tokens.specs.Lexing.{tokens}
 use Rattle.rmt_sql_tokens.specs.Singles.{a_column}
-use Rattle.rmt_sql_tokens.specs.Exact.{IsExact, never, Rule, token, item, always}
+use Rattle.rmt_sql_tokens.specs.Exact.{IsExact, ReadsAs, never, Rule, token, item, always}
 use Rattle.rmt_sql_tokens.proofs.Apart.{disjoint}
 use Rattle.rmt_sql_tokens.proofs.Closed.{exact_gives, exact_map, on_many, on_maybe}
 use Rattle.rmt_sql_tokens.proofs.Laws.{Law, law_token, law_then, law_gives, law_either, law_maybe, law_chain, law_item, law_wider, step, step_on, exact_maybe_last, exact_gives_on, on_last, last_apart}
+use Rattle.rmt_sql_tokens.proofs.Loops.{takes_some}
 use Rattle.rmt_sql_tokens.proofs.SingleLaws.{keyword_law, symbol_law, word_law, number_law, text_law, comparison_law, end_law}
 use Rattle.rmt_values.specs.declared.filter.Filter.{Filter}
 use Rattle.rmt_values.specs.declared.filter.Filter.TheVariants.{Both, Either, Not}
@@ -51,6 +55,16 @@ pub law_listed : {A : Type 0} (R : Rule A) (on : A → List Class) (cs : List Cl
 law_listed R on cs law apart =
     law_chain (item R []) always comma (further R) (on_last on) cs (law_item R [] on cs law) (λ all may. (law_further R on cs law all).exact) (λ all. (law_further R on cs law all).starts)
     (last_apart comma on refl apart)
+
+-- what is read takes a token at least
+pub read_takes : {A : Type 0} (R : Rule A) (on : A → List Class) (cs : List Class) → Law R on cs → (ts : List Spot) (result : Result (A × Cursor) ReadError)
+    → ReadsAs (λ x. (x.0, tokens x.1)) result (R.read ts) → IfOk result (λ x. length (tokens x.1) < length ts)
+read_takes R on cs law ts (Ok x) h = takes_some R on cs law ts x.0 (tokens x.1) h
+read_takes R on cs law ts (Err e) h = tt
+
+-- a comma takes a token
+pub comma_takes : (ts after : List Spot) → (the_symbol symbols.Comma).read ts ≡ Ok (tt, after) → length after < length ts
+comma_takes ts after read = takes_some (the_symbol symbols.Comma) never comma comma_law ts tt after read
 
 -- after a list of which nothing goes on with an item
 pub list_apart : {A : Type 0} (ds : List Class) → disjoint ds comma ≡ true → (all : List A) → disjoint ds (on_list (never {A = A}) all) ≡ true

@@ -4,13 +4,13 @@ ghost use Rattle.std.specs.Prelude.{◌≡◌};
 ghost use Rattle.std.specs.Str.{bytes_eq};
 ghost use Rattle.rmt_sql_tokens.specs.Lexing.{tokens};
 ghost use Rattle.rmt_sql_tokens.specs.Singles.{a_word};
-ghost use Rattle.rmt_sql_tokens.specs.Exact.{ReadsAs, token, maybe, item};
-ghost use Rattle.rmt_sql_acts.specs.Phrases.{more_listed, opening, literal as literal_rule, names as names_rule, names_in_parentheses as parentheses_rule};
+ghost use Rattle.rmt_sql_tokens.specs.Exact.{ReadsAs, token, maybe};
+ghost use Rattle.rmt_sql_acts.specs.Phrases.{opening, literal as literal_rule, names as names_rule, names_in_parentheses as parentheses_rule};
 
+use crate::list_item::{ListItem, listed};
 use rmt_list::List;
 use rmt_sql_tokens::{
-    Cursor, ReadError, SymbolKind, is_symbol_next, is_text_next, next_symbol, number, symbol, text,
-    word,
+    Cursor, ReadError, SymbolKind, is_symbol_next, is_text_next, number, symbol, text, word,
 };
 use rmt_values::{Literal, Name};
 use std::alloc::Global;
@@ -31,33 +31,11 @@ pub fn name(alloc: Global, at: Cursor<'_>) -> Result<(Name, Cursor<'_>), ReadErr
     Ok((name, at))
 }
 
-/// One more of the names.
-fn item_name<'a>(
-    alloc: Global,
-    all: &mut Vec<Name>,
-    at: Cursor<'a>,
-) -> Result<Cursor<'a>, ReadError>
-    ensures { ReadsAs (λ r. (all.new.items, tokens r)) result ((item (token a_word) all.old.items).read (tokens at.entry)) }
-{
-    let (one, at) = name(alloc, at)?;
-    all.push(one)?;
-    Ok(at)
-}
+impl ListItem for Name {
+    ghost rule = { token a_word };
 
-/// Further the names, each after a comma.
-fn more_name<'a>(
-    alloc: Global,
-    all: &mut Vec<Name>,
-    at: Cursor<'a>,
-) -> Result<Cursor<'a>, ReadError>
-    ensures { ReadsAs (λ r. (all.new.items, tokens r)) result ((more_listed (token a_word) all.old.items).read (tokens at.entry)) }
-{
-    let mut rest = at;
-    'items: loop {
-        let Some(after) = next_symbol(rest, SymbolKind::Comma) else {
-            return Ok(rest);
-        };
-        rest = item_name(alloc, all, after)?;
+    fn read(alloc: Global, at: Cursor<'_>) -> Result<(Name, Cursor<'_>), ReadError> {
+        name(alloc, at)
     }
 }
 
@@ -66,10 +44,7 @@ fn more_name<'a>(
 pub fn names(alloc: Global, at: Cursor<'_>) -> Result<(List<Name>, Cursor<'_>), ReadError>
     ensures { ReadsAs (λ x. (x.0, tokens x.1)) result ((names_rule).read (tokens at.entry)) }
 {
-    let mut all = Vec::new(alloc);
-    let at = item_name(alloc, &mut all, at)?;
-    let at = more_name(alloc, &mut all, at)?;
-    Ok((List::new(all), at))
+    listed(alloc, at)
 }
 
 /// Reads names in parentheses: ( names )
@@ -116,4 +91,12 @@ pub fn literal(alloc: Global, at: Cursor<'_>) -> Result<(Literal, Cursor<'_>), R
     }
     let (size, at) = number(at)?;
     Ok((Literal::Number { minus: false, size }, at))
+}
+
+impl ListItem for Literal {
+    ghost rule = { literal_rule };
+
+    fn read(alloc: Global, at: Cursor<'_>) -> Result<(Literal, Cursor<'_>), ReadError> {
+        literal(alloc, at)
+    }
 }

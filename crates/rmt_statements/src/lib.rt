@@ -1,4 +1,4 @@
-//! Statements of a script as types: what the grammar reads, and what is played.
+//! Statements of a script as types: what the grammar reads, and what is played; and which partition a word names.
 #![tactic(auto)]
 
 mod act;
