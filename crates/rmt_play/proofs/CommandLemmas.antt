@@ -20,7 +20,7 @@ use Rattle.rmt_events.specs.Clusters.{Cluster}
 use Rattle.rmt_statements.specs.declared.act.Act.{Act}
 use Rattle.rmt_statements.specs.declared.act.Act.TheVariants as acts
 use Rattle.rmt_statements.specs.declared.partition_word.PartitionWord.{PartitionWord}
-use Rattle.rmt_partition_words.specs.Words.{partition_named}
+use Rattle.rmt_statements.specs.Partitions.{partition_named}
 use Rattle.rmt_statement_model.specs.TableStates.{TableState, synced, shown_at}
 use Rattle.rmt_statement_model.specs.BackgroundWork.{Works}
 use Rattle.rmt_statement_model.specs.Optimizes.{OptimizesTable}

@@ -1,5 +1,5 @@
 -- Which refusals a schema has.
-use Rattle.std.proofs.Common.{◌≡◌, ℕ, Bool, true, false, cond, not, List, [], ◌∷◌, length, refl, subst}
+use Rattle.std.proofs.Common.{◌≡◌, ◌≤◌, ℕ, Bool, true, false, cond, arith, List, [], ◌∷◌, length, refl, subst}
 use Rattle.std.specs.Prelude.{nat_le, IfErr}
 use Rattle.std.specs.declared.result.Result.{Result}
 use Rattle.std.specs.declared.result.Result.TheVariants.{Ok, Err}
@@ -45,11 +45,11 @@ create-refusal columns key rule granularity window e n q =
     (or-some IsCreateRefusal _ _ (named-some IsCreateRefusal (λ m. WrongType m) (option_or (wrong_rule columns rule) (wrong_setting granularity window)) (λ m. tt))
     (too-many-refuses columns))))) e q
 
-pub create-refusable : {S : Type 0} (made : Result S SchemaError) (columns : List Column) (key : List (List ℕ)) (rule : Option (List ℕ × ℕ)) (granularity window : ℕ) → not (is_empty columns) ≡ true
+pub create-refusable : {S : Type 0} (made : Result S SchemaError) (columns : List Column) (key : List (List ℕ)) (rule : Option (List ℕ × ℕ)) (granularity window : ℕ) → 1 ≤ length columns
     → IfErr made (λ e. schema_refusal columns key rule granularity window ≡ Some e) → IfErr made IsCreateRefusal
 create-refusable (Ok s) columns key rule granularity window n q = tt
-create-refusable (Err e) columns key rule granularity window n q = create-refusal columns key rule granularity window e (not-not (is_empty columns) n) q
+create-refusable (Err e) columns key rule granularity window n q = create-refusal columns key rule granularity window e (not-empty columns n) q
   where
-    not-not : (b : Bool) → not b ≡ true → b ≡ false
-    not-not true n = absurd (cc)
-    not-not false n = refl
+    not-empty : (columns : List Column) → 1 ≤ length columns → is_empty columns ≡ false
+    not-empty [] n = absurd (omega (arith, n))
+    not-empty (c ∷ columns) n = refl

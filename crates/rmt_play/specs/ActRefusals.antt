@@ -15,7 +15,7 @@ use Rattle.rmt_statement_model.specs.TableStates.{TableState}
 use Rattle.rmt_statements.specs.declared.act.Act.{Act}
 use Rattle.rmt_statements.specs.declared.act.Act.TheVariants as acts
 use Rattle.rmt_statements.specs.declared.partition_word.PartitionWord.{PartitionWord}
-use Rattle.rmt_partition_words.specs.Words.{partition_named}
+use Rattle.rmt_statements.specs.Partitions.{partition_named}
 use Rattle.rmt_sql_rows.specs.declared.rows_error.RowsError.{RowsError}
 use Rattle.rmt_sql_rows.specs.declared.rows_error.RowsError.TheVariants as errors
 use Rattle.rmt_sql_rows.specs.InsertedRows.{names_refusal}

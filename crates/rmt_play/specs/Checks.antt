@@ -1,7 +1,7 @@
 -- Why a statement is refused. Each refusal has its test, and a statement meets the first in the order of the checks.
 -- ClickHouse documentation: CREATE TABLE, INSERT INTO, SELECT, EXPLAIN, ALTER, OPTIMIZE, SYSTEM. The refusals and their order
 -- are this program's own.
-use Rattle.std.specs.Prelude.{ℕ, zero, suc, ◌-◌, ◌^◌, cond, not, nat_eq, nat_le, nat_lt, ◌&&◌, Bool, true, false, List, [], ◌∷◌, length, codes}
+use Rattle.std.specs.Prelude.{ℕ, zero, suc, ◌-◌, ◌^◌, cond, nat_eq, nat_le, nat_lt, ◌&&◌, Bool, true, false, List, [], ◌∷◌, length, codes}
 use Rattle.std.specs.declared.option.Option.{Option}
 use Rattle.std.specs.declared.option.Option.TheVariants.{Some, None}
 use Rattle.std.specs.Str.{bytes_eq}
@@ -9,9 +9,8 @@ use Rattle.rmt_values.specs.declared.column.Column.{Column}
 use Rattle.rmt_values.specs.declared.limit.Limit.TheVariants as limits
 use Rattle.rmt_values.specs.declared.schema_error.SchemaError.{SchemaError}
 use Rattle.rmt_values.specs.declared.schema_error.SchemaError.TheVariants as schemas
-use Rattle.rmt_values.specs.Rows.{is_empty, Shape}
+use Rattle.rmt_values.specs.Rows.{Shape}
 use Rattle.rmt_values.specs.Schemas.{schema_refusal, shape_of}
-use Rattle.rmt_command_sizes.specs.Sizes.{is_small_command}
 use Rattle.rmt_statements.specs.declared.act.Act.{Act}
 use Rattle.rmt_statements.specs.declared.act.Act.TheVariants as acts
 use Rattle.rmt_statements.specs.declared.mode.Mode.{Mode}
@@ -44,12 +43,12 @@ is_played_mode modes.Plain = true
 is_played_mode modes.Sync = true
 is_played_mode (modes.Sequential n) = false
 
--- an INSERT or a SELECT without settings, and an ALTER whose filter a log entry can hold; the switch of fetches isn't played
+-- an INSERT or a SELECT without settings, and all else but the switch of fetches
 abbrev pub is_played_act : Act → Bool
 is_played_act (acts.Insert insert) = is_absent insert.quorum
 is_played_act (acts.Select table query mode) = is_played_mode mode
 is_played_act (acts.Explain table query) = true
-is_played_act (acts.Mutate table command) = is_small_command command
+is_played_act (acts.Mutate table command) = true
 is_played_act (acts.DropPartition table partition) = true
 is_played_act (acts.Optimize table partition) = true
 is_played_act (acts.ShowParts table) = true
@@ -63,7 +62,7 @@ is_played_act act = false
 -- there are
 abbrev pub is_played : ℕ → Statement → Bool
 is_played tables (statements.Replicas count) = (nat_le 1 count && nat_le count 8) && nat_eq tables 0
-is_played tables (statements.Create table columns partition key granularity window) = not (is_empty columns)
+is_played tables (statements.Create table columns partition key granularity window) = true
 is_played tables (statements.Kill replica) = true
 is_played tables (statements.Restart replica) = true
 is_played tables (statements.Run table turns seed) = true

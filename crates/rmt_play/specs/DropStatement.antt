@@ -4,7 +4,7 @@ use Rattle.std.specs.Prelude.{◌≡◌, ◌⊎◌, ℕ}
 use Rattle.std.specs.declared.option.Option.{Option}
 use Rattle.std.specs.declared.option.Option.TheVariants.{Some}
 use Rattle.rmt_statements.specs.declared.partition_word.PartitionWord.{PartitionWord}
-use Rattle.rmt_partition_words.specs.Words.{partition_named}
+use Rattle.rmt_statements.specs.Partitions.{partition_named}
 use Rattle.rmt_statement_model.specs.TableStates.{TableState}
 use Rattle.rmt_statement_model.specs.Drops.{Drops, DropsNothing, LacksDrop}
 use Rattle.rmt_reply.specs.declared.line.Line.{Line}

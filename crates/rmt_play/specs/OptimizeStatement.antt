@@ -6,7 +6,7 @@ use Rattle.std.specs.declared.option.Option.TheVariants.{Some, None}
 use Rattle.rmt_values.specs.declared.partition_rule.PartitionRule.{PartitionRule}
 use Rattle.rmt_names.specs.Names.{Name}
 use Rattle.rmt_statements.specs.declared.partition_word.PartitionWord.{PartitionWord}
-use Rattle.rmt_partition_words.specs.Words.{partition_named}
+use Rattle.rmt_statements.specs.Partitions.{partition_named}
 use Rattle.rmt_statement_model.specs.TableStates.{TableState}
 use Rattle.rmt_statement_model.specs.Optimizes.{OptimizesTable}
 use Rattle.rmt_reply.specs.declared.line.Line.{Line}

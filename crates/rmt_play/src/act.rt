@@ -1,5 +1,6 @@
 //! Acts in their table at a replica.
 ghost use Rattle.std.specs.Prelude.{◌≡◌, true, length, IfOk};
+ghost use Rattle.rmt_sql_acts.specs.Acts.{HasSmallCommand};
 ghost use Rattle.rmt_state.specs.States.{IsNumber};
 ghost use Rattle.rmt_statement_model.specs.Shows.{HoldsNone, IsIdle, KeepsUps};
 ghost use Rattle.rmt_play.specs.Checks.{is_played_act};
@@ -31,6 +32,7 @@ pub(crate) fn act_in(
     requires here { IsNumber replica (length cluster.old.replicas) }
     requires idle { IsIdle cluster.old replica }
     requires played { is_played_act act.now ≡ true }
+    requires small { HasSmallCommand act.now }
     ensures executes { IfOk result (λ line.
         ExecutesIn cluster.old replica act.now line cluster.new) }
     ensures free { IfOk result (λ _. HoldsNone cluster.new) }

@@ -2,12 +2,10 @@
 ghost use Rattle.std.specs.Prelude.{◌≡◌};
 ghost use Rattle.rmt_play.specs.Checks.{is_played_act as act_test, table_named};
 
-use rmt_command_sizes::is_small;
 use rmt_statements::{Act, Mode};
 use rmt_values::Name;
 
-/// Whether an act is played: not an INSERT or a SELECT with a setting, an ALTER whose filter no log entry can hold, or the
-/// switch of fetches.
+/// Whether an act is played: not an INSERT or a SELECT with a setting, or the switch of fetches.
 pub(crate) fn is_played_act(act: &Act) -> bool
     ensures { result ≡ act_test act.now }
 {
@@ -17,8 +15,8 @@ pub(crate) fn is_played_act(act: &Act) -> bool
             Mode::Plain | Mode::Sync => true,
             Mode::Sequential(_) => false,
         },
-        Act::Mutate { command, .. } => is_small(command),
         Act::Explain { .. }
+        | Act::Mutate { .. }
         | Act::DropPartition { .. }
         | Act::Optimize { .. }
         | Act::ShowParts { .. }

@@ -1,18 +1,18 @@
 //! ALTER .. UPDATE and ALTER .. DELETE in their table.
-ghost use Rattle.std.specs.Prelude.{◌≡◌, ℕ, List as Bytes, true, length, IfOk, IfErr};
+ghost use Rattle.std.specs.Prelude.{◌≡◌, ℕ, List as Bytes, length, IfOk, IfErr};
 ghost use Rattle.std.specs.declared.option.Option.TheVariants.{None, Some};
 ghost use Rattle.rmt_values.specs.Schemas.{IsSchema};
 ghost use Rattle.rmt_values.specs.Commands.{CommandFits};
 ghost use Rattle.rmt_expr.specs.Mutations.{IsCheckedMutation, mutation_refusal};
-ghost use Rattle.rmt_command_sizes.specs.Sizes.{is_small_command};
+ghost use Rattle.rmt_expr.specs.Sizes.{IsSmallCommand};
 ghost use Rattle.rmt_statement_model.specs.Shows.{HoldsNone, KeepsUps};
 ghost use Rattle.rmt_statements.specs.declared.act.Act.TheVariants as acts;
 ghost use Rattle.rmt_play.specs.ActRefusals.{refused_command};
 ghost use Rattle.rmt_play.specs.PlayerSteps.{ExecutesIn};
 
 use rmt_acts::{mutate, schema_of};
+use rmt_changes::range_of_command;
 use rmt_cluster::Cluster;
-use rmt_command_sizes::range_of_command;
 use rmt_expr::{MutationError, check_mutation};
 use rmt_reply::{Line, Refusal};
 use rmt_values::{CheckedMutation, Mutation, Schema};
@@ -51,7 +51,7 @@ pub(crate) fn alter_in(
     command: &Mutation,
 ) -> Result<Line, AllocError>
     requires free { HoldsNone cluster.old }
-    requires small { is_small_command command.now ≡ true }
+    requires small { IsSmallCommand 320 command.now }
     ensures executes { IfOk result (λ line. (table : Bytes ℕ) (r : ℕ)
         → ExecutesIn cluster.old r (acts.Mutate table command.now) line cluster.new) }
     ensures free { IfOk result (λ _. HoldsNone cluster.new) }

@@ -1,12 +1,11 @@
 //! Partitions as statements name them.
 ghost use Rattle.std.specs.Prelude.{◌≡◌, IfOk, IfErr};
 ghost use Rattle.std.specs.declared.option.Option.TheVariants.{Some};
-ghost use Rattle.rmt_partition_words.specs.Words.{partition_named};
+ghost use Rattle.rmt_statements.specs.Partitions.{partition_named};
 ghost use Rattle.rmt_play.specs.ActRefusals.{refused_partition, refused_asked};
 ghost use Rattle.rmt_play.specs.OptimizeStatement.{IsAsked};
 
 use rmt_names::PartitionId;
-use rmt_partition_words::partition_of;
 use rmt_reply::Refusal;
 use rmt_statements::PartitionWord;
 use rmt_values::{Name, Schema};
@@ -23,7 +22,7 @@ pub(crate) fn partition_in(
     ensures refused { IfOk result (λ found. IfErr found (λ e.
         refused_partition (partition_named schema.now.partition word.now) ≡ Some e)) }
 {
-    match partition_of(word, schema.partition()) {
+    match word.partition_in(schema.partition()) {
         Some(partition) => Ok(Ok(partition)),
         None => {
             let name = Name::from_slice(alloc, b"partition")?;

@@ -3,6 +3,8 @@ ghost use Rattle.std.specs.declared.option.Option.TheVariants.{Some, None};
 ghost use Rattle.rmt_values.specs.Rows.{Shape, is_empty};
 ghost use Rattle.rmt_model.specs.Words.{Each};
 ghost use Rattle.rmt_state.specs.States.{IsNumber};
+ghost use Rattle.rmt_sql_acts.specs.Acts.{HasSmallCommand};
+ghost use Rattle.rmt_sql.specs.Script.{KeepsLimits};
 ghost use Rattle.rmt_play.specs.Checks.{
   first_of,
   is_played as statement_test,
@@ -299,6 +301,7 @@ impl Player {
         requires place { place < length self.old.tables }
         requires replica { IsNumber replica self.old.replicas }
         requires played { act_test act.now ≡ true }
+        requires small { HasSmallCommand act.now }
         ensures { IfOk result (λ line. ActsAt self.old place replica act.now line self.new) }
     {
         if !self.is_up(replica) {
@@ -363,7 +366,8 @@ impl Player {
 
     /// Plays what is sent to a replica.
     fn send(&mut self, alloc: Global, sent: &Sent) -> Result<Line, AllocError>
-        requires { act_test sent.now.act ≡ true }
+        requires played { act_test sent.now.act ≡ true }
+        requires small { HasSmallCommand sent.now.act }
         ensures { IfOk result (λ line. Moves self.old (ExecutesSent sent.now line) self.new) }
     {
         let table = table_of(&sent.act);
@@ -387,8 +391,10 @@ impl Player {
             Statement::Replicas { count } => {
                 1 <= *count && *count <= MOST_REPLICAS && self.tables.is_empty()
             }
-            Statement::Create { columns, .. } => !columns.as_slice().is_empty(),
-            Statement::Kill { .. } | Statement::Restart { .. } | Statement::Run { .. } => true,
+            Statement::Create { .. }
+            | Statement::Kill { .. }
+            | Statement::Restart { .. }
+            | Statement::Run { .. } => true,
             Statement::At(sent) => is_played_act(&sent.act),
             _ => false,
         }
@@ -396,7 +402,8 @@ impl Player {
 
     /// Plays a statement of a form that is played.
     fn perform(&mut self, alloc: Global, statement: Statement) -> Result<Line, AllocError>
-        requires { statement_test (length self.old.tables) statement ≡ true }
+        requires played { statement_test (length self.old.tables) statement ≡ true }
+        requires limits { KeepsLimits statement }
         ensures { IfOk result (λ line. Moves self.old (ExecutesPlayed statement line) self.new) }
     {
         match statement {
@@ -427,6 +434,7 @@ impl Player {
         statement: Statement,
         start: usize,
     ) -> Result<Line, AllocError>
+        requires limits { KeepsLimits statement }
         ensures { IfOk result (λ line. Moves self.old (Executes statement start line) self.new) }
     {
         if self.is_played(&statement) {

@@ -14,11 +14,11 @@ use Rattle.rmt_sql_tokens.proofs.Laws.{Law, law_token, law_then, law_gives, law_
 use Rattle.rmt_sql_tokens.proofs.SingleLaws.{keyword_law, exactly_law, symbol_law, word_law, number_law, text_law}
 use Rattle.rmt_sql.specs.declared.settings.Settings.{Settings}
 use Rattle.rmt_values.specs.declared.column.Column.{Column}
-use Rattle.rmt_sql_filters.specs.Phrases.{word, opening, comma, Call}
+use Rattle.rmt_sql_acts.specs.Phrases.{word, opening, comma, Call}
 use Rattle.rmt_sql.specs.declared.setting_name.SettingName.{SettingName}
 use Rattle.rmt_sql.specs.declared.setting_name.SettingName.TheVariants as settings_of_create
 use Rattle.rmt_sql.specs.Grammar.{a_kind, column, columns, two_texts, engine_arguments, takes_rule, division, rule_call, partition_rule, partition_of, partition_by, is_tuple, order, key_of, unset, a_setting, may_set, setting, settings, create_settings, create_order, create_engine, create}
-use Rattle.rmt_sql_filters.proofs.PhraseLaws.{open_law, close_law, comma_law, law_listed, on_list, list_apart, names_in_parentheses_law, on_called, law_called, tuple_call_law, ended_law, called_apart}
+use Rattle.rmt_sql_acts.proofs.PhraseLaws.{open_law, close_law, comma_law, law_listed, on_list, list_apart, names_in_parentheses_law, on_called, law_called, tuple_call_law, ended_law, called_apart}
 
 any_word : (t : Token) (left : ℕ) (k : Kind) → a_kind (spot t left) ≡ Some k → among (AnyWord ∷ []) (spot t left) ≡ true
 any_word (Word w) left k h = refl

@@ -4,3 +4,4 @@ pub mod StatementEnds
 pub mod Scripts
 pub mod Going
 pub mod Readings
+pub mod StatementLimits

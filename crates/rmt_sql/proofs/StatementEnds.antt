@@ -6,7 +6,7 @@ use Rattle.rmt_statements.specs.declared.act.Act.{Act}
 use Rattle.rmt_values.specs.declared.column.Column.{Column}
 use Rattle.rmt_sql.specs.Grammar.{create_settings, create_order, create_engine, create, sent, lanes, closed, replicas, kill, restart, run, at_replica, later_statement, statement}
 use Rattle.rmt_sql_acts.specs.Acts.{act}
-use Rattle.rmt_sql_filters.proofs.Ends.{Ends, ended_ends, one_ends, semicolon_place, ends_then, ends_gives, ends_either}
+use Rattle.rmt_sql_acts.proofs.Ends.{Ends, ended_ends, one_ends, semicolon_place, ends_then, ends_gives, ends_either}
 use Rattle.rmt_sql_acts.proofs.ActEnds.{act_ends}
 
 create_settings_ends : (table : List ℕ) (columns : List Column) (partition : Option (List ℕ × ℕ)) (key : List (List ℕ)) → Ends (create_settings table columns partition key).form

@@ -12,10 +12,10 @@ use Rattle.rmt_sql_tokens.proofs.SingleLaws.{keyword_law, symbol_law, word_law, 
 use Rattle.rmt_statements.specs.declared.act.Act.{Act}
 use Rattle.rmt_statements.specs.declared.sent.Sent.{Sent}
 use Rattle.rmt_statements.specs.declared.statement.Statement.{Statement}
-use Rattle.rmt_sql_filters.specs.Phrases.{word}
+use Rattle.rmt_sql_acts.specs.Phrases.{word}
 use Rattle.rmt_sql_acts.specs.Acts.{row_act, row_act_firsts, act}
 use Rattle.rmt_sql.specs.Grammar.{replica, sent, lane_statement, lane_firsts, lane, may_follow, some_lanes, lanes, a_count, closed, replicas, kill, restart, run, at_replica, later_statement, statement}
-use Rattle.rmt_sql_filters.proofs.PhraseLaws.{ended_law}
+use Rattle.rmt_sql_acts.proofs.PhraseLaws.{ended_law}
 use Rattle.rmt_sql.proofs.CreateLaws.{create_law}
 use Rattle.rmt_sql_acts.proofs.SelectLaws.{service_firsts}
 use Rattle.rmt_sql_acts.proofs.ActLaws.{row_act_law, act_law}

@@ -18,7 +18,7 @@ use Rattle.rmt_statements.specs.declared.act.Act.{Act}
 use Rattle.rmt_statements.specs.declared.sent.Sent.{Sent}
 use Rattle.rmt_statements.specs.declared.statement.Statement.{Statement}
 use Rattle.rmt_statements.specs.declared.statement.Statement.TheVariants.{Replicas, Create, Kill, Restart, Run, Lanes, At}
-use Rattle.rmt_sql_filters.specs.Phrases.{the, very, the_symbol, opening, comma, word, listed, Called, called, names_in_parentheses, tuple_call, ended, Bare, Call}
+use Rattle.rmt_sql_acts.specs.Phrases.{the, very, the_symbol, opening, comma, word, listed, Called, called, names_in_parentheses, tuple_call, ended, Bare, Call}
 use Rattle.rmt_sql_acts.specs.Acts.{row_act, row_act_firsts, act}
 
 -- ---- CREATE

@@ -6,6 +6,8 @@ use Rattle.rmt_sql_tokens.specs.Tokens.{Spot, spots}
 use Rattle.rmt_sql_tokens.specs.Classes.{End, is_of, next_among}
 use Rattle.rmt_sql_tokens.specs.Exact.{IsOffset, left_of}
 use Rattle.rmt_statements.specs.declared.statement.Statement.{Statement}
+use Rattle.rmt_statements.specs.declared.statement.Statement.TheVariants as statements
+use Rattle.rmt_sql_acts.specs.Acts.{HasSmallCommand}
 use Rattle.rmt_sql.specs.declared.parsed.Parsed.{Parsed}
 use Rattle.rmt_sql.specs.declared.parsed.Parsed.TheVariants as parsed
 use Rattle.rmt_sql.specs.Grammar.{statement}
@@ -60,6 +62,17 @@ abbrev pub ReadsAt : List ℕ → ℕ → Parsed → Type 0
 ReadsAt script at (parsed.Statement found start end) = IsStatementAt script at found start end
 ReadsAt script at (parsed.Syntax offset end) = IsFaultAt script at offset end
 ReadsAt script at parsed.End = next_among (End ∷ []) (passed (tokens_at script at)) ≡ true
+
+-- the statement keeps the limits of its form: a CREATE has a column, and the command of an ALTER is small
+abbrev pub KeepsLimits : Statement → Type 0
+KeepsLimits (statements.Create table columns partition key granularity window) = 1 ≤ length columns
+KeepsLimits (statements.At sent) = HasSmallCommand sent.act
+KeepsLimits statement = Unit {0}
+
+-- a statement that is read keeps the limits of its form
+abbrev pub ReadsLimited : Parsed → Type 0
+ReadsLimited (parsed.Statement found start end) = KeepsLimits found
+ReadsLimited found = Unit {0}
 
 -- after a statement, and after one that can't be read, reading goes on further on, at the script's end at the latest
 abbrev pub Advances : List ℕ → ℕ → Parsed → Type 0

@@ -9,7 +9,7 @@ use Rattle.rmt_sql.specs.declared.order.Order.TheVariants as orders
 use Rattle.rmt_sql_tokens.specs.declared.cursor.Cursor.{Cursor}
 use Rattle.rmt_sql_tokens.specs.Tokens.{Spot}
 use Rattle.rmt_sql_tokens.specs.Lexing.{tokens}
-use Rattle.rmt_sql_filters.specs.Phrases.{Called, Bare, Call}
+use Rattle.rmt_sql_acts.specs.Phrases.{Called, Bare, Call}
 use Rattle.rmt_sql.specs.Script.{empty_next, passed}
 
 -- a partition rule as its form calls it

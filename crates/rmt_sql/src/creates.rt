@@ -5,17 +5,17 @@ ghost use Rattle.std.specs.Str.{bytes_eq};
 ghost use Rattle.rmt_sql_tokens.specs.Classes.{Exactly, AnyText};
 ghost use Rattle.rmt_sql_tokens.specs.Lexing.{tokens};
 ghost use Rattle.rmt_sql_tokens.specs.Exact.{ReadsAs, token, maybe, many, item};
-ghost use Rattle.rmt_sql_filters.specs.Phrases.{some_if};
+ghost use Rattle.rmt_sql_acts.specs.Phrases.{some_if};
 ghost use Rattle.rmt_sql.specs.Views.{called_rule, called_order};
 ghost use Rattle.rmt_sql.specs.Grammar.{a_kind, kind_of_word, column as column_rule, columns as columns_rule, two_texts as two_texts_rule, engine_arguments as arguments_rule, division as division_rule, partition_rule as rule_rule, partition_by as partition_by_rule, partition_of as partition_named, order as order_rule, key_of as key_named, a_setting, setting_word, setting as setting_rule, settings as settings_rule, further_setting, may_set, with_setting as setting_set, settings_of as settings_or, create_settings as create_settings_rule, create_order as create_order_rule, create_engine as create_engine_rule, create as create_rule};
-ghost use Rattle.rmt_sql_filters.specs.Phrases.{more_listed, opening, comma, word as word_class};
+ghost use Rattle.rmt_sql_acts.specs.Phrases.{opening, comma, word as word_class};
 
 use crate::order::Order;
 use crate::partition_rule::PartitionRule;
 use crate::setting_name::SettingName;
 use crate::settings::Settings;
 use rmt_list::List;
-use rmt_sql_filters::{is_exactly, name, names_in_parentheses};
+use rmt_sql_acts::{ListItem, is_exactly, listed, name, names_in_parentheses};
 use rmt_sql_tokens::{
     Cursor, ReadError, SymbolKind, Token, end, exactly, is_keyword_next, is_symbol_next,
     is_text_next, keyword, next_symbol, next_token, number, symbol, text, word,
@@ -66,33 +66,11 @@ fn column(alloc: Global, at: Cursor<'_>) -> Result<(Column, Cursor<'_>), ReadErr
     Ok((Column { name, kind }, at))
 }
 
-/// One more of the columns.
-fn item_column<'a>(
-    alloc: Global,
-    all: &mut Vec<Column>,
-    at: Cursor<'a>,
-) -> Result<Cursor<'a>, ReadError>
-    ensures { ReadsAs (λ r. (all.new.items, tokens r)) result ((item (column_rule) all.old.items).read (tokens at.entry)) }
-{
-    let (one, at) = column(alloc, at)?;
-    all.push(one)?;
-    Ok(at)
-}
+impl ListItem for Column {
+    ghost rule = { column_rule };
 
-/// Further the columns, each after a comma.
-fn more_column<'a>(
-    alloc: Global,
-    all: &mut Vec<Column>,
-    at: Cursor<'a>,
-) -> Result<Cursor<'a>, ReadError>
-    ensures { ReadsAs (λ r. (all.new.items, tokens r)) result ((more_listed (column_rule) all.old.items).read (tokens at.entry)) }
-{
-    let mut rest = at;
-    'items: loop {
-        let Some(after) = next_symbol(rest, SymbolKind::Comma) else {
-            return Ok(rest);
-        };
-        rest = item_column(alloc, all, after)?;
+    fn read(alloc: Global, at: Cursor<'_>) -> Result<(Column, Cursor<'_>), ReadError> {
+        column(alloc, at)
     }
 }
 
@@ -101,10 +79,7 @@ fn more_column<'a>(
 fn columns(alloc: Global, at: Cursor<'_>) -> Result<(List<Column>, Cursor<'_>), ReadError>
     ensures { ReadsAs (λ x. (x.0, tokens x.1)) result ((columns_rule).read (tokens at.entry)) }
 {
-    let mut all = Vec::new(alloc);
-    let at = item_column(alloc, &mut all, at)?;
-    let at = more_column(alloc, &mut all, at)?;
-    Ok((List::new(all), at))
+    listed(alloc, at)
 }
 
 /// text , text

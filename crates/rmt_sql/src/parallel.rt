@@ -4,13 +4,12 @@ ghost use Rattle.rmt_sql_tokens.specs.declared.symbol_kind.SymbolKind.TheVariant
 ghost use Rattle.rmt_sql_tokens.specs.Classes.{Sign, next_among};
 ghost use Rattle.rmt_sql_tokens.specs.Lexing.{tokens};
 ghost use Rattle.rmt_sql_tokens.specs.Exact.{ReadsAs, maybe, many, always, item};
-ghost use Rattle.rmt_sql_filters.specs.Phrases.{word as word_class};
+ghost use Rattle.rmt_sql_acts.specs.Phrases.{word as word_class};
 ghost use Rattle.rmt_sql_acts.specs.Acts.{row_act as row_act_rule, row_act_firsts, act as act_rule};
 ghost use Rattle.rmt_sql.specs.Grammar.{replica as replica_rule, lane_statement as statement_rule, lane_firsts, lane as lane_rule, may_follow, some_lanes as some_lanes_rule, lanes as lanes_rule, at_replica as at_rule};
 
 use rmt_list::List;
-use rmt_sql_acts::{any_act, is_row_act_next, row_act};
-use rmt_sql_filters::name;
+use rmt_sql_acts::{any_act, is_row_act_next, name, row_act};
 use rmt_sql_tokens::{
     Cursor, ReadError, SymbolKind, end, is_keyword_next, is_symbol_next, keyword, symbol,
 };

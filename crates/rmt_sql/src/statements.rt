@@ -6,7 +6,7 @@ ghost use Rattle.rmt_sql.specs.Grammar.{count_of as count_in_range, a_count, rep
 
 use crate::creates::create;
 use crate::parallel::{at_replica, lanes};
-use rmt_sql_filters::name;
+use rmt_sql_acts::name;
 use rmt_sql_tokens::{
     Cursor, ReadError, Token, end, is_keyword_next, keyword, next_token, number, semicolon,
 };

@@ -4,9 +4,9 @@ use Rattle.rmt_sql_tokens.specs.Exact.{Rule}
 use Rattle.rmt_statements.specs.declared.act.Act.{Act}
 use Rattle.rmt_values.specs.declared.query.Query.{Query}
 use Rattle.rmt_statements.specs.declared.act.Act.TheVariants.{Explain}
-use Rattle.rmt_sql_filters.specs.Phrases.{ended}
+use Rattle.rmt_sql_acts.specs.Phrases.{ended}
 use Rattle.rmt_sql_acts.specs.Acts.{values, csv, insert_rows, quorum_and_rows, into, into_table, insert, mode_and_end, sync_and_end, selected, select, explain, update, delete, drop_partition, alter, optimize, show_parts, check_table, wait_mutation, sync_replica, restart_replica, stop_fetches, start_fetches, system_command, system, service, row_act, act}
-use Rattle.rmt_sql_filters.proofs.Ends.{Ends, ended_ends, ends_then, ends_either}
+use Rattle.rmt_sql_acts.proofs.Ends.{Ends, ended_ends, ends_then, ends_either}
 
 values_ends : (table : List ℕ) (columns : Option (List (List ℕ))) (quorum : Option ℕ) → Ends (values table columns quorum).form
 unfolding values

@@ -3,7 +3,7 @@ use Rattle.std.proofs.Common.{◌++◌, refl, Bool, true}
 use Rattle.std.specs.Prelude.{codes}
 use Rattle.rmt_sql_tokens.specs.Exact.{never}
 use Rattle.rmt_sql_tokens.proofs.Laws.{Law, law_either}
-use Rattle.rmt_sql_filters.specs.Phrases.{word}
+use Rattle.rmt_sql_acts.specs.Phrases.{word}
 use Rattle.rmt_sql_acts.specs.Acts.{row_act, row_act_firsts, act}
 use Rattle.rmt_sql_acts.proofs.SelectLaws.{select_law, alter_law, service_firsts, service_law}
 use Rattle.rmt_sql_acts.proofs.InsertLaws.{insert_law}

@@ -13,9 +13,9 @@ use Rattle.rmt_sql_tokens.proofs.Longest.{exact_longest}
 use Rattle.rmt_sql_tokens.proofs.Laws.{Law, law_then, law_gives, law_either, law_maybe, law_chain, law_item, law_wider, step, step_on, step_maybe, on_last}
 use Rattle.rmt_sql_tokens.proofs.SingleLaws.{chosen, keyword_law, exactly_law, symbol_law, word_law, number_law, data_law}
 use Rattle.rmt_statements.specs.declared.act.Act.{Act}
-use Rattle.rmt_sql_filters.specs.Phrases.{word, opening, comma, names_in_parentheses, literal}
+use Rattle.rmt_sql_acts.specs.Phrases.{word, opening, comma, names_in_parentheses, literal}
 use Rattle.rmt_sql_acts.specs.Acts.{row, row_firsts, further_row, rows, values, csv, insert_rows, quorum_setting, quorum_and_rows, into, into_table, insert}
-use Rattle.rmt_sql_filters.proofs.PhraseLaws.{open_law, close_law, comma_law, literal_firsts, literal_law, law_listed, on_list, list_apart, names_law, names_in_parentheses_law, ended_law}
+use Rattle.rmt_sql_acts.proofs.PhraseLaws.{open_law, close_law, comma_law, literal_firsts, literal_law, law_listed, on_list, list_apart, names_law, names_in_parentheses_law, ended_law}
 
 pub row_law : Law row never opening
 unfolding row

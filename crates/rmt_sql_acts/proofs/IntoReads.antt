@@ -10,7 +10,7 @@ use Rattle.rmt_sql_tokens.specs.Classes.{next_among}
 use Rattle.rmt_sql_tokens.specs.Exact.{one, left_of, second_try, longest_read}
 use Rattle.rmt_sql_tokens.proofs.Falling.{Falling, later_less}
 use Rattle.rmt_sql_tokens.proofs.Loops.{err_is}
-use Rattle.rmt_sql_filters.specs.Phrases.{word}
+use Rattle.rmt_sql_acts.specs.Phrases.{word}
 use Rattle.rmt_sql_acts.specs.Acts.{into, into_table, item_of}
 use Rattle.rmt_sql_acts.specs.Views.{called_item}
 use Rattle.rmt_statements.specs.declared.act.Act.{Act}

@@ -1,6 +1,11 @@
+pub mod PhraseLaws
+pub mod FilterReads
+pub mod Ends
 pub mod SelectLaws
 pub mod SelectReads
 pub mod InsertLaws
 pub mod IntoReads
 pub mod ActLaws
 pub mod ActEnds
+pub mod LineFacts
+pub mod ActSizes

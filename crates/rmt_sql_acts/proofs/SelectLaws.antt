@@ -19,11 +19,11 @@ use Rattle.rmt_values.specs.declared.filter.Filter.{Filter}
 use Rattle.rmt_statements.specs.declared.act.Act.{Act}
 use Rattle.rmt_values.specs.declared.query.Query.{Query}
 use Rattle.rmt_statements.specs.declared.act.Act.TheVariants.{Explain}
-use Rattle.rmt_sql_filters.specs.Phrases.{word, opening, comma, Called}
+use Rattle.rmt_sql_acts.specs.Phrases.{word, opening, comma, Called}
 use Rattle.rmt_sql_acts.specs.declared.operator.Operator.{Operator}
 use Rattle.rmt_sql_acts.specs.declared.operator.Operator.TheVariants as operators
 use Rattle.rmt_sql_acts.specs.Acts.{is_function, count_call, aggregate_call, function_call, select_item, some_items, items_from, star_from, select_list_from, group_by, query_of, selected, sequential, synchronous, mode_and_end, sync_and_end, select, indexes, explain, an_operator, operator_of, change_of, change, column_right, literal_right, right, assignment, assignments, update, delete, tuple_word, id_word, partition_word, partition_named, drop_partition, alter, optimize, show_parts, check_table, wait_mutation, sync_replica, restart_replica, stop_fetches, start_fetches, system_command, system, service}
-use Rattle.rmt_sql_filters.proofs.PhraseLaws.{open_law, close_law, literal_firsts, literal_law, law_listed, on_list, list_apart, names_law, on_called, law_called, tuple_call_law, on_disj, where_law, ended_law, called_apart}
+use Rattle.rmt_sql_acts.proofs.PhraseLaws.{open_law, close_law, literal_firsts, literal_law, law_listed, on_list, list_apart, names_law, on_called, law_called, tuple_call_law, on_disj, where_law, ended_law, called_apart}
 
 -- ---- the select list
 

@@ -8,7 +8,7 @@ use Rattle.rmt_sql_tokens.specs.Tokens.{Spot}
 use Rattle.rmt_sql_tokens.specs.Classes.{Exactly}
 use Rattle.rmt_sql_tokens.specs.Singles.{a_word}
 use Rattle.rmt_sql_tokens.specs.Exact.{◌>>=◌, Rule, token, maybe}
-use Rattle.rmt_sql_filters.specs.Phrases.{the, word, where_filter, ended}
+use Rattle.rmt_sql_acts.specs.Phrases.{the, word, where_filter, ended}
 use Rattle.rmt_sql_acts.specs.Acts.{select_list_from, group_by, mode_and_end, sync_and_end, selected, select, indexes, explain}
 use Rattle.rmt_sql_acts.specs.Views.{select_end, selection}
 

@@ -26,7 +26,8 @@ use Rattle.rmt_statements.specs.declared.act.Act.{Act}
 use Rattle.rmt_values.specs.declared.query.Query.{Query}
 use Rattle.rmt_values.specs.declared.mutation.Mutation.TheVariants.{Update, Delete}
 use Rattle.rmt_statements.specs.declared.act.Act.TheVariants.{Insert, Select, Explain, Mutate, DropPartition, Optimize, ShowParts, CheckTable, WaitMutation, SyncReplica, RestartReplica, StopFetches, StartFetches}
-use Rattle.rmt_sql_filters.specs.Phrases.{the, very, the_symbol, opening, comma, word, listed, Called, called, literal, names, names_in_parentheses, tuple_call, group, filter, where_filter, ended, Bare, Call}
+use Rattle.rmt_expr.specs.Sizes.{IsSmallCommand}
+use Rattle.rmt_sql_acts.specs.Phrases.{the, very, the_symbol, opening, comma, word, listed, Called, called, literal, names, names_in_parentheses, tuple_call, group, filter, where_filter, ended, Bare, Call}
 
 -- ---- INSERT
 
@@ -326,3 +327,10 @@ row_act_firsts = Keyword (codes "insert") ∷ Keyword (codes "select") ∷ Keywo
 -- what a statement does at a replica
 unfoldable pub act : Rule (Act × ℕ)
 act = either row_act_firsts (row_act true) service
+
+-- ---- the size of commands
+
+-- the command of an ALTER is small: its filter nests at most 320 deep, as the limits of a filter bring about
+abbrev pub HasSmallCommand : Act → Type 0
+HasSmallCommand (Mutate table command) = IsSmallCommand 320 command
+HasSmallCommand act = Unit {0}

@@ -1,2 +1,3 @@
+pub mod Phrases
 pub mod Acts
 pub mod Views

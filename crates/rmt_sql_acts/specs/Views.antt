@@ -6,7 +6,7 @@ use Rattle.rmt_values.specs.declared.query.Query.{Query}
 use Rattle.rmt_statements.specs.declared.act.Act.{Act}
 use Rattle.rmt_sql_tokens.specs.Singles.{a_word}
 use Rattle.rmt_sql_tokens.specs.Exact.{Rule, token, ◌then◌, gives, maybe}
-use Rattle.rmt_sql_filters.specs.Phrases.{the, word, where_filter, Called, Bare, Call}
+use Rattle.rmt_sql_acts.specs.Phrases.{the, word, where_filter, Called, Bare, Call}
 use Rattle.rmt_sql_acts.specs.Acts.{select_list_from, group_by, query_of, mode_and_end, sync_and_end}
 
 -- an item as its form calls it

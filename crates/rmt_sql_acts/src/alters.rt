@@ -1,17 +1,18 @@
 //! ALTER and OPTIMIZE.
 ghost use Rattle.std.specs.Prelude.{◌≡◌, Some, codes};
 ghost use Rattle.rmt_sql_tokens.specs.Lexing.{tokens};
-ghost use Rattle.rmt_sql_tokens.specs.Exact.{ReadsAs, token, maybe, item};
-ghost use Rattle.rmt_sql_filters.specs.Phrases.{word as word_class, more_listed};
+ghost use Rattle.rmt_sql_tokens.specs.Exact.{ReadsAs, token, maybe};
+ghost use Rattle.rmt_sql_acts.specs.Phrases.{word as word_class};
 ghost use Rattle.rmt_sql_acts.specs.Acts.{an_operator, operator_of as operator_in, change as change_rule, change_of, column_right as column_rule, right as right_rule, assignment as assignment_rule, assignments as assignments_rule, update as update_rule, delete as delete_rule, partition_word as partition_rule, partition_named as named_rule, drop_partition as drop_rule, alter as alter_rule, optimize as optimize_rule};
 
+use crate::filters::where_filter;
+use crate::list_item::{ListItem, listed};
 use crate::operator::Operator;
+use crate::parts::{literal, name};
 use rmt_list::List;
-use rmt_sql_filters::{literal, name, where_filter};
 use rmt_sql_tokens::{
     Cursor, ReadError, SymbolKind, Token, end, exactly, is_keyword_next, is_number_next,
-    is_some_word_next, is_symbol_next, is_word_next, keyword, next_symbol, next_token, number,
-    symbol, text,
+    is_some_word_next, is_symbol_next, is_word_next, keyword, next_token, number, symbol, text,
 };
 use rmt_statements::{Act, PartitionWord};
 use rmt_values::{Literal, Mutation, Name, Right};
@@ -101,33 +102,11 @@ fn assignment(alloc: Global, at: Cursor<'_>) -> Result<((Name, Right), Cursor<'_
     Ok(((column, right), at))
 }
 
-/// One more of the assignments.
-fn item_assignment<'a>(
-    alloc: Global,
-    all: &mut Vec<(Name, Right)>,
-    at: Cursor<'a>,
-) -> Result<Cursor<'a>, ReadError>
-    ensures { ReadsAs (λ r. (all.new.items, tokens r)) result ((item (assignment_rule) all.old.items).read (tokens at.entry)) }
-{
-    let (one, at) = assignment(alloc, at)?;
-    all.push(one)?;
-    Ok(at)
-}
+impl ListItem for (Name, Right) {
+    ghost rule = { assignment_rule };
 
-/// Further the assignments, each after a comma.
-fn more_assignment<'a>(
-    alloc: Global,
-    all: &mut Vec<(Name, Right)>,
-    at: Cursor<'a>,
-) -> Result<Cursor<'a>, ReadError>
-    ensures { ReadsAs (λ r. (all.new.items, tokens r)) result ((more_listed (assignment_rule) all.old.items).read (tokens at.entry)) }
-{
-    let mut rest = at;
-    'items: loop {
-        let Some(after) = next_symbol(rest, SymbolKind::Comma) else {
-            return Ok(rest);
-        };
-        rest = item_assignment(alloc, all, after)?;
+    fn read(alloc: Global, at: Cursor<'_>) -> Result<((Name, Right), Cursor<'_>), ReadError> {
+        assignment(alloc, at)
     }
 }
 
@@ -139,10 +118,7 @@ fn assignments(
 ) -> Result<(List<(Name, Right)>, Cursor<'_>), ReadError>
     ensures { ReadsAs (λ x. (x.0, tokens x.1)) result ((assignments_rule).read (tokens at.entry)) }
 {
-    let mut all = Vec::new(alloc);
-    let at = item_assignment(alloc, &mut all, at)?;
-    let at = more_assignment(alloc, &mut all, at)?;
-    Ok((List::new(all), at))
+    listed(alloc, at)
 }
 
 /// UPDATE assignments WHERE filter ;

@@ -5,48 +5,19 @@ ghost use Rattle.rmt_sql_tokens.specs.declared.symbol_kind.SymbolKind.TheVariant
 ghost use Rattle.rmt_sql_tokens.specs.Classes.{Sign, next_among};
 ghost use Rattle.rmt_sql_tokens.specs.Lexing.{tokens};
 ghost use Rattle.rmt_sql_tokens.specs.Exact.{ReadsAs, maybe, many, item, always, longest};
-ghost use Rattle.rmt_sql_filters.specs.Phrases.{word, more_listed, literal as literal_rule};
+ghost use Rattle.rmt_sql_acts.specs.Phrases.{word};
 ghost use Rattle.rmt_sql_acts.specs.Acts.{row as row_rule, further_row as further_rule, rows as rows_rule, row_firsts, insertion, values as values_rule, csv as csv_rule, insert_rows as insert_rows_rule, quorum_setting as quorum_rule, quorum_and_rows as quorum_and_rows_rule, into as into_rule, into_table as into_table_rule, insert as insert_rule};
 
+use crate::list_item::listed;
+use crate::parts::{name, some_names};
 use rmt_list::List;
-use rmt_sql_filters::{literal, name, some_names};
 use rmt_sql_tokens::{
     Cursor, ReadError, SymbolKind, data, end, exactly, is_keyword_next, is_symbol_next, keyword,
-    next_symbol, number, symbol,
+    number, symbol,
 };
 use rmt_statements::{Act, Insert, Offered};
 use rmt_values::{Blob, Literal, Name};
 use std::alloc::Global;
-
-/// One more of the literals.
-fn item_literal<'a>(
-    alloc: Global,
-    all: &mut Vec<Literal>,
-    at: Cursor<'a>,
-) -> Result<Cursor<'a>, ReadError>
-    ensures { ReadsAs (λ r. (all.new.items, tokens r)) result ((item (literal_rule) all.old.items).read (tokens at.entry)) }
-{
-    let (one, at) = literal(alloc, at)?;
-    all.push(one)?;
-    Ok(at)
-}
-
-/// Further the literals, each after a comma.
-fn more_literal<'a>(
-    alloc: Global,
-    all: &mut Vec<Literal>,
-    at: Cursor<'a>,
-) -> Result<Cursor<'a>, ReadError>
-    ensures { ReadsAs (λ r. (all.new.items, tokens r)) result ((more_listed (literal_rule) all.old.items).read (tokens at.entry)) }
-{
-    let mut rest = at;
-    'items: loop {
-        let Some(after) = next_symbol(rest, SymbolKind::Comma) else {
-            return Ok(rest);
-        };
-        rest = item_literal(alloc, all, after)?;
-    }
-}
 
 /// ( literal { , literal } )
 #[tactic(auto, unfolding(crate::specs::Acts::row))]
@@ -54,11 +25,9 @@ fn row(alloc: Global, at: Cursor<'_>) -> Result<(List<Literal>, Cursor<'_>), Rea
     ensures { ReadsAs (λ x. (x.0, tokens x.1)) result ((row_rule).read (tokens at.entry)) }
 {
     let at = symbol(at, SymbolKind::Open)?;
-    let mut all = Vec::new(alloc);
-    let at = item_literal(alloc, &mut all, at)?;
-    let at = more_literal(alloc, &mut all, at)?;
+    let (all, at) = listed(alloc, at)?;
     let at = symbol(at, SymbolKind::Close)?;
-    Ok((List::new(all), at))
+    Ok((all, at))
 }
 
 /// One more of the rows.

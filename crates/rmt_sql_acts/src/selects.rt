@@ -7,13 +7,14 @@ ghost use Rattle.rmt_sql_tokens.specs.Classes.{Exactly};
 ghost use Rattle.rmt_sql_tokens.specs.Lexing.{tokens};
 ghost use Rattle.rmt_sql_tokens.specs.Exact.{ReadsAs, maybe, either, item};
 ghost use Rattle.rmt_sql_acts.specs.Views.{called_item, select_end as select_end_rule, selection as selection_rule};
-ghost use Rattle.rmt_sql_filters.specs.Phrases.{some_if};
+ghost use Rattle.rmt_sql_acts.specs.Phrases.{some_if};
 ghost use Rattle.rmt_values.specs.declared.item.Item.TheVariants.{Count};
-ghost use Rattle.rmt_sql_filters.specs.Phrases.{Call, word as word_class, more_listed, where_filter as where_rule};
+ghost use Rattle.rmt_sql_acts.specs.Phrases.{Call, word as word_class, more_listed, where_filter as where_rule};
 ghost use Rattle.rmt_sql_acts.specs.Acts.{is_function as function_test, count_call as count_rule, aggregate as aggregate_of, aggregate_call as aggregate_rule, select_item as select_item_rule, some_items as items_rule, items_from as items_from_rule, star_from as star_rule, select_list_from as select_list_from_rule, group_by as group_rule, names_or, query_of, sequential as sequential_rule, synchronous as synchronous_rule, mode_of as mode_or, mode_and_end as mode_rule, sync_and_end as sync_rule, select as select_rule, indexes as indexes_rule, explain as explain_rule};
 
+use crate::filters::where_filter;
+use crate::parts::{name, names};
 use rmt_list::List;
-use rmt_sql_filters::{name, names, where_filter};
 use rmt_sql_tokens::{
     Cursor, ReadError, SymbolKind, end, exactly, is_keyword, is_keyword_next, is_symbol_next,
     is_word_next, keyword, next_symbol, number, symbol, this_number, word,

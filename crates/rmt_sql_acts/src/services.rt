@@ -5,8 +5,8 @@ ghost use Rattle.rmt_sql_tokens.specs.Exact.{ReadsAs};
 ghost use Rattle.rmt_sql_acts.specs.Acts.{show_parts as show_rule, check_table as check_rule, wait_mutation as wait_rule, sync_replica as sync_rule, restart_replica as restart_rule, stop_fetches as stop_rule, start_fetches as start_rule, system as system_rule, service as service_rule};
 
 use crate::alters::optimize;
+use crate::parts::name;
 use crate::selects::explain;
-use rmt_sql_filters::name;
 use rmt_sql_tokens::{Cursor, ReadError, end, is_keyword_next, keyword, number};
 use rmt_statements::Act;
 use std::alloc::Global;

@@ -43,17 +43,17 @@ impl Cells for ByteRecord {
 }
 
 /// Reads the next record, and says whether there was one. Each record may have its own length, and its fields are bytes.
-fn read_record<R: Read>(reader: &mut Reader<R>, record: &mut ByteRecord) -> Result<bool, RowsError>
+fn read_record<R: Read>(reader: &mut Reader<R>, row: &mut ByteRecord) -> Result<bool, RowsError>
     requires untrimmed { reader_trim reader.old ≡ trim.None }
     requires ready { Ready reader.old }
     requires flexible { is_flexible reader.old ≡ true }
     ensures reads { IfOk result (λ found.
-        ReadRecord R.remaining reader.old reader.new found (fields_of record.new)) }
+        ReadRecord R.remaining reader.old reader.new found (fields_of row.new)) }
     ensures ready { OnOk result (took_first reader.new ≡ true) }
     ensures flexible { OnOk result (is_flexible reader.new ≡ true) }
     ensures err { IfErr result (λ e. e ≡ RowsError.Memory) }
 {
-    match reader.read_byte_record(record) {
+    match reader.read_byte_record(row) {
         Ok(found) => Ok(found),
         Err(error) => match error.into_kind() {
             ErrorKind::OutOfMemory | ErrorKind::Io(_) => Err(RowsError::Memory),

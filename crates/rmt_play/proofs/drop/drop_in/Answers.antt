@@ -2,7 +2,7 @@ use Rattle.std.proofs.Common.{◌≡◌, ℕ, subst}
 use Rattle.std.specs.declared.option.Option.TheVariants.{Some}
 use Rattle.std.specs.declared.result.Result.{Result}
 use Rattle.rmt_values.specs.Rows.{Shape}
-use Rattle.rmt_partition_words.specs.Words.{partition_named}
+use Rattle.rmt_statements.specs.Partitions.{partition_named}
 use Rattle.rmt_acts.specs.Changing.{DropsTo}
 use Rattle.rmt_reply.specs.declared.line.Line.TheVariants as lines
 use Rattle.rmt_reply.specs.declared.refusal.Refusal.{Refusal}

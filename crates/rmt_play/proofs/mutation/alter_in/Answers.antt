@@ -1,8 +1,11 @@
-use Rattle.std.proofs.Common.{◌≡◌, ℕ, subst}
+use Rattle.std.proofs.Common.{◌≡◌, ℕ, subst, arith}
 use Rattle.std.specs.declared.option.Option.TheVariants.{None}
 use Rattle.std.specs.declared.result.Result.{Result}
 use Rattle.rmt_values.specs.Rows.{Shape}
 use Rattle.rmt_values.specs.Commands.{CommandFits}
+use Rattle.rmt_values.specs.declared.mutation.Mutation.{Mutation}
+use Rattle.rmt_values.specs.declared.mutation.Mutation.TheVariants as commands
+use Rattle.rmt_expr.specs.Sizes.{IsSmallCommand}
 use Rattle.rmt_expr.specs.Mutations.{IsCheckedMutation, mutation_refusal}
 use Rattle.rmt_acts.specs.Changing.{MutatesTo}
 use Rattle.rmt_reply.specs.declared.line.Line.TheVariants as lines
@@ -19,11 +22,15 @@ checked c = found-holds c.in_ok-checked.field-0 c.in-Ok.checked (IsCheckedMutati
 known : (c : In-Ok) → mutation_refusal c.schema_of.result.now c.args.command.now ≡ None
 known c = found-holds c.in_ok-checked.field-0 c.in-Ok.checked (λ _. mutation_refusal c.schema_of.result.now c.args.command.now ≡ None) c.in-Ok.is c.in_ok-checked.ensures.known
 
+deeper : (command : Mutation) → IsSmallCommand 320 command → IsSmallCommand 512 command
+deeper (commands.Update sets filter) small = (small.0, omega (arith, small.1))
+deeper (commands.Delete filter) small = omega (arith, small)
+
 pub range_of_command-requires : goal.range_of_command-requires
 range_of_command-requires c =
     let fits = found-holds c.in_ok-checked.field-0 c.in-Ok.checked (CommandFits c.schema_of.result.now) c.in-Ok.is c.in_ok-checked.ensures.fits in
     let k = (goal.at.range_of_command-requires c).In-Ok in
-    (c.schema_of.result.now, c.args.command.now, checked k, fits, c.requires.small, c.check.ensures.schema, known k)
+    (c.schema_of.result.now, c.args.command.now, checked k, fits, deeper c.args.command.now c.requires.small, c.check.ensures.schema, known k)
 
 pub returns-in-Ok-2-clause-executes : goal.returns-in-Ok-2-clause-executes
 returns-in-Ok-2-clause-executes c = λ table r.

@@ -8,8 +8,8 @@ use Rattle.rmt_sql_tokens.proofs.Laws.{Law, law_then}
 use Rattle.rmt_sql_tokens.proofs.Loops.{left_stop, left_fails, left_on, takes_some}
 use Rattle.rmt_sql.specs.declared.settings.Settings.{Settings}
 use Rattle.rmt_sql.specs.Grammar.{may_set, further_setting}
-use Rattle.rmt_sql_filters.specs.Phrases.{comma}
-use Rattle.rmt_sql_filters.proofs.PhraseLaws.{comma_law}
+use Rattle.rmt_sql_acts.specs.Phrases.{comma}
+use Rattle.rmt_sql_acts.proofs.PhraseLaws.{comma_law}
 use Rattle.rmt_sql.proofs.CreateLaws.{setting_law}
 use Rattle.rmt_sql.proofs.creates.more_settings.Goals as goal
 

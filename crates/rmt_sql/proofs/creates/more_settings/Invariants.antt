@@ -3,7 +3,7 @@ use Rattle.rmt_sql_tokens.specs.Lexing.{tokens}
 use Rattle.rmt_sql_tokens.specs.Exact.{many}
 use Rattle.rmt_sql_tokens.proofs.Loops.{Left}
 use Rattle.rmt_sql.specs.Grammar.{may_set, further_setting}
-use Rattle.rmt_sql_filters.specs.Phrases.{comma}
+use Rattle.rmt_sql_acts.specs.Phrases.{comma}
 use Rattle.rmt_sql.proofs.creates.more_settings.Given as goal
 
 abbrev pub invariant-settings : goal.invariant-settings

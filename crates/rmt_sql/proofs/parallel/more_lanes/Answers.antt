@@ -6,7 +6,7 @@ use Rattle.rmt_sql_tokens.specs.Classes.{next_among}
 use Rattle.rmt_sql_tokens.specs.Exact.{item}
 use Rattle.rmt_sql_tokens.proofs.Laws.{on_last, law_item}
 use Rattle.rmt_sql_tokens.proofs.Loops.{left_stop, left_fails, left_on, takes_some}
-use Rattle.rmt_sql_filters.specs.Phrases.{word}
+use Rattle.rmt_sql_acts.specs.Phrases.{word}
 use Rattle.rmt_sql.specs.Grammar.{may_follow, lane}
 use Rattle.rmt_sql.proofs.StatementLaws.{on_lane, lane_law}
 use Rattle.rmt_sql.proofs.parallel.more_lanes.Goals as goal

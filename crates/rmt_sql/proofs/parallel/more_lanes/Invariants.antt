@@ -3,7 +3,7 @@ use Rattle.std.specs.Prelude.{codes}
 use Rattle.rmt_sql_tokens.specs.Lexing.{tokens}
 use Rattle.rmt_sql_tokens.specs.Exact.{many, item}
 use Rattle.rmt_sql_tokens.proofs.Loops.{Left}
-use Rattle.rmt_sql_filters.specs.Phrases.{word}
+use Rattle.rmt_sql_acts.specs.Phrases.{word}
 use Rattle.rmt_sql.specs.Grammar.{may_follow, lane}
 use Rattle.rmt_sql.proofs.parallel.more_lanes.Given as goal
 

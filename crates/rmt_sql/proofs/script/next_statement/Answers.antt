@@ -9,6 +9,7 @@ use Rattle.rmt_sql.specs.Grammar.{statement}
 use Rattle.rmt_sql.specs.Script.{passed, empty_next, tokens_at, is_first}
 use Rattle.rmt_sql.proofs.Scripts.{statement_there, fails_there}
 use Rattle.rmt_sql.proofs.Going.{statement_on, fails_on}
+use Rattle.rmt_sql.proofs.StatementLimits.{read_keeps}
 use Rattle.rmt_sql.proofs.script.next_statement.Goals as goal
 
 pub returns-in-Ok-clause-reads : goal.returns-in-Ok-clause-reads
@@ -23,6 +24,10 @@ returns-in-Ok-clause-advances c =
     let place : tokens c.after_empty-place.result ≡ passed (tokens_at c.args.script.now c.args.at) = c.after_empty-place.ensures ∙ ap (λ l. passed (spots Plain l)) c.split_at.ensures.back in
     let more : next_among (End ∷ []) (passed (tokens_at c.args.script.now c.args.at)) ≡ false = ap (λ l. next_among (End ∷ []) l) (sym place) ∙ (sym c.is_end_next.ensures ∙ c.if-is_end_next.false) in
     statement_on c.args.script.now c.args.at c.in-Ok.statement c.saturating_sub-start.result c.saturating_sub-end.result more (returns-in-Ok-clause-reads c)
+
+pub returns-in-Ok-clause-limits : goal.returns-in-Ok-clause-limits
+returns-in-Ok-clause-limits c =
+    read_keeps c.args.script.now c.args.at c.in-Ok.statement c.saturating_sub-start.result c.saturating_sub-end.result (returns-in-Ok-clause-reads c)
 
 pub returns-in-Err-Fault-clause-reads : goal.returns-in-Err-Fault-clause-reads
 returns-in-Err-Fault-clause-reads c =

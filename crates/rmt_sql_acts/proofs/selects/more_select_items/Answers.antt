@@ -4,8 +4,8 @@ use Rattle.rmt_sql_tokens.specs.Lexing.{tokens}
 use Rattle.rmt_sql_tokens.specs.Exact.{always, Fails}
 use Rattle.rmt_sql_tokens.proofs.Laws.{on_last}
 use Rattle.rmt_sql_tokens.proofs.Loops.{left_stop, left_fails, left_on, takes_some}
-use Rattle.rmt_sql_filters.specs.Phrases.{further, comma}
-use Rattle.rmt_sql_filters.proofs.PhraseLaws.{law_further}
+use Rattle.rmt_sql_acts.specs.Phrases.{further, comma}
+use Rattle.rmt_sql_acts.proofs.PhraseLaws.{law_further}
 use Rattle.rmt_sql_acts.specs.Views.{called_item}
 use Rattle.rmt_sql_acts.specs.Acts.{select_item}
 use Rattle.rmt_sql_acts.proofs.SelectLaws.{on_select_item, select_item_law}

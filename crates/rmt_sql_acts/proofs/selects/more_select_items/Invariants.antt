@@ -2,7 +2,7 @@ use Rattle.std.proofs.Common.{length, map}
 use Rattle.rmt_sql_tokens.specs.Lexing.{tokens}
 use Rattle.rmt_sql_tokens.specs.Exact.{always}
 use Rattle.rmt_sql_tokens.proofs.Loops.{Left}
-use Rattle.rmt_sql_filters.specs.Phrases.{further, more_listed, comma}
+use Rattle.rmt_sql_acts.specs.Phrases.{further, more_listed, comma}
 use Rattle.rmt_sql_acts.specs.Views.{called_item}
 use Rattle.rmt_sql_acts.specs.Acts.{select_item}
 use Rattle.rmt_sql_acts.proofs.selects.more_select_items.Given as goal

@@ -26,15 +26,15 @@ pub returns-then-not-branch-clause-ok : goal.returns-then-not-branch-clause-ok
 returns-then-not-branch-clause-ok c =
     let (records, read, made, begun, kinds, count, number) = c.records.invariant in (
       records,
-      read_end c.args.bytes.now records c.records.reader c.read_record.new.reader c.in_ok-read_record.field-0 c.read_record.new.record read (search rules) c.in_ok-read_record.ensures.reads,
+      read_end c.args.bytes.now records c.records.reader c.read_record.new.reader c.in_ok-read_record.field-0 c.read_record.new.row read (search rules) c.in_ok-read_record.ensures.reads,
       made,
     )
 
 pub returns-then-not-branch-2-clause-refused : goal.returns-then-not-branch-2-clause-refused
 returns-then-not-branch-2-clause-refused c =
     let (records, read, made, begun, kinds, count, number) = c.records.invariant in
-    let later = read_more c.args.bytes.now records c.records.reader c.read_record.new.reader c.in_ok-read_record.field-0 c.read_record.new.record read (search rules) c.in_ok-read_record.ensures.reads c.in_ok-read_record.ensures.ready c.in_ok-read_record.ensures.flexible in
-    let fields = fields_of c.read_record.new.record in
+    let later = read_more c.args.bytes.now records c.records.reader c.read_record.new.reader c.in_ok-read_record.field-0 c.read_record.new.row read (search rules) c.in_ok-read_record.ensures.reads c.in_ok-read_record.ensures.ready c.in_ok-read_record.ensures.flexible in
+    let fields = fields_of c.read_record.new.row in
     let none : row_of field_value c.args.columns.now c.args.places.now c.args.named fields ≡ None = puts-none c.in_ok-push_row.field-0 _ c.records.builder c.push_row.new.builder (search rules) c.in_ok-push_row.ensures in
     inr (
       records ++ fields ∷ [],
@@ -47,11 +47,11 @@ returns-then-not-branch-2-clause-refused c =
 pub records-preserved : goal.records-preserved
 records-preserved c =
     let (records, read, made, begun, kinds, count, number) = c.records.invariant in
-    let fields = fields_of c.read_record.new.record in
+    let fields = fields_of c.read_record.new.row in
     let (row, is, put) = puts-some c.in_ok-push_row.field-0 (row_of field_value c.args.columns.now c.args.places.now c.args.named fields) c.records.builder c.push_row.new.builder (search rules) c.in_ok-push_row.ensures in
     let rows : c.push_row.new.builder.rows ≡ c.records.builder.rows ++ row ∷ [] = ap (λ (v : BegunView). v.rows) put in (
       records ++ fields ∷ [],
-      read_more c.args.bytes.now records c.records.reader c.read_record.new.reader c.in_ok-read_record.field-0 c.read_record.new.record read (search rules) c.in_ok-read_record.ensures.reads c.in_ok-read_record.ensures.ready c.in_ok-read_record.ensures.flexible,
+      read_more c.args.bytes.now records c.records.reader c.read_record.new.reader c.in_ok-read_record.field-0 c.read_record.new.row read (search rules) c.in_ok-read_record.ensures.reads c.in_ok-read_record.ensures.ready c.in_ok-read_record.ensures.flexible,
       rw rows (row_more (row_of field_value c.args.columns.now c.args.places.now c.args.named) 1 records fields c.records.builder.rows row made is),
       ap (λ (v : BegunView). v.begun) put ∙ begun,
       ap (λ (v : BegunView). v.kinds) put ∙ kinds,

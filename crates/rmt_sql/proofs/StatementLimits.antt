@@ -1,0 +1,82 @@
+-- A CREATE that is read has a column, and the command of an ALTER that is read is small.
+use Rattle.std.proofs.Common.{◌≡◌, ℕ, ◌≤◌, List, [], ◌∷◌, ◌++◌, length, sym, subst, Bool, true, false, cond, Option}
+use Rattle.rmt_values.specs.declared.column.Column.{Column}
+use Rattle.rmt_statements.specs.declared.act.Act.{Act}
+use Rattle.rmt_statements.specs.declared.sent.Sent.{Sent}
+use Rattle.rmt_statements.specs.declared.statement.Statement.{Statement}
+use Rattle.rmt_statements.specs.declared.statement.Statement.TheVariants.{Replicas, Create, Kill, Restart, Run, Lanes, At}
+use Rattle.rmt_sql_tokens.specs.declared.context.Context.TheVariants.{Plain}
+use Rattle.rmt_sql_tokens.specs.Tokens.{Spot}
+use Rattle.rmt_sql_tokens.specs.Exact.{Rule}
+use Rattle.rmt_sql_acts.specs.Acts.{HasSmallCommand, act}
+use Rattle.rmt_sql_acts.proofs.LineFacts.{AreWithin, parts_within, spots_within, Every, every_then, every_after, every_gives, every_either, every_ended, listed_some, IsSome}
+use Rattle.rmt_sql_acts.proofs.ActSizes.{IsSmallAct, act_small}
+use Rattle.rmt_sql.specs.Grammar.{column, columns, create_settings, create_order, create_engine, create, sent, lanes, replicas, kill, restart, run, at_replica, later_statement, statement, settings_of, key_of, partition_of}
+use Rattle.rmt_sql.specs.Script.{is_empty, passed, tokens_at, is_first, IsStatementAt, KeepsLimits}
+
+-- a statement, whatever its place
+abbrev Keeps : Statement × ℕ → Type 0
+Keeps s = KeepsLimits s.0
+
+columns_some : Every IsSome columns.form
+unfolding columns
+columns_some = listed_some column
+
+settings_keep : (table : List ℕ) (all : List Column) (partition : Option (List ℕ × ℕ)) (key : List (List ℕ)) → IsSome all → Every Keeps (create_settings table all partition key).form
+unfolding create_settings
+settings_keep table all partition key some =
+    every_after _ _ _ (λ s. every_ended KeepsLimits (Create table all partition key (settings_of s).granularity (settings_of s).window) some)
+
+order_keeps : (table : List ℕ) (all : List Column) (partition : Option (List ℕ × ℕ)) → IsSome all → Every Keeps (create_order table all partition).form
+unfolding create_order
+order_keeps table all partition some =
+    every_after _ _ _ (λ _. every_after _ _ _ (λ _. every_after _ _ _ (λ key. settings_keep table all partition (key_of key) some)))
+
+engine_keeps : (table : List ℕ) (all : List Column) → IsSome all → Every Keeps (create_engine table all).form
+unfolding create_engine
+engine_keeps table all some =
+    every_after _ _ _ (λ _. every_after _ _ _ (λ _. every_after _ _ _ (λ _. every_after _ _ _ (λ _. every_after _ _ _ (λ partition.
+    order_keeps table all (partition_of partition) some)))))
+
+create_keeps : Every Keeps create.form
+unfolding create
+create_keeps =
+    every_after _ _ _ (λ _. every_after _ _ _ (λ _. every_after _ _ _ (λ table. every_after _ _ _ (λ _.
+    every_then IsSome _ _ _ columns_some (λ all some. every_after _ _ _ (λ _. engine_keeps table all some))))))
+
+at_keeps : Every Keeps at_replica.form
+unfolding at_replica
+at_keeps =
+    every_then (λ s. HasSmallCommand s.0.act) _ (sent act).form _
+    (every_after _ _ _ (λ name. every_then IsSmallAct _ act.form _ act_small (λ a small. every_gives _ _ small)))
+    (λ s small. every_gives _ _ small)
+
+later_keeps : Every Keeps later_statement.form
+unfolding later_statement kill restart run lanes
+later_keeps =
+    every_either _ _ _ create_keeps
+    (every_either _ _ _ (every_after _ _ _ (λ _. every_after _ _ _ (λ name. every_ended KeepsLimits (Kill name) tt)))
+    (every_either _ _ _ (every_after _ _ _ (λ _. every_after _ _ _ (λ name. every_ended KeepsLimits (Restart name) tt)))
+    (every_either _ _ _ (every_after _ _ _ (λ _. every_after _ _ _ (λ table. every_after _ _ _ (λ turns. every_after _ _ _ (λ _. every_after _ _ _ (λ seed.
+    every_ended KeepsLimits (Run table turns seed) tt))))))
+    (every_either _ _ _ (every_after _ _ _ (λ _. every_after _ _ _ (λ _. every_after _ _ _ (λ all. every_after _ _ _ (λ _. every_ended KeepsLimits (Lanes all) tt))))) at_keeps))))
+
+statement_keeps : (first : Bool) → Every Keeps (statement first).form
+unfolding statement replicas
+statement_keeps true =
+    every_either _ _ _ (every_after _ _ _ (λ _. every_after _ _ _ (λ n. every_after _ _ _ (λ left. every_gives _ (Replicas n, left) tt)))) later_keeps
+statement_keeps false = later_keeps
+
+passed_within : (ts : List Spot) → AreWithin ts → AreWithin (passed ts)
+passed_within [] within = tt
+passed_within (s ∷ ss) within = go (is_empty s) (passed_within ss within.1)
+  where
+    go : (b : Bool) → AreWithin (passed ss) → AreWithin (cond b (passed ss) (s ∷ ss))
+    go true rest = rest
+    go false rest = within
+
+-- a statement that is read keeps the limits of its form
+pub read_keeps : (script : List ℕ) (at : ℕ) (found : Statement) (start end : ℕ) → IsStatementAt script at found start end → KeepsLimits found
+read_keeps script at found start end h =
+    let within = passed_within (tokens_at script at) (spots_within 0 Plain _) in
+    (statement_keeps (is_first script at)).each h.prefix (found, h.left) (parts_within h.prefix h.more (subst AreWithin (sym h.parts) within)).0 h.line

@@ -1,3 +1,0 @@
-pub mod PhraseLaws
-pub mod FilterReads
-pub mod Ends
