@@ -6,14 +6,11 @@ ghost use Rattle.rmt_statement_model.specs.Shows.{HoldsNone, IsIdle, KeepsUps};
 ghost use Rattle.rmt_play.specs.Checks.{is_played_act};
 ghost use Rattle.rmt_play.specs.PlayerSteps.{ExecutesIn};
 
-use crate::check::check_in;
-use crate::drop::drop_in;
-use crate::explain::explain_in;
 use crate::insert::insert_in;
 use crate::mutation::alter_in;
-use crate::optimize::optimize_in;
-use crate::parts::show_in;
-use crate::select::{read_in, sync_in};
+use crate::partition::{drop_in, optimize_in};
+use crate::parts::{check_in, show_in};
+use crate::select::{explain_in, read_in, sync_in};
 use crate::system::{drain_in, restart_in};
 use crate::wait::wait_in;
 use rmt_cluster::Cluster;

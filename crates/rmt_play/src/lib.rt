@@ -2,16 +2,12 @@
 #![tactic(auto)]
 
 mod act;
-mod check;
-mod drop;
 mod end;
-mod explain;
 mod forms;
 mod insert;
 mod mutation;
 mod named_table;
 mod names;
-mod optimize;
 mod outcome;
 mod partition;
 mod parts;

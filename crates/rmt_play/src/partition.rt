@@ -1,14 +1,20 @@
-//! Partitions as statements name them.
-ghost use Rattle.std.specs.Prelude.{◌≡◌, IfOk, IfErr};
+//! Partitions as statements name them, and the acts on them in their table: DROP PARTITION and OPTIMIZE.
+ghost use Rattle.std.specs.Prelude.{◌≡◌, IfOk, IfErr, ℕ, List as Bytes, length};
 ghost use Rattle.std.specs.declared.option.Option.TheVariants.{Some};
 ghost use Rattle.rmt_statements.specs.Partitions.{partition_named};
 ghost use Rattle.rmt_play.specs.ActRefusals.{refused_partition, refused_asked};
 ghost use Rattle.rmt_play.specs.OptimizeStatement.{IsAsked};
+ghost use Rattle.rmt_state.specs.States.{IsNumber};
+ghost use Rattle.rmt_statement_model.specs.Shows.{HoldsNone, IsIdle, KeepsUps};
+ghost use Rattle.rmt_statements.specs.declared.act.Act.TheVariants as acts;
+ghost use Rattle.rmt_play.specs.PlayerSteps.{ExecutesIn};
 
+use rmt_acts::{drop_partition, optimize, schema_of};
+use rmt_cluster::Cluster;
 use rmt_names::PartitionId;
-use rmt_reply::Refusal;
+use rmt_reply::{Line, Refusal};
 use rmt_statements::PartitionWord;
-use rmt_values::{Name, Schema};
+use rmt_values::{Name, ReplicaId, Schema};
 use std::alloc::{AllocError, Global};
 
 /// The partition that a word names, or the refusal of one that names none.
@@ -47,5 +53,52 @@ pub(crate) fn partition_asked(
     match partition_in(alloc, word, schema)? {
         Ok(partition) => Ok(Ok(Some(partition))),
         Err(refusal) => Ok(Err(refusal)),
+    }
+}
+
+/// Drops the blocks of a partition, or refuses to.
+pub(crate) fn drop_in(
+    alloc: Global,
+    cluster: &mut Cluster,
+    replica: ReplicaId,
+    word: &PartitionWord,
+) -> Result<Line, AllocError>
+    requires here { IsNumber replica (length cluster.old.replicas) }
+    requires idle { IsIdle cluster.old replica }
+    ensures executes { IfOk result (λ line. (table : Bytes ℕ)
+        → ExecutesIn cluster.old replica (acts.DropPartition table word.now) line cluster.new) }
+    ensures free { IfOk result (λ _. HoldsNone cluster.new) }
+    ensures keeps { KeepsUps cluster.old result cluster.new }
+{
+    match partition_in(alloc, word, schema_of(cluster))? {
+        Ok(partition) => match drop_partition(alloc, cluster, replica, partition)? {
+            Ok(below) => Ok(Line::Dropped { partition, below }),
+            Err(refusal) => Ok(Line::Refused(refusal)),
+        },
+        Err(refusal) => Ok(Line::Refused(refusal)),
+    }
+}
+
+/// Merges the parts of each partition into one, or of the one that is named; or refuses to.
+pub(crate) fn optimize_in(
+    alloc: Global,
+    cluster: &mut Cluster,
+    replica: ReplicaId,
+    word: &Option<PartitionWord>,
+) -> Result<Line, AllocError>
+    requires here { IsNumber replica (length cluster.old.replicas) }
+    requires idle { IsIdle cluster.old replica }
+    ensures executes { IfOk result (λ line. (table : Bytes ℕ)
+        → ExecutesIn cluster.old replica (acts.Optimize table word.now) line cluster.new) }
+    ensures free { IfOk result (λ _. HoldsNone cluster.new) }
+    ensures keeps { KeepsUps cluster.old result cluster.new }
+{
+    match partition_asked(alloc, word, schema_of(cluster))? {
+        Ok(asked) => {
+            let made = optimize(alloc, cluster, replica, asked)?;
+            let (names, refused) = (made.names, made.refused);
+            Ok(Line::Optimized { names, refused })
+        }
+        Err(refusal) => Ok(Line::Refused(refusal)),
     }
 }

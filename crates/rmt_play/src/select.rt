@@ -1,10 +1,11 @@
-//! SELECT in its table.
+//! SELECT and EXPLAIN in their table.
 ghost use Rattle.std.specs.Prelude.{◌≡◌, true, length, IfOk};
 ghost use Rattle.rmt_state.specs.States.{IsNumber};
 ghost use Rattle.rmt_statement_model.specs.Shows.{HoldsNone, IsIdle, ups, KeepsUps};
 ghost use Rattle.rmt_play.specs.SelectStatement.{Syncs, Reads};
-ghost use Rattle.rmt_play.specs.QueryAnswers.{IsSelection};
+ghost use Rattle.rmt_play.specs.QueryAnswers.{IsSelection, IsExplained};
 ghost use Rattle.rmt_play.specs.PlayerSteps.{ExecutesQuery};
+ghost use Rattle.rmt_play.specs.ExplainStatement.{Explains};
 
 use crate::names::names_of;
 use crate::query::check;
@@ -12,8 +13,8 @@ use rmt_acts::{answer_up_to_date, read_parts, schema_of, sync_replica};
 use rmt_cluster::Cluster;
 use rmt_list::List;
 use rmt_names::PartName;
-use rmt_query::{Tuple, answer};
-use rmt_reply::Line;
+use rmt_query::{Tuple, answer, explain};
+use rmt_reply::{Granules, Line};
 use rmt_values::{CheckedQuery, Query, ReplicaId};
 use std::alloc::{AllocError, Global};
 
@@ -87,6 +88,43 @@ pub(crate) fn read_in(
             let selection = select(alloc, cluster, replica, &query)?;
             let (parts, rows) = (selection.parts, selection.rows);
             Ok(Line::Read { parts, rows })
+        }
+        Err(refusal) => Ok(Line::Refused(refusal)),
+    }
+}
+
+/// How many granules of a replica's active parts a query reads.
+fn count_granules(
+    alloc: Global,
+    cluster: &Cluster,
+    replica: ReplicaId,
+    query: &CheckedQuery,
+) -> Result<Granules, AllocError>
+    requires here { IsNumber replica (length cluster.now.replicas) }
+    requires up { ups cluster.now replica ≡ true }
+    ensures { IfOk result (IsExplained cluster.now replica query.now) }
+{
+    let snapshot = read_parts(alloc, cluster, replica)?;
+    let granules = explain(alloc, &snapshot, query, schema_of(cluster))?;
+    Ok(Granules::new(granules))
+}
+
+/// Counts the granules that a query reads of what the replica has.
+pub(crate) fn explain_in(
+    alloc: Global,
+    cluster: &Cluster,
+    replica: ReplicaId,
+    query: &Query,
+) -> Result<Line, AllocError>
+    requires here { IsNumber replica (length cluster.now.replicas) }
+    requires up { ups cluster.now replica ≡ true }
+    ensures { IfOk result (λ line. ExecutesQuery cluster.now query.now
+        (λ t. Explains t replica query.now) line cluster.now) }
+{
+    match check(alloc, query, schema_of(cluster))? {
+        Ok(query) => {
+            let granules = count_granules(alloc, cluster, replica, &query)?;
+            Ok(Line::Granules(granules))
         }
         Err(refusal) => Ok(Line::Refused(refusal)),
     }

@@ -4,7 +4,7 @@ use Rattle.rmt_reply.specs.declared.line.Line.TheVariants as lines
 use Rattle.rmt_statements.specs.declared.act.Act.TheVariants as acts
 use Rattle.rmt_play.specs.PlayerSteps.{ExecutesIn}
 use Rattle.rmt_play.proofs.CommandLemmas.{checks-in}
-use Rattle.rmt_play.proofs.check.check_in.Goals as goal
+use Rattle.rmt_play.proofs.parts.check_in.Goals as goal
 
 pub returns : goal.returns
 returns c = λ table.

@@ -7,8 +7,8 @@ use Rattle.rmt_acts.specs.Changing.{DropsTo}
 use Rattle.rmt_reply.specs.declared.line.Line.TheVariants as lines
 use Rattle.rmt_reply.specs.declared.refusal.Refusal.{Refusal}
 use Rattle.rmt_play.proofs.CommandLemmas.{found-holds, dropped, drops-in}
-use Rattle.rmt_play.proofs.drop.drop_in.Goals as goal
-use Rattle.rmt_play.proofs.drop.drop_in.Goals.{In-Ok}
+use Rattle.rmt_play.proofs.partition.drop_in.Goals as goal
+use Rattle.rmt_play.proofs.partition.drop_in.Goals.{In-Ok}
 
 -- the partition that the word names
 named : (c : In-Ok) → partition_named c.args.cluster.now.table.schema.partition c.args.word.now ≡ Some c.in-Ok.partition

@@ -1,5 +1,5 @@
 use Rattle.rmt_play.proofs.ActLemmas.{found-known, found-checked, explains-in}
-use Rattle.rmt_play.proofs.explain.explain_in.Goals as goal
+use Rattle.rmt_play.proofs.select.explain_in.Goals as goal
 
 pub returns-in_ok-granules-in-Ok : goal.returns-in_ok-granules-in-Ok
 returns-in_ok-granules-in-Ok c =

@@ -2,7 +2,7 @@ use Rattle.std.proofs.Common.{subst}
 use Rattle.rmt_values.specs.Rows.{Shape}
 use Rattle.rmt_play.specs.OptimizeStatement.{IsAsked}
 use Rattle.rmt_play.proofs.CommandLemmas.{found-holds, optimizes-in}
-use Rattle.rmt_play.proofs.optimize.optimize_in.Goals as goal
+use Rattle.rmt_play.proofs.partition.optimize_in.Goals as goal
 
 pub returns-in_ok-made-in-Ok-clause-executes : goal.returns-in_ok-made-in-Ok-clause-executes
 returns-in_ok-made-in-Ok-clause-executes c = λ table.
