@@ -66,7 +66,12 @@ fn column(alloc: Global, at: Cursor<'_>) -> Result<(Column, Cursor<'_>), ReadErr
     Ok((Column { name, kind }, at))
 }
 
-impl ListItem for Column {
+/// A column in a list.
+struct ColumnItem;
+
+impl ListItem for ColumnItem {
+    type Value = Column;
+
     ghost rule = { column_rule };
 
     fn read(alloc: Global, at: Cursor<'_>) -> Result<(Column, Cursor<'_>), ReadError> {
@@ -79,7 +84,7 @@ impl ListItem for Column {
 fn columns(alloc: Global, at: Cursor<'_>) -> Result<(List<Column>, Cursor<'_>), ReadError>
     ensures { ReadsAs (λ x. (x.0, tokens x.1)) result ((columns_rule).read (tokens at.entry)) }
 {
-    listed(alloc, at)
+    listed::<ColumnItem>(alloc, at)
 }
 
 /// text , text

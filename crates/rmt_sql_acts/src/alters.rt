@@ -102,7 +102,12 @@ fn assignment(alloc: Global, at: Cursor<'_>) -> Result<((Name, Right), Cursor<'_
     Ok(((column, right), at))
 }
 
-impl ListItem for (Name, Right) {
+/// An assignment in a list.
+struct AssignmentItem;
+
+impl ListItem for AssignmentItem {
+    type Value = (Name, Right);
+
     ghost rule = { assignment_rule };
 
     fn read(alloc: Global, at: Cursor<'_>) -> Result<((Name, Right), Cursor<'_>), ReadError> {
@@ -118,7 +123,7 @@ fn assignments(
 ) -> Result<(List<(Name, Right)>, Cursor<'_>), ReadError>
     ensures { ReadsAs (λ x. (x.0, tokens x.1)) result ((assignments_rule).read (tokens at.entry)) }
 {
-    listed(alloc, at)
+    listed::<AssignmentItem>(alloc, at)
 }
 
 /// UPDATE assignments WHERE filter ;

@@ -9,7 +9,7 @@ ghost use Rattle.rmt_sql_acts.specs.Phrases.{word};
 ghost use Rattle.rmt_sql_acts.specs.Acts.{row as row_rule, further_row as further_rule, rows as rows_rule, row_firsts, insertion, values as values_rule, csv as csv_rule, insert_rows as insert_rows_rule, quorum_setting as quorum_rule, quorum_and_rows as quorum_and_rows_rule, into as into_rule, into_table as into_table_rule, insert as insert_rule};
 
 use crate::list_item::listed;
-use crate::parts::{name, some_names};
+use crate::parts::{LiteralItem, name, some_names};
 use rmt_list::List;
 use rmt_sql_tokens::{
     Cursor, ReadError, SymbolKind, data, end, exactly, is_keyword_next, is_symbol_next, keyword,
@@ -25,7 +25,7 @@ fn row(alloc: Global, at: Cursor<'_>) -> Result<(List<Literal>, Cursor<'_>), Rea
     ensures { ReadsAs (λ x. (x.0, tokens x.1)) result ((row_rule).read (tokens at.entry)) }
 {
     let at = symbol(at, SymbolKind::Open)?;
-    let (all, at) = listed(alloc, at)?;
+    let (all, at) = listed::<LiteralItem>(alloc, at)?;
     let at = symbol(at, SymbolKind::Close)?;
     Ok((all, at))
 }

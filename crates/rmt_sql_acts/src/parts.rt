@@ -31,7 +31,12 @@ pub fn name(alloc: Global, at: Cursor<'_>) -> Result<(Name, Cursor<'_>), ReadErr
     Ok((name, at))
 }
 
-impl ListItem for Name {
+/// A name in a list.
+struct NameItem;
+
+impl ListItem for NameItem {
+    type Value = Name;
+
     ghost rule = { token a_word };
 
     fn read(alloc: Global, at: Cursor<'_>) -> Result<(Name, Cursor<'_>), ReadError> {
@@ -44,7 +49,7 @@ impl ListItem for Name {
 pub fn names(alloc: Global, at: Cursor<'_>) -> Result<(List<Name>, Cursor<'_>), ReadError>
     ensures { ReadsAs (λ x. (x.0, tokens x.1)) result ((names_rule).read (tokens at.entry)) }
 {
-    listed(alloc, at)
+    listed::<NameItem>(alloc, at)
 }
 
 /// Reads names in parentheses: ( names )
@@ -93,7 +98,12 @@ pub fn literal(alloc: Global, at: Cursor<'_>) -> Result<(Literal, Cursor<'_>), R
     Ok((Literal::Number { minus: false, size }, at))
 }
 
-impl ListItem for Literal {
+/// A literal in a list.
+pub(crate) struct LiteralItem;
+
+impl ListItem for LiteralItem {
+    type Value = Literal;
+
     ghost rule = { literal_rule };
 
     fn read(alloc: Global, at: Cursor<'_>) -> Result<(Literal, Cursor<'_>), ReadError> {

@@ -3,6 +3,7 @@ use Rattle.std.specs.Prelude.{IfOk}
 use Rattle.rmt_statements.specs.declared.act.Act.{Act}
 use Rattle.rmt_statements.specs.declared.act.Act.TheVariants as acts
 use Rattle.rmt_statements.specs.declared.mode.Mode.TheVariants as modes
+use Rattle.rmt_sql_acts.specs.Acts.{HasSmallCommand}
 use Rattle.rmt_play.specs.PlayerSteps.{ExecutesIn}
 use Rattle.rmt_play.proofs.CommandLemmas.{on-line}
 use Rattle.rmt_play.proofs.act.act_in.Goals as goal
@@ -20,6 +21,9 @@ returns-in-Plain-clause-executes c =
 pub returns-in-Explain-clause-executes : goal.returns-in-Explain-clause-executes
 returns-in-Explain-clause-executes c =
     subst (λ (a : Act). IfOk c.explain_in.result (λ line. ExecutesIn c.args.cluster.now c.args.replica a line c.args.cluster.now)) (sym c.in-Explain.is) c.explain_in.ensures
+
+pub alter_in-requires-clause-small : goal.alter_in-requires-clause-small
+alter_in-requires-clause-small c = subst HasSmallCommand c.in-Mutate.is c.requires.small
 
 pub returns-in-Mutate-clause-executes : goal.returns-in-Mutate-clause-executes
 returns-in-Mutate-clause-executes c =
