@@ -1,4 +1,4 @@
-use Rattle.std.proofs.Common.{◌≡◌, ◌+◌, ◌-◌, ◌<◌, List, length, arith, refl, subst, slice_set}
+use Rattle.std.proofs.Common.{◌≡◌, ℕ, ◌-◌, arith, refl, subst, slice_set}
 use Rattle.std.specs.Prelude.{slice_get, IfSome}
 use Rattle.std.specs.declared.option.Option.TheVariants.{Some}
 use Rattle.std.proofs.lemmas.Grind.{common_steps}
@@ -49,4 +49,15 @@ returns c =
     let j = c.from.result - 1 in
     let x = c.index_mut.result.now in
     let there : slice_get i.replicas.items j ≡ Some x = grind (arith, common_steps, gets) in
-    ?
+    let s : StateView = record { tree = i.tree; replicas = i.replicas.items } in
+    let t : StateView = record { tree = i.tree; replicas = slice_set i.replicas.items j c.apply.new.self } in
+    let told : AppliesAt s c.from.result c.args.i c.args.supply c.apply.result t = record {
+      old = x;
+      new = c.apply.new.self;
+      at = there;
+      answers = c.apply.ensures.answer;
+      changes = c.apply.ensures.change;
+      rest = refl;
+    } in
+    subst (λ (v : StateView). AppliesAt v c.args.replica c.args.i c.args.supply c.apply.result t) c.self.view_is
+    (subst (λ (k : ℕ). AppliesAt s k c.args.i c.args.supply c.apply.result t) c.from.ensures told)
