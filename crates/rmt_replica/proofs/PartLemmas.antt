@@ -1,20 +1,20 @@
 -- What a change does to the parts of a replica, and to their names.
-use Rattle.std.proofs.Common.{◌≡◌, ℕ, zero, suc, ◌<◌, ◌≤◌, ◌⊎◌, inl, inr, ◌&&◌, Bool, true, false, not, cond, List, [], ◌∷◌, ◌++◌, length, filter, take, drop, refl, sym, ap, subst, arith, ◌∙◌, nat_eq, nat_lt, nat_le}
+use Rattle.std.proofs.Common.{◌≡◌, ℕ, zero, suc, ◌<◌, ◌≤◌, ◌⊎◌, inl, inr, ◌&&◌, Bool, true, false, not, cond, List, [], ◌∷◌, length, filter, take, refl, sym, ap, subst, arith, ◌∙◌, nat_lt}
 use Rattle.std.proofs.lemmas.Bool.Decides.{nat_tests}
 use Rattle.std.specs.Prelude.{slice_get}
 use Rattle.std.specs.declared.option.Option.{Option}
 use Rattle.std.specs.declared.option.Option.TheVariants.{Some}
 use Rattle.rmt_values.specs.Rows.{Shape}
-use Rattle.rmt_names.specs.Names.{Name, rank, covers}
+use Rattle.rmt_names.specs.Names.{Name, covers}
 use Rattle.rmt_entries.specs.Entries.{result_name}
 use Rattle.rmt_entries.specs.declared.entry.Entry.{Entry}
 use Rattle.rmt_entries.specs.declared.entry.Entry.TheVariants.{DropRange}
 use Rattle.rmt_model.specs.Words.{Has, Each}
 use Rattle.rmt_model.specs.Live.{made, placed, before, in_drop, Dropped, DroppedAfter}
-use Rattle.rmt_model.specs.Lawful.{Lawful, DropIn, entry_at}
+use Rattle.rmt_model.specs.Lawful.{Lawful, entry_at}
 use Rattle.rmt_model.proofs.Lists.{Has-filter, rank-injective}
 use Rattle.rmt_model.proofs.Drops.{some-same, entry-below, entry-cases, entry-has, newest-made, drop-takes, dropped-after, dropped-place}
-use Rattle.rmt_part.specs.Lineages.{PartValue, IsPart, IsOfLog}
+use Rattle.rmt_part.specs.Lineages.{PartValue}
 use Rattle.rmt_partset.specs.ActiveParts.{Replace, Drop, after, put_in, part_names}
 use Rattle.rmt_partset.proofs.Replacing.{names-replaced}
 use Rattle.rmt_replica.specs.Parts.{IsMadeIn}

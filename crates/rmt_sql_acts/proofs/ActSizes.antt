@@ -1,5 +1,5 @@
 -- An ALTER that is read has a small command: its filter nests at most 320 deep, and an UPDATE sets a column at least.
-use Rattle.std.proofs.Common.{◌≡◌, ◌∙◌, ℕ, zero, suc, ◌+◌, ◌-◌, ◌≤◌, ◌<◌, List, [], ◌∷◌, length, max, nat_lt, refl, ap, sym, arith, Bool, true, false, cond, Option, Some, None}
+use Rattle.std.proofs.Common.{◌≡◌, ◌∙◌, ℕ, zero, suc, ◌+◌, ◌-◌, ◌≤◌, ◌<◌, List, [], ◌∷◌, max, nat_lt, refl, ap, sym, arith, Bool, true, false, cond, Option, Some, None}
 use Rattle.std.proofs.Math.Nat.{max-le}
 use Rattle.std.proofs.lemmas.Bool.{ltb-true}
 use Rattle.std.specs.Prelude.{codes}
@@ -11,7 +11,7 @@ use Rattle.rmt_values.specs.declared.filter.Filter.TheVariants.{Test, Both, Eith
 use Rattle.rmt_values.specs.declared.filter.Filter.TheOpen as level
 use Rattle.rmt_values.specs.declared.filter.Filter.TheFolds.{fold-roll-Filter}
 use Rattle.rmt_values.specs.declared.mutation.Mutation.TheVariants.{Update, Delete}
-use Rattle.rmt_expr.specs.Sizes.{level_nesting, nesting, IsSmallCommand}
+use Rattle.rmt_expr.specs.Sizes.{level_nesting, nesting}
 use Rattle.rmt_statements.specs.declared.act.Act.{Act}
 use Rattle.rmt_statements.specs.declared.act.Act.TheVariants.{Select, Explain, Mutate, DropPartition, Optimize, ShowParts, CheckTable, WaitMutation, SyncReplica, RestartReplica, StopFetches, StartFetches}
 use Rattle.rmt_statements.specs.declared.offered.Offered.TheVariants.{Values, Csv}

@@ -3,7 +3,7 @@ use Rattle.std.proofs.Common.{◌≡◌, ◌∙◌, ℕ, List, [], ◌∷◌, �
 use Rattle.std.specs.Prelude.{pred, nat_lt}
 use Rattle.std.proofs.lemmas.List.{append-nil}
 use Rattle.rmt_sql_tokens.specs.Tokens.{Token, Semicolon, Spot}
-use Rattle.rmt_sql_tokens.specs.Singles.{an_end, end_in, a_semicolon, semicolon_in}
+use Rattle.rmt_sql_tokens.specs.Singles.{an_end, end_in, semicolon_in}
 use Rattle.rmt_sql_tokens.specs.Exact.{One, Then, Gives, Either}
 use Rattle.rmt_sql_acts.specs.Phrases.{ended}
 
