@@ -1,7 +1,7 @@
 -- An entry that a replica does, as a cluster sees it.
 use Rattle.std.proofs.Common.{◌≡◌, ℕ, ◌+◌, ◌<◌, ◌≤◌, inl, inr, Bool, true, false, cond, List, [], ◌∷◌, length, refl, sym, ap, subst, ◌∙◌, arith, nat_eq}
 use Rattle.std.proofs.lemmas.Bool.Decides.{nat_tests}
-use Rattle.std.specs.Prelude.{slice_set, IfOk, IfSome, MatchOption}
+use Rattle.std.specs.Prelude.{slice_get, slice_set, IfOk, IfSome, MatchOption, OnErr}
 use Rattle.std.specs.Arc.{arc_value}
 use Rattle.std.specs.declared.alloc.AllocError.{AllocError}
 use Rattle.std.specs.declared.option.Option.{Option}
@@ -47,8 +47,8 @@ use Rattle.rmt_supply.specs.PartSources.{AreOfOneTable, IsClusterOf, Does, Suits
 use Rattle.rmt_state.specs.States.{StateView, Belongs, AreNumbered, IsState, cluster_of, Acts}
 use Rattle.rmt_cluster.specs.Acting.{KeepsAccepted}
 use Rattle.rmt_cluster.specs.Causes.{IsApplyReply}
-use Rattle.rmt_state.proofs.StateLemmas.{at-place}
-use Rattle.rmt_state.proofs.PullLemmas.{changed-at, down-in}
+use Rattle.rmt_state.proofs.StateLemmas.{at-err, at-place}
+use Rattle.rmt_state.proofs.PullLemmas.{changed-at, down-in, same-state}
 use Rattle.rmt_state.proofs.AssignLemmas.{IsWorker, up-at, declined}
 
 -- ---- what is refused
@@ -218,3 +218,9 @@ apply-told s k j x y i supply (Err errors.Down) q w t u l f a c e = absurd (cc)
 apply-told s k j x y i supply (Err (errors.NeedsPart b)) q w t u l f a c e = absurd (a.3 (serves s.replicas x i b supply a.1 a.2 f))
 apply-told s k j x y i supply (Err errors.Memory) (Ok reply) w t u l f a c e = absurd (cc)
 apply-told s k j x y i supply (Err errors.Memory) (Err z) w t u l f a c e = tt
+
+-- where no memory was left nothing changed
+pub apply-stays : (s : StateView) (j i : ℕ) (x y : ReplicaView) (supply : Supply) (r : Result Applied ApplyError) (q : Result Reply AllocError) → slice_get s.replicas j ≡ Some x → own.IsChange x i supply r y → IsApplyReply r q
+    → OnErr q (record s { replicas = slice_set s.replicas j y } ≡ s)
+apply-stays s j i x y supply (Ok d) q t c e = subst (λ (o : Result Reply AllocError). OnErr o (record s { replicas = slice_set s.replicas j y } ≡ s)) (sym e) tt
+apply-stays s j i x y supply (Err z) q t c e = at-err q _ (same-state s.tree s.tree s.replicas j x y t c refl)

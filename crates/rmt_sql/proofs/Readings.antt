@@ -1,5 +1,5 @@
 -- What is at a place of a script is one thing: two readings of one place are the same.
-use Rattle.std.proofs.Common.{◌≡◌, ◌∙◌, ℕ, ◌-◌, ◌<◌, List, [], ◌∷◌, ◌++◌, length, ap, sym, subst, refl, inl, inr, Bool, true, false, append_assoc, Ok, Err, Result}
+use Rattle.std.proofs.Common.{◌≡◌, ◌∙◌, ℕ, ◌-◌, ◌<◌, List, [], ◌∷◌, ◌++◌, length, ap, sym, subst, refl, inl, inr, true, false, append_assoc, Ok, Err, Result}
 use Rattle.std.proofs.lemmas.Bool.{cases_order}
 use Rattle.rmt_sql_tokens.specs.Tokens.{Spot}
 use Rattle.rmt_sql_tokens.specs.Classes.{End, next_among}

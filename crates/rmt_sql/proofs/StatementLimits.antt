@@ -1,13 +1,10 @@
 -- A CREATE that is read has a column, and the command of an ALTER that is read is small.
-use Rattle.std.proofs.Common.{◌≡◌, ℕ, ◌≤◌, List, [], ◌∷◌, ◌++◌, length, sym, subst, Bool, true, false, cond, Option}
+use Rattle.std.proofs.Common.{ℕ, List, [], ◌∷◌, sym, subst, Bool, true, false, cond, Option}
 use Rattle.rmt_values.specs.declared.column.Column.{Column}
-use Rattle.rmt_statements.specs.declared.act.Act.{Act}
-use Rattle.rmt_statements.specs.declared.sent.Sent.{Sent}
 use Rattle.rmt_statements.specs.declared.statement.Statement.{Statement}
-use Rattle.rmt_statements.specs.declared.statement.Statement.TheVariants.{Replicas, Create, Kill, Restart, Run, Lanes, At}
+use Rattle.rmt_statements.specs.declared.statement.Statement.TheVariants.{Replicas, Create, Kill, Restart, Run, Lanes}
 use Rattle.rmt_sql_tokens.specs.declared.context.Context.TheVariants.{Plain}
 use Rattle.rmt_sql_tokens.specs.Tokens.{Spot}
-use Rattle.rmt_sql_tokens.specs.Exact.{Rule}
 use Rattle.rmt_sql_acts.specs.Acts.{HasSmallCommand, act}
 use Rattle.rmt_sql_acts.proofs.LineFacts.{AreWithin, parts_within, spots_within, Every, every_then, every_after, every_gives, every_either, every_ended, listed_some, IsSome}
 use Rattle.rmt_sql_acts.proofs.ActSizes.{IsSmallAct, act_small}

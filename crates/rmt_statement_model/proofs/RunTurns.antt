@@ -6,10 +6,9 @@ use Rattle.std.specs.declared.option.Option.TheVariants.{Some, None}
 use Rattle.rmt_names.specs.Names.{Name}
 use Rattle.rmt_model.specs.Words.{Has}
 use Rattle.rmt_model.proofs.Drops.{some-same}
-use Rattle.rmt_model.specs.Live.{live}
 use Rattle.rmt_events.specs.Views.{Replica}
 use Rattle.rmt_events.specs.Clusters.{Cluster}
-use Rattle.rmt_events.specs.Draws.{Turn, turn, turn_with, turn_at, pending, merge_or_pull, mutate_or_pull, apply_or_pull, chosen, next_mutation_among, drawn, stepped}
+use Rattle.rmt_events.specs.Draws.{Turn, turn, turn_with, turn_at, pending, merge_or_pull, mutate_or_pull, apply_or_pull, chosen, next_mutation, drawn, stepped}
 use Rattle.rmt_events.specs.Whole.{IsWhole}
 use Rattle.rmt_statement_model.specs.Shows.{ups}
 use Rattle.rmt_statement_model.proofs.UpLaws.{KeepsSessions, up-of}
@@ -59,12 +58,12 @@ turn-is s x w = given (drawn (stepped x) % 8) (stepped (stepped x)) (slice_get s
             cond b (record { event = ev.Pull z.number; state = y })
             (cond d (apply_or_pull y z.number (pending z))
             (cond e (record { event = merge_or_pull z.number (chosen z.log 10); state = y })
-            (cond f (record { event = mutate_or_pull z.number (next_mutation_among z.log (live z.log)); state = y })
+            (cond f (record { event = mutate_or_pull z.number (next_mutation z.log); state = y })
             (record { event = cond z.up (ev.Restart z.number) (ev.Pull z.number); state = y }))))))
         first true d e f = tt
         first false true e f = applies y z.number (pending z)
         first false false true f = merges z.number (chosen z.log 10)
-        first false false false true = mutates z.number (next_mutation_among z.log (live z.log))
+        first false false false true = mutates z.number (next_mutation z.log)
         first false false false false = restarts z.number z.up (up-of s.replicas z w.rising h)
 
     given : (a y : ℕ) (o : Option Replica) → ((z : Replica) → o ≡ Some z → Has s.replicas z) → IsOfTurn (ups s) (turn_with a y o).event

@@ -1,10 +1,11 @@
 //! A replica does an entry of its copy of the log with what is supplied.
-ghost use Rattle.std.specs.Prelude.{◌<◌, IfSome, length};
+ghost use Rattle.std.specs.Prelude.{◌≡◌, ◌-◌, ◌<◌, IfSome, length, slice_get};
+ghost use Rattle.std.specs.declared.option.Option.TheVariants.{Some};
 ghost use Rattle.rmt_replica.specs.Replicas.{ReplicaView};
 ghost use Rattle.rmt_replica.specs.Supplies.{supplied};
 ghost use Rattle.rmt_replica.specs.Answers.{IsOfTable};
 ghost use Rattle.rmt_table.specs.TableTrees.{IsReplica};
-ghost use Rattle.rmt_state.specs.States.{IsWorkerAt, AppliesAt};
+ghost use Rattle.rmt_state.specs.States.{AppliesAt};
 
 use crate::state::State;
 use rmt_replica::{Applied, ApplyError, Supply};
@@ -24,8 +25,9 @@ impl State {
         supply: Supply,
     ) -> Result<Applied, ApplyError>
         requires here { IsReplica self.old.tree replica }
-        requires place { (x : ReplicaView) → IsWorkerAt self.old replica x → i < length x.log }
-        requires of_table { (x : ReplicaView) → IsWorkerAt self.old replica x
+        requires place { (x : ReplicaView) → slice_get self.old.replicas (replica - 1) ≡ Some x
+            → i < length x.log }
+        requires of_table { (x : ReplicaView) → slice_get self.old.replicas (replica - 1) ≡ Some x
             → IfSome (supplied supply) (IsOfTable x) }
         ensures { AppliesAt self.old replica i supply result self.new }
     {

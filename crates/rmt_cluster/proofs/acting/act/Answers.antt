@@ -38,7 +38,7 @@ restart-requires c = record { here = is-here c.args.state.now.tree c.in-Restart.
 pub returns-in-Apply-clause-ok : goal.returns-in-Apply-clause-ok
 returns-in-Apply-clause-ok c =
     let a = c.args.attempts.now in
-    if-ok _ _ _ (λ r p. subst (λ (e : Event). ActsWith c.args.state.now a e r c.apply.new.self a) (sym c.in-Apply.is) (λ events. p a.made a.open_ones events)) c.apply.ensures.ok
+    if-ok _ _ _ (λ r p. subst (λ (e : Event). ActsWith c.args.state.now a e r c.apply.new.state a) (sym c.in-Apply.is) (λ events. p a.made a.open_ones events)) c.apply.ensures.ok
 
 pub returns-in-DropPartition-clause-ok : goal.returns-in-DropPartition-clause-ok
 returns-in-DropPartition-clause-ok c =

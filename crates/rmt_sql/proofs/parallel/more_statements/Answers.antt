@@ -1,4 +1,4 @@
-use Rattle.std.proofs.Common.{◌∙◌, sym, map}
+use Rattle.std.proofs.Common.{◌∙◌, sym}
 use Rattle.std.proofs.lemmas.Result.{err_from_is_err_and}
 use Rattle.rmt_sql_tokens.specs.Lexing.{tokens}
 use Rattle.rmt_sql_tokens.specs.Exact.{always, never, item}

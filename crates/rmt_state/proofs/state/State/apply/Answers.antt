@@ -1,13 +1,9 @@
 use Rattle.std.proofs.Common.{◌≡◌, ℕ, ◌-◌, arith, refl, subst, slice_set}
-use Rattle.std.specs.Prelude.{slice_get, IfSome}
+use Rattle.std.specs.Prelude.{slice_get}
 use Rattle.std.specs.declared.option.Option.TheVariants.{Some}
 use Rattle.std.proofs.lemmas.Grind.{common_steps}
 use Rattle.std.proofs.lemmas.Option.{gets}
-use Rattle.rmt_replica.specs.Replicas.{ReplicaView}
-use Rattle.rmt_replica.specs.Supplies.{supplied}
-use Rattle.rmt_state.specs.States.{StateView, Belongs, IsWorkerAt, AppliesAt}
-use Rattle.rmt_history.proofs.ListLemmas.{get-has}
-use Rattle.rmt_state.proofs.StateLemmas.{at-place}
+use Rattle.rmt_state.specs.States.{StateView, AppliesAt}
 use Rattle.rmt_state.proofs.StageLemmas.{state-kept, change-keeps}
 use Rattle.rmt_state.proofs.state.State.apply.Goals as goal
 
@@ -17,11 +13,8 @@ apply-requires-clause-place c =
     let j = c.from.result - 1 in
     let x = c.index_mut.result.now in
     let there : slice_get i.replicas.items j ≡ Some x = grind (arith, common_steps, gets) in
-    let b = Belongs.numbered (at-place i.tree 1 i.replicas.items j x c.self.invariant.numbered there) in
-    let f = c.requires.here.first in
-    let e = c.from.ensures in
-    let w : IsWorkerAt (record { tree = i.tree; replicas = i.replicas.items }) c.args.replica x = record { is_in = get-has i.replicas.items j x there; numbered = omega (arith, b, f, e) } in
-    c.requires.place x (subst (λ (v : StateView). IsWorkerAt v c.args.replica x) c.self.view_is w)
+    let here = subst (λ (k : ℕ). slice_get i.replicas.items (k - 1) ≡ Some x) c.from.ensures there in
+    c.requires.place x (subst (λ (v : StateView). slice_get v.replicas (c.args.replica - 1) ≡ Some x) c.self.view_is here)
 
 pub apply-requires-clause-of_table : goal.apply-requires-clause-of_table
 apply-requires-clause-of_table c =
@@ -29,11 +22,8 @@ apply-requires-clause-of_table c =
     let j = c.from.result - 1 in
     let x = c.index_mut.result.now in
     let there : slice_get i.replicas.items j ≡ Some x = grind (arith, common_steps, gets) in
-    let b = Belongs.numbered (at-place i.tree 1 i.replicas.items j x c.self.invariant.numbered there) in
-    let f = c.requires.here.first in
-    let e = c.from.ensures in
-    let w : IsWorkerAt (record { tree = i.tree; replicas = i.replicas.items }) c.args.replica x = record { is_in = get-has i.replicas.items j x there; numbered = omega (arith, b, f, e) } in
-    c.requires.of_table x (subst (λ (v : StateView). IsWorkerAt v c.args.replica x) c.self.view_is w)
+    let here = subst (λ (k : ℕ). slice_get i.replicas.items (k - 1) ≡ Some x) c.from.ensures there in
+    c.requires.of_table x (subst (λ (v : StateView). slice_get v.replicas (c.args.replica - 1) ≡ Some x) c.self.view_is here)
 
 pub invariant_of-self : goal.invariant_of-self
 invariant_of-self c =
