@@ -10,7 +10,6 @@ use Rattle.rmt_values.specs.Rows.{Shape}
 use Rattle.rmt_names.specs.Names.{Name}
 use Rattle.rmt_entries.specs.declared.entry.Entry.{Entry}
 use Rattle.rmt_model.specs.Words.{Has}
-use Rattle.rmt_model.specs.Live.{live}
 use Rattle.rmt_model.specs.Lawful.{IsPrefix}
 use Rattle.rmt_history.proofs.ListLemmas.{get-has}
 use Rattle.rmt_table_model.specs.Held.{Held}
@@ -18,7 +17,7 @@ use Rattle.rmt_replica.specs.Replicas.{ReplicaView}
 use Rattle.rmt_replica.specs.SeenReplica.{shown}
 use Rattle.rmt_events.specs.Views.{Replica}
 use Rattle.rmt_events.specs.Clusters.{Attempt, Cluster}
-use Rattle.rmt_events.specs.Draws.{Runs, stepped, drawn, pending, chosen, next_mutation_among, turn, turn_with, turn_at, apply_or_pull, merge_or_pull, mutate_or_pull}
+use Rattle.rmt_events.specs.Draws.{Runs, stepped, drawn, pending, chosen, next_mutation, turn, turn_with, turn_at, apply_or_pull, merge_or_pull, mutate_or_pull}
 use Rattle.rmt_events.specs.declared.event.Event.{Event}
 use Rattle.rmt_events.specs.declared.event.Event.TheVariants as ev
 use Rattle.rmt_events.specs.declared.reply.Reply.{Reply}
@@ -94,12 +93,12 @@ turn-taken schema count a x r n = go (nat_le a 1) (nat_le a 4) (nat_eq a 5) (nat
     go : (b c d e : Bool) → IsTaken schema count (cond b (record { event = ev.Pull r.number; state = x })
         (cond c (apply_or_pull x r.number (pending r))
         (cond d (record { event = merge_or_pull r.number (chosen r.log 10); state = x })
-        (cond e (record { event = mutate_or_pull r.number (next_mutation_among r.log (live r.log)); state = x })
+        (cond e (record { event = mutate_or_pull r.number (next_mutation r.log); state = x })
         (record { event = cond r.up (ev.Restart r.number) (ev.Pull r.number); state = x }))))).event
     go true c d e = n
     go false true d e = apply-taken schema count x r.number (pending r) n
     go false false true e = merge-taken schema count r.number (chosen r.log 10) n
-    go false false false true = mutate-taken schema count r.number (next_mutation_among r.log (live r.log)) n
+    go false false false true = mutate-taken schema count r.number (next_mutation r.log) n
     go false false false false = restart-taken schema count r.number r.up n
 
 none-past : (rs : List Replica) (i : ℕ) → slice_get rs i ≡ None → i < length rs → ⊥
