@@ -1,3 +1,4 @@
+use Rattle.std.proofs.Common.{◌∙◌}
 use Rattle.rmt_statement_model.specs.Attempts.{IsCommitReply}
 use Rattle.rmt_acts.proofs.AttemptActs.{commit-answers, commits-by, commit-free, commit-ups}
 use Rattle.rmt_acts.proofs.attempt.commit.Goals as goal

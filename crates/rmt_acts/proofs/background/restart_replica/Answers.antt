@@ -1,3 +1,4 @@
+use Rattle.std.proofs.Common.{◌∙◌}
 use Rattle.rmt_statement_model.proofs.RestartRows.{restart-shows, restart-free, restart-ups}
 use Rattle.rmt_acts.proofs.AttemptActs.{idle-as}
 use Rattle.rmt_acts.proofs.background.restart_replica.Goals as goal

@@ -37,7 +37,7 @@ catch_up-requires-clause-idle c =
 
 pub returns-in_ok-catch_up-in-Entry-clause-keeps : goal.returns-in_ok-catch_up-in-Entry-clause-keeps
 returns-in_ok-catch_up-in-Entry-clause-keeps c = record {
-  table = record { schema = c.catch_up-in-Entry.ensures.keeps.table.schema ∙ c.step.ensures.keeps.schema; replicas = c.catch_up-in-Entry.ensures.keeps.table.replicas ∙ c.step.ensures.keeps.replicas };
+  table = record { schema = c.catch_up.ensures.keeps.table.schema ∙ c.step.ensures.keeps.schema; replicas = c.catch_up.ensures.keeps.table.replicas ∙ c.step.ensures.keeps.replicas };
   ups = c.in_ok-catch_up-in-Entry.ensures.keeps.ups ∙ ups-step c.args.cluster.now c.step.new.self (ev.Mutate c.args.replica c.args.old c.args.upto) c.in_ok-reply.reply c.step.ensures.whole tt c.in_ok-reply.ensures.ok;
 }
 
