@@ -6,10 +6,9 @@ ghost use Rattle.rmt_cluster.specs.Clusters.{MayAct, AfterError};
 
 use crate::attempts::Attempts;
 use crate::commands::copy_command;
-use crate::entries;
-use crate::inserts;
-use rmt_state::State;
+use crate::{entries, inserts};
 use rmt_events::{Event, Reply};
+use rmt_state::State;
 use std::alloc::{AllocError, Global};
 
 /// Does an event to a state and its open attempts. At an error no memory was left.

@@ -22,8 +22,8 @@ mod syncing;
 
 use crate::acting::act;
 use crate::attempts::Attempts;
-use rmt_state::State;
 use rmt_events::{Event, Reply};
+use rmt_state::State;
 use rmt_values::Schema;
 use std::alloc::{AllocError, Global};
 use std::marker::Model;

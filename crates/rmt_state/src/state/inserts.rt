@@ -48,12 +48,7 @@ impl State {
     }
 
     /// Accepts the block of a lock. Its entry's place comes back.
-    pub fn commit(
-        &mut self,
-        alloc: Global,
-        lock: &Lock,
-        values: u64,
-    ) -> Result<u32, CommitError>
+    pub fn commit(&mut self, alloc: Global, lock: &Lock, values: u64) -> Result<u32, CommitError>
         requires here { IsReplica self.old.tree lock.now.replica }
         ensures place { IfOk result (λ place. place ≡ length self.old.tree.log) }
         ensures commits { OnOk result (Commits (table_at self.old.tree) lock.now.id.partition lock.now.number lock.now.id.digest lock.now.replica 0 values (table_at self.new.tree)) }

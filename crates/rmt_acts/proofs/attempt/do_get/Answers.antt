@@ -18,7 +18,7 @@ returns-in_ok-reply c = record {
   keeps = record {
     table = record { schema = c.step-2.ensures.keeps.schema ∙ c.step.ensures.keeps.schema; replicas = c.step-2.ensures.keeps.replicas ∙ c.step.ensures.keeps.replicas };
     ups = get-ups c.args.cluster.now c.step.new.self c.step-2.new.self c.args.replica c.args.entry c.in_ok-_pulled._pulled c.in_ok-reply.reply c.step.ensures.whole
-      c.in_ok-_pulled.ensures.ok c.in_ok-reply.ensures.ok;
+        c.in_ok-_pulled.ensures.ok c.in_ok-reply.ensures.ok;
   };
 }
 
@@ -32,6 +32,6 @@ returns-in_ok-reply-2 c = record {
   keeps = record {
     table = record { schema = c.step-2.ensures.keeps.schema ∙ c.step.ensures.keeps.schema; replicas = c.step-2.ensures.keeps.replicas ∙ c.step.ensures.keeps.replicas };
     ups = get-ups c.args.cluster.now c.step.new.self c.step-2.new.self c.args.replica c.args.entry c.in_ok-_pulled._pulled c.in_ok-reply.reply c.step.ensures.whole
-      c.in_ok-_pulled.ensures.ok c.in_ok-reply.ensures.ok;
+        c.in_ok-_pulled.ensures.ok c.in_ok-reply.ensures.ok;
   };
 }
