@@ -1,12 +1,13 @@
 -- The mutations among the tokens of a copy.
-use Rattle.std.proofs.Common.{◌≡◌, ℕ, zero, suc, ◌+◌, ◌-◌, ◌<◌, inl, inr, Bool, true, false, not, List, [], ◌∷◌, length, map, filter, take, drop, get_or, length-take, refl, sym, ap, subst, arith, ◌∙◌, nat_lt}
+use Rattle.std.proofs.Common.{All, ◌≡◌, ℕ, zero, suc, ◌+◌, ◌-◌, ◌<◌, inl, inr, Bool, true, false, not, List, [], ◌∷◌, length, map, filter, take, drop, get_or, length-take, refl, sym, ap, subst, arith, ◌∙◌, nat_lt}
 use Rattle.std.proofs.lemmas.Bool.Decides.{nat_tests}
 use Rattle.std.proofs.lemmas.Option.{slice_get_cases, slice_get_read}
 use Rattle.std.proofs.lemmas.List.{length-map}
+use Rattle.std.proofs.lemmas.List.Elements.{All-cons}
 use Rattle.std.proofs.lemmas.List.Sums.{prefix_len-le-length}
 use Rattle.std.specs.Prelude.{slice_get}
 use Rattle.std.specs.List.{prefix_len}
-use Rattle.std.specs.declared.option.Option.TheVariants.{Some}
+use Rattle.std.specs.declared.option.Option.TheVariants.{Some, None}
 use Rattle.rmt_values.specs.Rows.{Shape}
 use Rattle.rmt_names.specs.Names.{Name}
 use Rattle.rmt_row.specs.Token.{Token}
@@ -130,6 +131,14 @@ under-first schema tokens i k =
 
 pub under-ordered : (schema : Shape) (tokens : List (Token Entry)) (a : Name) (i : ℕ) → AreKept schema tokens → AreOrdered a (tokens_under tokens i)
 under-ordered schema tokens a i k = subst (AreOrdered a) (sym (under-filter schema tokens i k)) (below-ordered a (is_below i) (mutation_tokens tokens) (mutations-ordered schema tokens a k))
+
+-- each of the mutations at places below i has its pairs in order
+pub under-pairs : (schema : Shape) (tokens : List (Token Entry)) (i : ℕ) → AreKept schema tokens → All (λ t. HasOrder t.value) (tokens_under tokens i)
+under-pairs schema tokens i k = listed (tokens_under tokens i) (AreOrdered.pairs (under-ordered schema tokens (record { partition = None; min = 0; max = 0; level = 0; mutation = 0 }) i k))
+  where
+    listed : (ts : List (Token Entry)) → Each (λ t. HasOrder t.value) ts → All (λ t. HasOrder t.value) ts
+    listed [] h = λ n d l. absurd (omega (arith, l))
+    listed (t ∷ ts) h = All-cons (λ (s : Token Entry). HasOrder s.value) t ts h.0 (listed ts h.1)
 
 under-places : (schema : Shape) (tokens : List (Token Entry)) (i : ℕ) (t : Token Entry) → AreKept schema tokens → Has (tokens_under tokens i) t → IsTokenBelow (seen schema tokens) i t
 under-places schema tokens i t k h =

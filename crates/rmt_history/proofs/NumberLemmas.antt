@@ -67,7 +67,7 @@ abbrev pub at_most : ℕ → Option ℕ → ℕ
 at_most limit None = 0
 at_most limit (Some n) = cond (nat_le n limit) n 0
 
-chosen-number : (pairs : List (Option ℕ × ℕ)) (p : Option ℕ) (test : ℕ → Bool) → AreInOrder pairs → chosen pairs p test ≡ passes test (number_among pairs p)
+pub chosen-number : (pairs : List (Option ℕ × ℕ)) (p : Option ℕ) (test : ℕ → Bool) → AreInOrder pairs → chosen pairs p test ≡ passes test (number_among pairs p)
 chosen-number [] p test r = refl
 chosen-number (x ∷ xs) p test r = go (nat_eq (rank x.0) (rank p)) refl (chosen-number xs p test r.1)
   where

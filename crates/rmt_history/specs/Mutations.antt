@@ -1,11 +1,11 @@
 -- The mutations of a copy of a log: those below a place, and those that are pending for a part.
 -- ClickHouse documentation, ALTER, "Mutations", and system.mutations (`block_numbers`): a mutation takes a block
 -- number in each partition, and applies to the parts with lower data versions.
-use Rattle.std.specs.Prelude.{◌≡◌, ℕ, ◌-◌, ◌<◌, ◌&&◌, Bool, true, false, cond, not, nat_eq, nat_lt, length, List, [], ◌∷◌, filter, slice_get}
+use Rattle.std.specs.Prelude.{◌≡◌, ℕ, ◌-◌, ◌<◌, Bool, true, cond, not, nat_eq, nat_lt, length, List, [], ◌∷◌, filter, slice_get}
 use Rattle.std.specs.Option.{unwrap_or}
 use Rattle.std.specs.declared.option.Option.{Option}
 use Rattle.std.specs.declared.option.Option.TheVariants.{Some, None}
-use Rattle.rmt_names.specs.Names.{Name, rank, data_version}
+use Rattle.rmt_names.specs.Names.{Name, rank}
 use Rattle.rmt_entries.specs.declared.entry.Entry.{Entry}
 use Rattle.rmt_entries.specs.declared.entry.Entry.TheVariants.{Get, Merge, Mutate, Mutation, DropRange}
 use Rattle.rmt_row.specs.Token.{Token}
@@ -47,8 +47,6 @@ number_among (x ∷ xs) p = cond (nat_eq (rank x.0) (rank p)) (Some x.1) (number
 abbrev pub AreInOrder : List (Option ℕ × ℕ) → Type 0
 AreInOrder pairs = Pairwise (λ x y. rank x.0 < rank y.0) pairs
 
--- ---- what only private functions cite
-
 -- the number that a mutation takes in a partition; none for every other entry
 abbrev pub number_in : Entry → Option ℕ → Option ℕ
 number_in (Mutation id numbers command) p = number_among numbers p
@@ -64,6 +62,8 @@ HasOrder (Get q n digest source need) = Unit {0}
 HasOrder (Merge new sources count) = Unit {0}
 HasOrder (Mutate old new upto count mcount) = Unit {0}
 HasOrder (DropRange q n) = Unit {0}
+
+-- ---- what only private functions cite
 
 -- the token's entry isn't pending for the part
 abbrev pub is_settled : Name → Token Entry → Bool

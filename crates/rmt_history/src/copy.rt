@@ -1,11 +1,12 @@
 ghost use Rattle.std.specs.Prelude.{◌≡◌, ◌∷◌, [], ◌++◌, None, cond, map, length, vec_len, vec_capacity, slice_get, IfOk, IfSome, OnOk, OnErr, MatchOption, IsTrue, ◌≤◌, ◌<◌, ◌^◌, ◌↔◌};
+ghost use Rattle.std.specs.List.{All};
 ghost use Rattle.std.specs.Option.{option_map};
 ghost use Rattle.std.specs.declared.option.Option.TheVariants.{Some};
 ghost use Rattle.std.specs.Arc.{arc_value};
 ghost use Rattle.rmt_model.specs.Live.{live as live_of, DroppedAfter};
 ghost use Rattle.rmt_model.specs.Lawful.{Lawful, entry_at, is_mutation, ver as ver_of, AreNeighbours};
 ghost use Rattle.rmt_history.specs.Copies.{IsMadeBy};
-ghost use Rattle.rmt_history.specs.Mutations.{AreTokensBelow, last_list as last_list_of, mutations_below, pending_below};
+ghost use Rattle.rmt_history.specs.Mutations.{AreTokensBelow, HasOrder, last_list as last_list_of, mutations_below, pending_below};
 ghost use Rattle.rmt_model.specs.Choices.{last_pending as last_pending_of};
 
 use crate::last_drop::{LastDrop, takes_after};
@@ -225,6 +226,7 @@ impl LogCopy {
         ensures tokens { MatchOption result (mutations_below self.now.log end ≡ [])
             (λ list. AreTokensBelow self.now end (mutations_below self.now.log end) (arc_value list.now)) }
         ensures some { IfSome result (λ list. 0 < length (arc_value list.now)) }
+        ensures ordered { IfSome result (λ list. All (λ token. HasOrder token.value) (arc_value list.now)) }
     {
         let count = count_below(last_list(&self.mutations), end);
         if count == 0 {

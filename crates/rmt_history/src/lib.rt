@@ -11,3 +11,4 @@ mod number;
 mod update;
 
 pub use copy::LogCopy;
+pub use number::{number_among, number_in};

@@ -14,8 +14,8 @@ fn is_earlier(pair: &(PartitionId, u32), partition: PartitionId) -> bool
     pair.0 < partition
 }
 
-/// The number in a partition among pairs; none where the partition isn't there.
-fn number_among(pairs: &[(PartitionId, u32)], partition: PartitionId) -> Option<u32>
+/// The number in a partition among pairs in order of their partitions; none where the partition isn't there. By bisection.
+pub fn number_among(pairs: &[(PartitionId, u32)], partition: PartitionId) -> Option<u32>
     requires { AreInOrder pairs.now }
     ensures { result ≡ number_among_of pairs.now partition }
 {
@@ -30,8 +30,8 @@ fn number_among(pairs: &[(PartitionId, u32)], partition: PartitionId) -> Option<
     Some(number)
 }
 
-/// The number that a mutation takes in a partition; none for every other entry.
-pub(crate) fn number_in(entry: &Entry, partition: PartitionId) -> Option<u32>
+/// The number that a mutation takes in a partition; none where it takes none there, and for every other entry. By bisection.
+pub fn number_in(entry: &Entry, partition: PartitionId) -> Option<u32>
     requires { HasOrder entry.now }
     ensures { result ≡ number_in_of entry.now partition }
 {

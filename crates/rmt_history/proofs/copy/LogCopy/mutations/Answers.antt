@@ -1,10 +1,10 @@
-use Rattle.std.proofs.Common.{◌≡◌, ◌<◌, List, [], sym, subst, arith, length}
+use Rattle.std.proofs.Common.{All, ◌≡◌, ◌<◌, List, [], sym, subst, arith, length}
 use Rattle.std.specs.Arc.{arc_value}
 use Rattle.rmt_row.specs.Token.{Token}
 use Rattle.rmt_entries.specs.declared.entry.Entry.{Entry}
 use Rattle.rmt_history.specs.Copies.{History, entries, mutation_tokens}
-use Rattle.rmt_history.specs.Mutations.{mutations_below, AreTokensBelow, PlacesRise}
-use Rattle.rmt_history.proofs.KeptLemmas.{AreKept, seen, mutations-rise, mutations-under, none-under, shared-under, some-under}
+use Rattle.rmt_history.specs.Mutations.{mutations_below, AreTokensBelow, HasOrder, PlacesRise}
+use Rattle.rmt_history.proofs.KeptLemmas.{AreKept, seen, mutations-rise, mutations-under, none-under, shared-under, some-under, under-pairs}
 use Rattle.rmt_history.proofs.SharedLemmas.{last-shared}
 use Rattle.rmt_history.proofs.VersionLemmas.{below-count}
 use Rattle.rmt_history.proofs.copy.LogCopy.mutations.Goals as goal
@@ -40,3 +40,12 @@ returns-clause-some c =
     let z = c.if-count-eq0.false in
     subst (λ (xs : List (Token Entry)). 0 < length xs) (sym (shared-under arc_value c.self.inside.mutations.items c.self.inside.seen.items c.args.end c.count_below-count.result c.index.result.now c.self.invariant.mutating n (omega (arith, z)) c.index.ensures))
     (some-under c.self.inside.seen.items c.args.end c.count_below-count.result n (omega (arith, z)))
+
+pub returns-clause-ordered : goal.returns-clause-ordered
+returns-clause-ordered c =
+    let k : AreKept (arc_value c.self.inside.schema) c.self.inside.seen.items = record { lawful = c.self.invariant.lawful; numbered = c.self.invariant.numbered } in
+    let all : c.last_list.result.now ≡ mutation_tokens c.self.inside.seen.items = last-shared arc_value _ _ _ _ c.last_list.ensures c.deref.ensures.value c.self.invariant.mutating in
+    let n = below-count c.self.inside.seen.items c.last_list.result.now c.args.end c.count_below-count.result all c.count_below-count.ensures.count in
+    let z = c.if-count-eq0.false in
+    subst (λ (xs : List (Token Entry)). All (λ t. HasOrder t.value) xs) (sym (shared-under arc_value c.self.inside.mutations.items c.self.inside.seen.items c.args.end c.count_below-count.result c.index.result.now c.self.invariant.mutating n (omega (arith, z)) c.index.ensures))
+    (under-pairs (arc_value c.self.inside.schema) c.self.inside.seen.items c.args.end k)
