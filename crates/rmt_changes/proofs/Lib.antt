@@ -2,6 +2,6 @@ pub mod TokenOrder
 pub mod CommandLaws
 pub mod ChangeLaws
 pub mod PassLaws
-pub mod PendingLemmas
+pub mod DueLemmas
 pub mod Depths
 pub mod CommandSizes
