@@ -9,3 +9,4 @@ pub mod KeptLemmas
 pub mod VersionLemmas
 pub mod SharedLemmas
 pub mod NeighbourLemmas
+pub mod FollowLemmas

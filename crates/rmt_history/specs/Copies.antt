@@ -80,16 +80,25 @@ takes_after (Some d) i a = nat_lt i d.place && nat_le a.max d.number
 abbrev pub mutation_tokens : List (Token Entry) → List (Token Entry)
 mutation_tokens tokens = filter (λ t. is_mutation t.value) tokens
 
+-- each token is at its place
+abbrev pub AreNumbered : List (Token Entry) → Type 0
+AreNumbered tokens = (i : ℕ) (t : Token Entry) → slice_get tokens i ≡ Some t → t.place ≡ i
+
+-- the name of each token's cell is its place
+abbrev pub AreNamed : List (Token Entry) → Type 0
+AreNamed tokens = (i : ℕ) (t : Token Entry) → slice_get tokens i ≡ Some t → t.cell ≡ i
+
 -- a list for each of these elements, which has all up to it
 pub record ArePrefixes {A : Type 0} (lists : List (List A)) (all : List A) : Type 0 where
   pub counted : length lists ≡ length all
   pub upto : (k : ℕ) (xs : List A) → slice_get lists k ≡ Some xs → xs ≡ take (k + 1) all
 
--- tokens of a lawful log, with its live names, the places at which its names were made, the last drop of each
--- partition, and a list of mutations for each mutation
+-- tokens of a lawful log, each of the cell at its place, with its live names, the places at which its names were made,
+-- the last drop of each partition, and a list of mutations for each mutation
 pub record IsCopy (schema : Shape) (tokens : List (Token Entry)) (names : List Name) (index : BTreeMap Name ℕ) (drops : BTreeMap (Option ℕ) LastDrop) (lists : List (List (Token Entry))) : Type 0 where
   pub lawful : Lawful schema (entries tokens)
-  pub numbered : (i : ℕ) (t : Token Entry) → slice_get tokens i ≡ Some t → t.place ≡ i
+  pub numbered : AreNumbered tokens
+  pub named : AreNamed tokens
   pub living : names ≡ live (entries tokens)
   pub indexed : (a : Name) → IsMadeBy (entries tokens) a (get name_cmp index a)
   pub dropped : (p : Option ℕ) → get partition_cmp drops p ≡ last_drop (entries tokens) p

@@ -1,12 +1,12 @@
 ghost use Rattle.std.specs.Prelude.{◌≡◌, ◌∷◌, [], ◌++◌, None, cond, map, length, vec_len, vec_capacity, slice_get, IfOk, IfSome, OnOk, OnErr, MatchOption, IsTrue, ◌≤◌, ◌<◌, ◌^◌, ◌↔◌};
 ghost use Rattle.std.specs.List.{All};
-ghost use Rattle.std.specs.Option.{option_map};
 ghost use Rattle.std.specs.declared.option.Option.TheVariants.{Some};
 ghost use Rattle.std.specs.Arc.{arc_value};
 ghost use Rattle.rmt_model.specs.Live.{live as live_of, DroppedAfter};
-ghost use Rattle.rmt_model.specs.Lawful.{Lawful, entry_at, is_mutation, ver as ver_of, AreNeighbours};
-ghost use Rattle.rmt_history.specs.Copies.{IsMadeBy};
-ghost use Rattle.rmt_history.specs.Mutations.{AreTokensBelow, HasOrder, last_list as last_list_of, mutations_below, pending_below};
+ghost use Rattle.rmt_model.specs.Lawful.{Lawful, IsPrefix, entry_at, ver as ver_of, AreNeighbours};
+ghost use Rattle.rmt_history.specs.Copies.{IsMadeBy, entries};
+ghost use Rattle.rmt_history.specs.TableLogs.{Follows};
+ghost use Rattle.rmt_history.specs.Mutations.{AreTokensBelow, HasOrder, mutations_below, pending_below};
 ghost use Rattle.rmt_model.specs.Choices.{last_pending as last_pending_of};
 
 use crate::last_drop::{LastDrop, takes_after};
@@ -14,7 +14,8 @@ use crate::mutation_list::{copied, count_below, count_settled, last_list, next_l
 use crate::name_key::NameKey;
 use crate::neighbours::stand_at;
 use crate::number::{is_pending, number_in};
-use crate::update::{follow, note};
+use crate::table_log::TableLog;
+use crate::update::{bring_up, note};
 use rmt_entries::Entry;
 use rmt_list::List;
 use rmt_names::{PartName, PartitionId};
@@ -35,7 +36,7 @@ pub struct LogCopy {
     live: NameSet,
     makers: BTreeMap<NameKey, usize>,
     drops: BTreeMap<PartitionId, LastDrop>,
-    /// For each mutation, the tokens of those up to it, the oldest first.
+    /// For each mutation, the tokens of those up to it, the oldest first. Where the copy follows a log, they are the log's.
     mutations: Vec<Arc<List<Seen<Entry>>, Global>>,
 }
 
@@ -55,26 +56,23 @@ impl Model for LogCopy {
     ghost invariant = { λ c. IsCopy (arc_value c.schema) c.seen.items c.live.names c.makers c.drops (map arc_value c.mutations.items) };
 }
 
-/// Makes room for one more entry, and makes the list of its mutations where it is one. Nothing else changes.
+/// Makes room for one more entry. Nothing else changes.
 fn room_for(
     seen: &mut Vec<Seen<Entry>>,
     live: &mut NameSet,
     mutations: &mut Vec<Arc<List<Seen<Entry>>, Global>>,
-    next: &Seen<Entry>,
-) -> Result<Option<Arc<List<Seen<Entry>>, Global>>, AllocError>
+) -> Result<(), AllocError>
     ensures seen { seen.new.items ≡ seen.old.items }
     ensures live { live.new.names ≡ live.old.names }
     ensures mutations { mutations.new.items ≡ mutations.old.items }
     ensures seen_room { OnOk result (vec_len seen.new < vec_capacity seen.new) }
     ensures live_room { OnOk result (0 < live.new.room) }
     ensures mutations_room { OnOk result (vec_len mutations.new < vec_capacity mutations.new) }
-    ensures list { IfOk result (λ list. option_map arc_value list ≡
-        cond (is_mutation next.now.value) (Some (last_list_of (map arc_value mutations.old.items) ++ next.now ∷ [])) None) }
 {
     seen.reserve(1)?;
     live.reserve()?;
     mutations.reserve(1)?;
-    next_list(*seen.allocator(), mutations, next)
+    Ok(())
 }
 
 impl LogCopy {
@@ -114,6 +112,29 @@ impl LogCopy {
         }
     }
 
+    /// Adds the next entry of the table's log, of which this copies a prefix, and shares the log's list of mutations.
+    ///
+    /// # Errors
+    ///
+    /// When memory runs out. The copy stays as it was.
+    pub fn follow(&mut self, log: &TableLog) -> Result<(), AllocError>
+        requires lawful { Lawful self.old.schema (entries log.now) }
+        requires prefix { IsPrefix self.old.log (entries log.now) }
+        requires longer { length self.old.log < length log.now }
+        ensures ok { OnOk result (Follows self.old log.now self.new) }
+        ensures err { OnErr result (self.new ≡ self.old) }
+    {
+        let place = self.seen.len();
+        let next = log.token(place).copy()?;
+        let list = log.list(self.mutations.len(), &next)?;
+        room_for(&mut self.seen, &mut self.live, &mut self.mutations)?;
+        note(&mut self.makers, &mut self.drops, next.value(), place)?;
+        bring_up(&mut self.live, next.value());
+        push_list(&mut self.mutations, list);
+        self.seen.push(next).unwrap();
+        Ok(())
+    }
+
     /// Adds the next entry, where the longer log is lawful.
     ///
     /// # Errors
@@ -125,10 +146,11 @@ impl LogCopy {
         ensures ok { OnOk result (self.new ≡ record self.old { log = next.value ∷ self.old.log; cells = self.old.cells ++ next.cell ∷ [] }) }
         ensures err { OnErr result (self.new ≡ self.old) }
     {
-        let list = room_for(&mut self.seen, &mut self.live, &mut self.mutations, &next)?;
+        let list = next_list(*self.seen.allocator(), &self.mutations, &next)?;
+        room_for(&mut self.seen, &mut self.live, &mut self.mutations)?;
         let place = self.seen.len();
         note(&mut self.makers, &mut self.drops, next.value(), place)?;
-        follow(&mut self.live, next.value());
+        bring_up(&mut self.live, next.value());
         push_list(&mut self.mutations, list);
         self.seen.push(next).unwrap();
         Ok(())

@@ -1,5 +1,5 @@
-//! A copy of the prefix of a table's log: its entries, what is live after them, and what made it. Its type keeps that the log
-//! is lawful.
+//! A table's log, and copies of its prefixes: the entries, what is live after them, and what made it. A copy's type keeps
+//! that its log is lawful.
 #![tactic(auto)]
 
 mod copy;
@@ -8,7 +8,9 @@ mod mutation_list;
 mod name_key;
 mod neighbours;
 mod number;
+mod table_log;
 mod update;
 
 pub use copy::LogCopy;
 pub use number::{number_among, number_in};
+pub use table_log::TableLog;

@@ -65,7 +65,7 @@ pub(crate) fn copied(alloc: Global, tokens: &[Seen<Entry>]) -> Result<Vec<Seen<E
 }
 
 /// Whether the entry is a mutation.
-fn is_mutation(entry: &Entry) -> bool
+pub(crate) fn is_mutation(entry: &Entry) -> bool
     ensures { result ≡ is_mutation_of entry.now }
 {
     match entry {

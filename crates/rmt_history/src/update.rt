@@ -18,7 +18,7 @@ use std::alloc::AllocError;
 use std::collections::BTreeMap;
 
 /// Brings the live names up to one more entry, where there is room for one more name.
-pub(crate) fn follow(names: &mut NameSet, entry: &Entry)
+pub(crate) fn bring_up(names: &mut NameSet, entry: &Entry)
     requires lawful { FollowsLog entry.now names.old.names }
     requires room { 0 < names.old.room }
     ensures { names.new.names ≡ live_after entry.now names.old.names }
