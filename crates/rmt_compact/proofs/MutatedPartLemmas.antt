@@ -1,13 +1,11 @@
 -- What a part is after its pending mutations.
-use Rattle.std.proofs.Common.{◌≡◌, ℕ, zero, suc, ◌+◌, ◌<◌, ◌≤◌, inr, Bool, true, false, cond, List, [], ◌∷◌, ◌++◌, map, length, take, drop, drop-cons, get_or, slice_get, refl, sym, ap, subst, arith, ◌∙◌, append-nil, nat_eq, nat_lt, All, filter, IsSorted}
+use Rattle.std.proofs.Common.{◌≡◌, ℕ, zero, suc, ◌+◌, ◌<◌, ◌≤◌, inr, Bool, true, false, cond, List, [], ◌∷◌, ◌++◌, map, length, take, slice_get, refl, sym, ap, subst, arith, ◌∙◌, append-nil, nat_eq, nat_lt, All, filter, IsSorted}
 use Rattle.std.proofs.lemmas.Bool.Decides.{nat_tests}
 use Rattle.std.proofs.lemmas.List.Sums.{sum_by-cons}
 use Rattle.std.proofs.lemmas.List.Elements.{filter_map-append, All-cons}
 use Rattle.std.specs.List.{filter_map, cons_option}
-use Rattle.std.specs.Option.{option_and_then}
 use Rattle.std.specs.declared.option.Option.{Option}
 use Rattle.std.specs.declared.option.Option.TheVariants.{Some, None}
-use Rattle.rmt_values.specs.Commands.{applied}
 use Rattle.rmt_values.specs.Rows.{Shape, fits, key_cmp}
 use Rattle.rmt_names.specs.Names.{Name, data_version}
 use Rattle.rmt_entries.specs.Entries.{result_name}
@@ -19,18 +17,17 @@ use Rattle.rmt_granules.specs.MadePart.{data_of}
 use Rattle.rmt_granules.proofs.MergeLemmas.{merged-sorted}
 use Rattle.rmt_model.specs.Words.{Has, Each}
 use Rattle.rmt_model.specs.Lawful.{Lawful, IsMutation, IsMutationWith, is_mutation, mutation_count, entry_at}
-use Rattle.rmt_model.specs.Content.{Row, changed_by, changed}
+use Rattle.rmt_model.specs.Content.{Row, changed}
 use Rattle.rmt_model.specs.Parts.{own_content, AreNumbered, EndAt, IsLineage, IsPartOf}
 use Rattle.rmt_model.proofs.Lists.{Each-all, Has-filter}
 use Rattle.rmt_model.proofs.Drops.{entry-below, entry-has}
 use Rattle.rmt_history.specs.Copies.{History}
 use Rattle.rmt_history.specs.Mutations.{first_entries, mutations_below, IsTokenBelow, AreTokensBelow}
-use Rattle.rmt_changes.specs.Changes.{between}
-use Rattle.rmt_changes.proofs.TokenOrder.{forward, forward-changed}
+use Rattle.rmt_changes.specs.Changes.{between, applied_all}
 use Rattle.rmt_part.specs.Lineages.{AcceptedView, PartValue, IsGetOf, numbered, entries_of, lineage_of, IsPart}
 use Rattle.rmt_part.proofs.RowChanges.{filter_map-same}
 use Rattle.rmt_part.proofs.PartLaws.{of-log-has}
-use Rattle.rmt_compact.specs.NewParts.{upto_of, IsMutateOf, IsMutated, has_number}
+use Rattle.rmt_compact.specs.NewParts.{upto_of, IsMutateOf, IsMutated}
 use Rattle.rmt_compact.proofs.ToldParts.{told, Makes}
 use Rattle.rmt_compact.proofs.MutateLaws.{mutate-tells, changed-fits, MutateLine, mutate-line, MutatePlaces, mutate-places}
 use Rattle.rmt_compact.proofs.NewPartLemmas.{some-same, no-name}
@@ -243,37 +240,16 @@ mutated-part token old name tokens rows shape body blocks copy a is ts s d bs =
 pub is-mutated : (token : Token Entry) (old : PartValue) (copy : History) (part : PartValue) (shape : Shape) (name : Name) (body : Data) (blocks : List AcceptedView) (tokens : List (Token Entry)) → part ≡ record { schema = shape; name = name; body = body; made = token; blocks = blocks; mutations = tokens } → shape ≡ old.schema → result_name token.value ≡ Some name → blocks ≡ old.blocks → entries_of tokens ≡ mutations_below copy.log (upto_of token.value + 1) → Each (IsTokenBelow copy (upto_of token.value + 1)) tokens → IsMutated token old copy part
 is-mutated token old copy part shape name body blocks tokens e s h bs ts us = subst (IsMutated token old copy) (sym e) (record { schema = s; named = h; made = refl; blocks = bs; mutations = ts; tokens = us })
 
--- ---- steps of loops
+-- ---- what calls tell
 
--- a token that has no number that passes changes no row
-pub pending-next : (p : Option ℕ) (t : ℕ → Bool) (tokens : List (Token Entry)) (i : ℕ) (x : Token Entry) → x ≡ get_or tokens i x → i < length tokens → has_number x.value p t ≡ false → ((row : Row) → changed (entries_of (drop i tokens)) p t row ≡ changed (entries_of tokens) p t row) → (row : Row) → changed (entries_of (drop (i + 1) tokens)) p t row ≡ changed (entries_of tokens) p t row
-pending-next p t tokens i x e h f g row =
-    let n : i + 1 ≡ suc i = omega arith in
-    ap (λ k. changed (entries_of (drop k tokens)) p t row) n
-    ∙ (sym (forward-changed p t (drop (suc i) tokens) row)
-    ∙ (sym (ap (option_and_then (forward p t (drop (suc i) tokens))) (kept x.value f row))
-    ∙ (sym (ap (λ (l : List (Token Entry)). forward p t l row) (drop-cons tokens i x h ∙ ap (λ (y : Token Entry). y ∷ drop (suc i) tokens) (sym e)))
-    ∙ (forward-changed p t (drop i tokens) row ∙ g row))))
-  where
-    kept : (y : Entry) → has_number y p t ≡ false → (row : Row) → changed_by y p t row ≡ Some row
-    kept (Mutation id numbers command) f row = ap (λ (b : Bool). cond b (applied command row) (Some row)) f
-    kept (Get q m digest source need) f row = refl
-    kept (Merge new sources count) f row = refl
-    kept (Mutate old new upto count mcount) f row = refl
-    kept (DropRange q m) f row = refl
+-- the rows after the mutations of tokens, in other words
+pub rows-told : (rows old old' : List Row) (all all' : List (Token Entry)) (p p' : Option ℕ) (l l' h h' : ℕ) → rows ≡ filter_map (changed (entries_of all) p (between l h)) old → all ≡ all' → p ≡ p' → l ≡ l' → h ≡ h' → old ≡ old' → rows ≡ filter_map (changed (entries_of all') p' (between l' h')) old'
+rows-told rows old old' all all' p p' l l' h h' e a q m n d = cc
 
--- the rows after pending mutations, in the words of all
-all-mutations : (all pending : List (Token Entry)) (p : Option ℕ) (t : ℕ → Bool) (old rows : List Row) → ((row : Row) → changed (entries_of pending) p t row ≡ changed (entries_of all) p t row) → rows ≡ filter_map (changed (entries_of pending) p t) old → rows ≡ filter_map (changed (entries_of all) p t) old
-all-mutations all pending p t old rows f e = e ∙ filter_map-same (changed (entries_of pending) p t) (changed (entries_of all) p t) f old
-
-pub rows-told : (rows old old' : List Row) (pending all all' : List (Token Entry)) (start : ℕ) (p p' : Option ℕ) (l l' h h' : ℕ) → ((row : Row) → changed (entries_of (drop start all)) p (between l h) row ≡ changed (entries_of all) p (between l h) row) → rows ≡ filter_map (changed (entries_of pending) p (between l h)) old → pending ≡ drop start all → all ≡ all' → p ≡ p' → l ≡ l' → h ≡ h' → old ≡ old' → rows ≡ filter_map (changed (entries_of all') p' (between l' h')) old'
-rows-told rows old old' pending all all' start p p' l l' h h' u e b a q m n d =
-    let first : rows ≡ filter_map (changed (entries_of (drop start all)) p (between l h)) old = e ∙ ap (λ (ts : List (Token Entry)). filter_map (changed (entries_of ts) p (between l h)) old) b in
-    let whole : rows ≡ filter_map (changed (entries_of all) p (between l h)) old = all-mutations all (drop start all) p (between l h) old rows u first in
-    other rows whole
-  where
-    other : (rows : List Row) → rows ≡ filter_map (changed (entries_of all) p (between l h)) old → rows ≡ filter_map (changed (entries_of all') p' (between l' h')) old'
-    other rows w = cc
+-- the rows after the commands of the tokens that are due are those after all
+pub due-rows : (rows old new : List Row) (due all : List (Token Entry)) (p : Option ℕ) (t : ℕ → Bool) → ((row : Row) → applied_all (entries_of due) row ≡ changed (entries_of all) p t row)
+    → new ≡ filter_map (applied_all (entries_of due)) rows → rows ≡ old → new ≡ filter_map (changed (entries_of all) p t) old
+due-rows rows old new due all p t f e r = e ∙ (filter_map-same (applied_all (entries_of due)) (changed (entries_of all) p t) f rows ∙ ap (filter_map (changed (entries_of all) p t)) r)
 
 -- a list that is the copy's
 pub same-below : (copy : History) (end : ℕ) (wanted : List Entry) (shared list : List (Token Entry)) → AreTokensBelow copy end wanted shared → list ≡ shared → AreTokensBelow copy end wanted list

@@ -1,5 +1,5 @@
 -- Tokens whose entries fit a schema, and rows of it.
-use Rattle.std.proofs.Common.{◌≡◌, zero, suc, ℕ, true, List, [], ◌∷◌, ◌++◌, All, map, reverse, length, drop, refl, sym, subst, ◌∙◌, arith}
+use Rattle.std.proofs.Common.{◌≡◌, zero, ℕ, true, List, [], ◌∷◌, ◌++◌, All, map, reverse, length, refl, sym, subst, ◌∙◌, arith}
 use Rattle.std.proofs.lemmas.List.{reverse-append}
 use Rattle.std.proofs.lemmas.List.Elements.{All-cons}
 use Rattle.rmt_values.specs.declared.column.Column.{Column}
@@ -33,18 +33,13 @@ all-listed : (shape : Shape) (tokens : List (Token Entry)) → Each (EntryFits s
 all-listed shape [] h = λ k d l. absurd (omega (arith, l))
 all-listed shape (t ∷ ts) h = All-cons (λ (s : Token Entry). EntryFits shape s.value) t ts h.0 (all-listed shape ts h.1)
 
-all-dropped : (shape : Shape) (n : ℕ) (tokens : List (Token Entry)) → All (λ t. EntryFits shape t.value) tokens → All (λ t. EntryFits shape t.value) (drop n tokens)
-all-dropped shape zero tokens h = h
-all-dropped shape (suc n) [] h = h
-all-dropped shape (suc n) (t ∷ ts) h = all-dropped shape n ts (λ k d l. h (suc k) d (omega (arith, l)))
-
--- the mutations of a lawful log fit its schema, from any of them on
-pub pending-fit : (copy : History) (shape : Shape) (count n : ℕ) (tokens some : List (Token Entry)) → Lawful copy.schema copy.log → shape ≡ copy.schema
-    → entries_of tokens ≡ mutations_below copy.log count → some ≡ drop n tokens → All (λ t. EntryFits shape t.value) some
-pending-fit copy shape count n tokens some l s e d =
+-- the mutations of a lawful log fit its schema
+pub pending-fit : (copy : History) (shape : Shape) (count : ℕ) (tokens some : List (Token Entry)) → Lawful copy.schema copy.log → shape ≡ copy.schema
+    → entries_of tokens ≡ mutations_below copy.log count → some ≡ tokens → All (λ t. EntryFits shape t.value) some
+pending-fit copy shape count tokens some l s e d =
     let fit = entries-fit copy.schema copy.log (entries_of tokens) l (subst (Each _) (sym e) (below-has copy.log count)) in
     subst (λ (x : Shape). All (λ t. EntryFits x t.value) some) (sym s)
-    (subst (λ (ts : List (Token Entry)). All (λ t. EntryFits copy.schema t.value) ts) (sym d) (all-dropped copy.schema n tokens (all-listed copy.schema tokens (each-turned (EntryFits copy.schema) _ fit))))
+    (subst (λ (ts : List (Token Entry)). All (λ t. EntryFits copy.schema t.value) ts) (sym d) (all-listed copy.schema tokens (each-turned (EntryFits copy.schema) _ fit)))
 
 -- rows that fit, of which there is one, have the types of the columns
 pub kinds-there : (columns : List Column) (kinds : List Kind) (rows : List Row) → HaveKinds kinds rows → All (λ row. fits columns row ≡ true) rows → (length rows ≡ 0 → ⊥) → kinds ≡ kinds_in columns

@@ -1,8 +1,7 @@
 -- Which parts an entry of the log makes, of which block or parts, and what they are made from.
 -- ClickHouse documentation: MergeTree, "Data storage" (merges); Data Replication (a part of each inserted block; every replica
 -- merges in the same way); ALTER TABLE .. UPDATE and DELETE (mutations). That a part keeps its lineage is this program's own.
-use Rattle.std.specs.Prelude.{◌≡◌, ℕ, ◌+◌, Bool, false, cond, nat_le, List, [], ◌∷◌, ◌++◌, length, map}
-use Rattle.std.specs.declared.option.Option.{Option}
+use Rattle.std.specs.Prelude.{◌≡◌, ℕ, ◌+◌, cond, nat_le, List, [], ◌∷◌, ◌++◌, length, map}
 use Rattle.std.specs.declared.option.Option.TheVariants.{Some}
 use Rattle.rmt_values.specs.Rows.{Shape, in_key_order}
 use Rattle.rmt_names.specs.Names.{Name}
@@ -15,7 +14,6 @@ use Rattle.rmt_granules.specs.Granules.{PartView as Data}
 use Rattle.rmt_granules.specs.MadePart.{data_of}
 use Rattle.rmt_model.specs.Words.{Each}
 use Rattle.rmt_model.specs.Lawful.{Lawful}
-use Rattle.rmt_model.specs.Content.{chosen}
 use Rattle.rmt_history.specs.Copies.{History}
 use Rattle.rmt_history.specs.Mutations.{mutations_below, IsTokenBelow}
 use Rattle.rmt_part.specs.Lineages.{AcceptedView, PartValue, entries_of, StandsIn, IsOfLog}
@@ -110,13 +108,3 @@ pub record IsMutated (token : Token Entry) (old : PartValue) (copy : History) (p
   pub blocks : part.blocks ≡ old.blocks
   pub mutations : entries_of part.mutations ≡ mutations_below copy.log (upto_of token.value + 1)
   pub tokens : Each (IsTokenBelow copy (upto_of token.value + 1)) part.mutations
-
--- ---- what only private functions cite
-
--- the entry is a mutation with a number of p that passes
-abbrev pub has_number : Entry → Option ℕ → (ℕ → Bool) → Bool
-has_number (Mutation id numbers command) p passes = chosen numbers p passes
-has_number (Get q n digest source need) p passes = false
-has_number (Merge new sources count) p passes = false
-has_number (Mutate old new upto count mcount) p passes = false
-has_number (DropRange q n) p passes = false

@@ -6,7 +6,7 @@ ghost use Rattle.rmt_compact.specs.NewParts.{upto_of as upto_told, IsMutateOf, I
 use crate::gathered::push_blocks;
 use crate::mutation_list::mutations_to;
 use crate::name::made_name;
-use crate::pending::{changed_rows, first_pending};
+use crate::pending::changed_rows;
 use rmt_entries::Entry;
 use rmt_granules::from_rows;
 use rmt_history::LogCopy;
@@ -36,12 +36,10 @@ pub fn mutate(
     let partition = name.partition();
     let high = name.mutation();
     let low = data_version(old.name());
-    let start = first_pending(tokens, partition, low, high);
-    let pending = tokens.split_at(start).1;
     let rows = changed_rows(
         alloc,
         old.body(),
-        pending,
+        tokens,
         partition,
         low,
         high,

@@ -1,7 +1,8 @@
 //! The mutations of a copy of a log, as a list that parts share.
 ghost use Rattle.std.specs.Prelude.{IfOk};
+ghost use Rattle.std.specs.List.{All};
 ghost use Rattle.std.specs.Arc.{arc_value};
-ghost use Rattle.rmt_history.specs.Mutations.{mutations_below, AreTokensBelow};
+ghost use Rattle.rmt_history.specs.Mutations.{mutations_below, AreTokensBelow, HasOrder};
 
 use rmt_entries::Entry;
 use rmt_history::LogCopy;
@@ -16,7 +17,8 @@ pub(crate) fn mutations_to(
     copy: &LogCopy,
     end: usize,
 ) -> Result<Arc<List<Seen<Entry>>, Global>, AllocError>
-    ensures { IfOk result (λ list. AreTokensBelow copy.now end (mutations_below copy.now.log end) (arc_value list)) }
+    ensures tokens { IfOk result (λ list. AreTokensBelow copy.now end (mutations_below copy.now.log end) (arc_value list)) }
+    ensures ordered { IfOk result (λ list. All (λ token. HasOrder token.value) (arc_value list)) }
 {
     let Some(shared) = copy.mutations(end) else {
         let none = Arc::new(alloc, List::empty(alloc))?;

@@ -17,7 +17,7 @@ use Rattle.rmt_entries.specs.declared.entry.Entry.{Entry}
 use Rattle.rmt_row.specs.Token.{Token}
 use Rattle.rmt_model.specs.Words.{Each}
 use Rattle.rmt_model.specs.Content.{Row, changed}
-use Rattle.rmt_changes.specs.Changes.{entries_of}
+use Rattle.rmt_changes.specs.Changes.{applied_all, entries_of}
 use Rattle.rmt_changes.specs.Laws.{EntryFits, KeysStay}
 use Rattle.rmt_keyrange.specs.Chosen.{cell_most, cell_below}
 use Rattle.rmt_keyrange.proofs.Within.{IsWithin}
@@ -148,6 +148,12 @@ after-is entries name name' p v row given new e ep ev en er =
     ∙ (ap (λ (q : Option ℕ). changed entries q (λ k. nat_lt v k) row) ep
     ∙ (ap (λ n. changed entries name'.partition (λ k. nat_lt n k) row) ev
     ∙ (ap (λ (m : Name). row_read entries m row) en ∙ ap (row_read entries name) er)))
+
+-- a row after the commands that are due for its part
+pub due-read : (due held tokens : List (Token Entry)) (name name' : Name) (row : Row) → due ≡ held
+    → ((r : Row) → applied_all (entries_of held) r ≡ row_read (entries_of tokens) name' r) → name' ≡ name → applied_all (entries_of due) row ≡ row_read (entries_of tokens) name row
+due-read due held tokens name name' row e f n =
+    ap (λ (ts : List (Token Entry)). applied_all (entries_of ts) row) e ∙ (f row ∙ ap (λ (m : Name). row_read (entries_of tokens) m row) n)
 
 -- ---- granules that are read
 

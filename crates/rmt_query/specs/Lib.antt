@@ -1,3 +1,4 @@
+pub use Rattle.rmt_history.specs.Mutations
 pub use Rattle.rmt_changes.specs.Changes
 pub mod Cells
 pub mod Groups

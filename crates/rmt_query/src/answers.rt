@@ -2,6 +2,7 @@
 ghost use Rattle.std.specs.Prelude.{◌≡◌, [], map, IfOk};
 ghost use Rattle.std.specs.List.{All};
 ghost use Rattle.rmt_partset.specs.Snapshots.{all_rows, data_in};
+ghost use Rattle.rmt_history.specs.Mutations.{HasOrder};
 ghost use Rattle.rmt_changes.specs.Changes.{entries_of};
 ghost use Rattle.rmt_changes.specs.Laws.{EntryFits};
 ghost use Rattle.rmt_query.specs.ReadRows.{rows_read};
@@ -33,7 +34,8 @@ use std::alloc::{AllocError, Global};
 /// The answer of a query of a schema over the rows of a snapshot of its table: the tuples in ascending order, from left
 /// to right. Each row is first put through the mutations that are pending for its part: of the entries of `pending`,
 /// which are in the order of the log, those that have a number in the part's partition above its data version. Only the
-/// granules that the query's filter chooses are read. At an error no memory was left.
+/// granules that the query's filter chooses are read. The mutations are looked up once for each part, and only commands that
+/// are pending for it go over its rows. At an error no memory was left.
 #[tactic(auto, unfolding(crate::specs::Answers::answer_of))]
 pub fn answer(
     alloc: Global,
@@ -44,6 +46,7 @@ pub fn answer(
 ) -> Result<Vec<Tuple>, AllocError>
     requires parts { All (λ part. part.rows.key ≡ schema.now.key) snapshot.now }
     requires pending { All (λ token. EntryFits schema.now token.value) pending.now }
+    requires order { All (λ token. HasOrder token.value) pending.now }
     ensures ok { IfOk result (λ tuples. tuples.items
         ≡ answer_of schema.now query.now (rows_read (entries_of pending.now) snapshot.now)) }
     ensures none_pending { pending.now ≡ [] → IfOk result (λ tuples. tuples.items
@@ -65,6 +68,7 @@ fn tuples_read(
 ) -> Result<Vec<Tuple>, AllocError>
     requires parts { All (λ part. part.rows.key ≡ schema.now.key) parts.now }
     requires pending { All (λ token. EntryFits schema.now token.value) pending.now }
+    requires order { All (λ token. HasOrder token.value) pending.now }
     ensures { IfOk result (λ tuples. tuples.items
         ≡ tuples_of schema.now query.now (matching query.now.filter (rows_read (entries_of pending.now) parts.now))) }
 {

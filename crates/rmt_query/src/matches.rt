@@ -5,14 +5,15 @@ ghost use Rattle.std.specs.List.{All};
 ghost use Rattle.rmt_values.specs.declared.value.Value.{Value as OneValue};
 ghost use Rattle.std.specs.Prelude.{List};
 ghost use Rattle.rmt_values.specs.Rows.{key_of};
-ghost use Rattle.rmt_changes.specs.Changes.{entries_of};
+ghost use Rattle.rmt_history.specs.Mutations.{HasOrder};
+ghost use Rattle.rmt_changes.specs.Changes.{applied_all, entries_of};
 ghost use Rattle.rmt_changes.specs.Laws.{EntryFits};
 ghost use Rattle.rmt_model.specs.Content.{Row as Values};
 ghost use Rattle.rmt_query.specs.Answers.{matches as matches_filter, matching};
 ghost use Rattle.rmt_query.specs.Explained.{AreInChosen};
 ghost use Rattle.rmt_query.specs.ReadRows.{row_read, rows_of_part, rows_read};
 
-use rmt_changes::{is_pending, keys_stay, pending_row};
+use rmt_changes::{due_mutations, keys_stay, pending_row};
 use rmt_columns::RowRef;
 use rmt_entries::Entry;
 use rmt_expr::holds_in;
@@ -34,6 +35,7 @@ pub fn matching_rows<'a>(
 ) -> Result<Vec<RowRef<'a>>, AllocError>
     requires parts { All (λ part. part.rows.key ≡ schema.now.key) parts.now }
     requires pending { All (λ token. EntryFits schema.now token.value) pending.now }
+    requires order { All (λ token. HasOrder token.value) pending.now }
     ensures { IfOk result (λ rows. rows.items ≡ matching filter.now (rows_read (entries_of pending.now) parts.now)) }
 {
     let mut rows = Vec::new(alloc);
@@ -54,14 +56,15 @@ fn add_matching<'a>(
 ) -> Result<(), AllocError>
     requires part { part.now.rows.key ≡ schema.now.key }
     requires pending { All (λ token. EntryFits schema.now token.value) pending.now }
+    requires order { All (λ token. HasOrder token.value) pending.now }
     ensures { OnOk result (rows.new.items
         ≡ rows.old.items ++ matching filter.now (rows_of_part (entries_of pending.now) part.now)) }
 {
     keys_stay();
     let (first, past) = rows_to_read(part.data(), filter, schema)?;
-    let due = pending_for(pending, part.name());
+    let due = due_for(alloc, pending, part.name())?;
     'rows: for i in first..past {
-        let Some(row) = matching_row(alloc, part, i, filter, due)? else {
+        let Some(row) = matching_row(alloc, part, i, filter, &due)? else {
             continue;
         };
         rows.push(row)?;
@@ -69,30 +72,33 @@ fn add_matching<'a>(
     Ok(())
 }
 
-/// These tokens, where one of them is pending for a part of this name; none where none is.
-fn pending_for<'t>(tokens: &'t [Seen<Entry>], name: &PartName) -> &'t [Seen<Entry>]
-    ensures { (row : Values) → row_read (entries_of result.now) name.now row ≡ row_read (entries_of tokens.now) name.now row }
+/// Copies of the tokens, among these, of the mutations that are pending for a part of this name, in the same order.
+fn due_for(
+    alloc: Global,
+    tokens: &[Seen<Entry>],
+    name: &PartName,
+) -> Result<Vec<Seen<Entry>>, AllocError>
+    requires { All (λ token. HasOrder token.value) tokens.now }
+    ensures { IfOk result (λ due. (row : Values) → applied_all (entries_of due.items) row
+        ≡ row_read (entries_of tokens.now) name.now row) }
 {
-    if is_pending(tokens, name.partition(), data_version(name)) {
-        tokens
-    } else {
-        &[]
-    }
+    let due = due_mutations(alloc, tokens, name.partition(), data_version(name), None)?;
+    Ok(due)
 }
 
-/// A row after the mutations that are pending for its part, where there is one then and it matches.
+/// A row after the commands of the tokens that are due for its part, where there is one then and it matches.
 fn matching_row<'a>(
     alloc: Global,
     part: &'a NamedPart,
     i: usize,
     filter: &Option<Checked>,
-    pending: &[Seen<Entry>],
+    due: &[Seen<Entry>],
 ) -> Result<Option<RowRef<'a>>, AllocError>
     requires { i < length part.now.rows.rows }
     ensures { IfOk result (λ row. option_to_list row ≡ matching filter.now
-        (option_to_list (row_read (entries_of pending.now) part.now.name (slice_index_or part.now.rows.rows i [])))) }
+        (option_to_list (applied_all (entries_of due.now) (slice_index_or part.now.rows.rows i [])))) }
 {
-    let Some(row) = row_after(alloc, part, i, pending)? else {
+    let Some(row) = row_after(alloc, part, i, due)? else {
         return Ok(None);
     };
     if matches(filter, &row) {
@@ -102,24 +108,22 @@ fn matching_row<'a>(
     }
 }
 
-/// A row after the mutations that are pending for its part; none where one of them deletes it. Where none is pending it is
-/// read where it lies.
+/// A row after the commands of the tokens that are due for its part; none where one of them deletes it. Where none is due it
+/// is read where it lies.
 fn row_after<'a>(
     alloc: Global,
     part: &'a NamedPart,
     i: usize,
-    pending: &[Seen<Entry>],
+    due: &[Seen<Entry>],
 ) -> Result<Option<RowRef<'a>>, AllocError>
     requires { i < length part.now.rows.rows }
-    ensures { IfOk result (λ row. row
-        ≡ row_read (entries_of pending.now) part.now.name (slice_index_or part.now.rows.rows i [])) }
+    ensures { IfOk result (λ row. row ≡ applied_all (entries_of due.now) (slice_index_or part.now.rows.rows i [])) }
 {
-    if pending.is_empty() {
+    if due.is_empty() {
         return Ok(Some(RowRef::held(part.data().data(), i)));
     }
     let row = row_of(part.data(), i)?;
-    let name = part.name();
-    match pending_row(alloc, pending, name.partition(), data_version(name), row)? {
+    match pending_row(alloc, due, row)? {
         Some(row) => Ok(Some(RowRef::own(row))),
         None => Ok(None),
     }

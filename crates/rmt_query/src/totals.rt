@@ -5,6 +5,7 @@ ghost use Rattle.std.specs.declared.option.Option.TheVariants.{None};
 ghost use Rattle.rmt_values.specs.declared.value.Value.{Value as OneValue};
 ghost use Rattle.rmt_values.specs.Aggregates.{is_checked_aggregate, is_grouping};
 ghost use Rattle.rmt_names.specs.Names.{data_version as data_version_of};
+ghost use Rattle.rmt_history.specs.Mutations.{HasOrder};
 ghost use Rattle.rmt_changes.specs.Changes.{any_mutates, entries_of};
 ghost use Rattle.rmt_partset.specs.Snapshots.{all_rows, data_in};
 ghost use Rattle.rmt_query.specs.Answers.{groups_of};
@@ -37,6 +38,7 @@ pub fn is_total(query: &CheckedQuery) -> bool
 
 /// Whether no mutation is pending for any of the parts, so that their rows are read as they lie.
 pub fn are_settled(parts: &[NamedPart], pending: &[Seen<Entry>]) -> bool
+    requires { All (λ token. HasOrder token.value) pending.now }
     ensures rows { result ≡ true → rows_read (entries_of pending.now) parts.now ≡ all_rows (data_in parts.now) }
     ensures none { result ≡ false → All (λ part. any_mutates part.name.partition
         (λ k. nat_lt (data_version_of part.name) k) pending.now ≡ false) parts.now → ⊥ }

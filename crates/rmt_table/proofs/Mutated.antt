@@ -1,25 +1,22 @@
 -- What the mutation of a part makes of a table, and why there is none.
-use Rattle.std.proofs.Common.{◌≡◌, ℕ, ◌+◌, ◌<◌, ◌≤◌, Bool, true, false, cond, not, nat_eq, List, [], ◌∷◌, ◌++◌, length, refl, sym, ap, subst, arith, ◌∙◌}
+use Rattle.std.proofs.Common.{◌≡◌, ℕ, ◌+◌, ◌<◌, ◌≤◌, false, List, [], ◌∷◌, ◌++◌, length, refl, sym, ap, subst, arith, ◌∙◌}
 use Rattle.std.specs.Prelude.{IfSome}
-use Rattle.std.proofs.lemmas.Bool.Decides.{nat_tests}
-use Rattle.std.specs.Option.{option_eq}
 use Rattle.std.specs.declared.option.Option.{Option}
 use Rattle.std.specs.declared.option.Option.TheVariants.{Some, None}
 use Rattle.rmt_values.specs.Rows.{Shape}
 use Rattle.rmt_values.specs.declared.limit.Limit.TheVariants as limits
 use Rattle.rmt_values.specs.declared.checked_mutation.CheckedMutation.{CheckedMutation}
-use Rattle.rmt_names.specs.Names.{Name, rank}
+use Rattle.rmt_names.specs.Names.{Name}
 use Rattle.rmt_row.specs.Token.{Token}
 use Rattle.rmt_entries.specs.EntryBytes.{entry_bytes, EntryInRange}
 use Rattle.rmt_entries.specs.declared.entry.Entry.{Entry}
 use Rattle.rmt_entries.specs.declared.entry.Entry.TheVariants.{Mutate, Mutation}
 use Rattle.rmt_model.specs.Lawful.{Lawful, IsMutationWith, is_mutation, entry_at, block_count, mutations_through}
-use Rattle.rmt_model.proofs.Lists.{rank-injective}
 use Rattle.rmt_model.proofs.Drops.{some-same, entry-below}
 use Rattle.rmt_model.specs.EntryLimits.{is_client}
 use Rattle.rmt_history.specs.Copies.{History, entries}
-use Rattle.rmt_history.specs.Mutations.{number_among, number_in}
-use Rattle.rmt_history.proofs.NumberLemmas.{with-in, log-order, option-differs}
+use Rattle.rmt_history.specs.Mutations.{AreInOrder, HasOrder, number_among, number_in}
+use Rattle.rmt_history.proofs.NumberLemmas.{with-in, log-order}
 use Rattle.rmt_tree.specs.Trees.{TreeView}
 use Rattle.rmt_tree.specs.Ops.{first_refusal, after_all}
 use Rattle.rmt_tree.specs.declared.op.Op.{Op}
@@ -56,6 +53,10 @@ pub mutation-number : (schema : Shape) (log : List Entry) (i : ℕ) (e : Entry) 
 mutation-number schema log i e id numbers command p n l q k m =
     ap (λ (x : Entry). number_in x p) (sym k) ∙ with-in e p n (log-order schema log i e l q) (subst (λ (o : Option Entry). IsMutationWith o p n) q m)
 
+-- its pairs are in order
+pub mutation-order : (schema : Shape) (log : List Entry) (i : ℕ) (e : Entry) (id : ℕ) (numbers pairs : List (Option ℕ × ℕ)) (command : CheckedMutation) → Lawful schema log → entry_at log i ≡ Some e → e ≡ Mutation id numbers command → pairs ≡ numbers → AreInOrder pairs
+mutation-order schema log i e id numbers pairs command l q k s = subst AreInOrder (sym s) (subst HasOrder k (log-order schema log i e l q))
+
 -- so many mutations stand up to it, which aren't more than the log is long
 through-is : (schema : Shape) (log : List Entry) (i : ℕ) (e : Entry) (id : ℕ) (numbers : List (Option ℕ × ℕ)) (command : CheckedMutation) → Lawful schema log → entry_at log i ≡ Some e → e ≡ Mutation id numbers command → mutations_through log i ≡ id + 1
 through-is schema log i e id numbers command l q k = mutations-through schema log i id numbers command l (q ∙ ap Some k)
@@ -70,23 +71,6 @@ renamed old p min max level number a b c d =
     ∙ ap (λ (x : ℕ). record { partition = old.partition; min = x; max = max; level = level; mutation = number }) b
     ∙ ap (λ (x : ℕ). record { partition = old.partition; min = old.min; max = x; level = level; mutation = number }) c
     ∙ ap (λ (x : ℕ). record { partition = old.partition; min = old.min; max = old.max; level = x; mutation = number }) d
-
--- ---- a partition among pairs
-
-among-differs : (x : Option ℕ × ℕ) (p : Option ℕ) (b : Bool) → b ≡ option_eq nat_eq x.0 p → b ≡ false → nat_eq (rank x.0) (rank p) ≡ false
-among-differs x p b e f = go (nat_eq (rank x.0) (rank p)) refl
-  where
-    go : (t : Bool) → nat_eq (rank x.0) (rank p) ≡ t → t ≡ false
-    go true q = absurd (option-differs x.0 p (not b) (ap not e) (ap not f) (rank-injective x.0 p (grind (arith, nat_tests))))
-    go false q = refl
-
--- it isn't the next pair's
-pub among-next : (pairs ys zs : List (Option ℕ × ℕ)) (x : Option ℕ × ℕ) (p : Option ℕ) (b : Bool) → number_among pairs p ≡ number_among ys p → ys ≡ x ∷ zs → b ≡ option_eq nat_eq x.0 p → b ≡ false → number_among pairs p ≡ number_among zs p
-among-next pairs ys zs x p b i e q f = i ∙ ap (λ (l : List (Option ℕ × ℕ)). number_among l p) e ∙ ap (λ (t : Bool). cond t (Some x.1) (number_among zs p)) (among-differs x p b q f)
-
--- no pair is left
-pub among-none : (pairs ys : List (Option ℕ × ℕ)) (p : Option ℕ) → number_among pairs p ≡ number_among ys p → ys ≡ [] → ◌≡◌ {A = Option ℕ} None (number_among pairs p)
-among-none pairs ys p i e = sym (i ∙ ap (λ (l : List (Option ℕ × ℕ)). number_among l p) e)
 
 -- ---- the entry
 

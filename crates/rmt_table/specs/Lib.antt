@@ -8,5 +8,4 @@ pub mod TableTrees
 pub mod Causes
 pub mod Refusals
 pub mod MutateEntries
-pub mod Choices
 pub mod MutationOps

@@ -1,6 +1,5 @@
 ghost use Rattle.std.specs.Prelude.{◌≡◌, ◌≤◌, length, IfOk, IfErr, IfSome, OnOk, OnErr};
 ghost use Rattle.rmt_model.specs.Lawful.{Lawful};
-ghost use Rattle.rmt_history.specs.Mutations.{number_among as number_among_of};
 ghost use Rattle.rmt_events.specs.LogEvents.{IsMutable};
 ghost use Rattle.rmt_events.specs.TableRefusals.{NotMutated};
 ghost use Rattle.rmt_table.specs.MutateEntries.{IsMutateEntry};
@@ -12,23 +11,11 @@ use crate::mutate_error::MutateError;
 use crate::ops::append_alone;
 use crate::table_tree::TableTree;
 use rmt_entries::Entry;
-use rmt_history::LogCopy;
-use rmt_names::{PartName, PartitionId};
+use rmt_history::{LogCopy, number_among};
+use rmt_names::PartName;
 use rmt_row::Seen;
 use rmt_values::Limit;
 use std::alloc::Global;
-
-/// The number in a partition among pairs; none where the partition isn't there.
-fn number_among(pairs: &[(PartitionId, u32)], partition: PartitionId) -> Option<u32>
-    ensures { result ≡ number_among_of pairs.now partition }
-{
-    'pairs: for pair in pairs {
-        if pair.0 == partition {
-            return Some(pair.1);
-        }
-    }
-    None
-}
 
 /// The entry that brings a live part up to the mutation at a place, which is pending for it.
 fn mutate_entry(copy: &LogCopy, old: &PartName, upto: usize) -> Entry

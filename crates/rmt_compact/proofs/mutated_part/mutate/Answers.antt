@@ -1,14 +1,16 @@
-use Rattle.std.proofs.Common.{◌≡◌, ◌∙◌, ◌+◌, ◌++◌, [], List, true, All, IsSorted, drop, sym, ap, subst}
+use Rattle.std.proofs.Common.{◌≡◌, ◌∙◌, ◌+◌, ◌++◌, [], List, true, All, IsSorted, sym, ap, subst}
 use Rattle.std.specs.Arc.{arc_value}
 use Rattle.rmt_values.specs.Rows.{Shape, fits, key_cmp}
 use Rattle.rmt_names.specs.Names.{data_version}
 use Rattle.rmt_entries.specs.Entries.{result_name}
+use Rattle.rmt_entries.specs.declared.entry.Entry.{Entry}
+use Rattle.rmt_row.specs.Token.{Token}
 use Rattle.rmt_granules.specs.Granules.{PartView as Data}
 use Rattle.rmt_granules.specs.MadePart.{data_of}
 use Rattle.rmt_model.specs.Words.{Each}
 use Rattle.rmt_model.specs.Content.{Row}
 use Rattle.rmt_part.specs.Lineages.{AcceptedView, PartValue, IsPart}
-use Rattle.rmt_history.specs.Mutations.{mutations_below, IsTokenBelow}
+use Rattle.rmt_history.specs.Mutations.{mutations_below, HasOrder, IsTokenBelow}
 use Rattle.rmt_compact.specs.NewParts.{upto_of}
 use Rattle.rmt_compact.proofs.MutatedPartLemmas.{AreMutated, are-mutated, rows-told, mutated-sorted, mutated-part, is-mutated}
 use Rattle.rmt_compact.proofs.TokensFit.{pending-fit}
@@ -16,10 +18,14 @@ use Rattle.rmt_compact.proofs.mutated_part.mutate.Goals as goal
 
 pub changed_rows-requires-clause-fit : goal.changed_rows-requires-clause-fit
 changed_rows-requires-clause-fit c =
-    pending-fit c.args.copy.now _ _ c.first_pending-start.result (arc_value c.in_ok-mutations.mutations) _ c.len-len.ensures.lawful
+    pending-fit c.args.copy.now _ _ (arc_value c.in_ok-mutations.mutations) _ c.len-len.ensures.lawful
     (c.deref-6.ensures ∙ (c.schema.ensures ∙ (ap (λ (p : PartValue). p.schema) c.deref-5.ensures ∙ c.requires.schema)))
-    c.in_ok-mutations.ensures.entries
-    (c.split_at.ensures.back ∙ ap (drop c.first_pending-start.result) (c.as_slice-tokens.ensures ∙ c.deref.ensures))
+    c.in_ok-mutations.ensures.tokens.entries
+    (c.as_slice-tokens.ensures ∙ c.deref.ensures)
+
+pub changed_rows-requires-clause-order : goal.changed_rows-requires-clause-order
+changed_rows-requires-clause-order c =
+    subst (All (λ (t : Token Entry). HasOrder t.value)) (sym (c.as_slice-tokens.ensures ∙ c.deref.ensures)) c.in_ok-mutations.ensures.ordered
 
 -- the rows are those of the new name
 module _ (c : goal.After-deref-8) where
@@ -27,8 +33,8 @@ module _ (c : goal.After-deref-8) where
   are =
       are-mutated c.args.made (arc_value c.args.old.now) c.args.copy.now c.made_name-name.result (arc_value c.in_ok-mutations.mutations) c.in_ok-rows.rows.rows c.len-len.ensures.lawful c.requires (subst IsPart c.deref-2.ensures c.name.ensures.part)
       (sym (ap result_name c.value.ensures) ∙ c.made_name-name.ensures)
-      (c.in_ok-mutations.ensures.entries ∙ ap (λ n. mutations_below c.args.copy.now.log (n + 1)) (c.upto_of.ensures ∙ ap upto_of c.value-2.ensures))
-      (rows-told _ _ _ _ _ _ c.first_pending-start.result _ _ _ _ _ _ c.first_pending-start.ensures.unchanged c.in_ok-rows.ensures.rows c.split_at.ensures.back (c.as_slice-tokens.ensures ∙ c.deref.ensures)
+      (c.in_ok-mutations.ensures.tokens.entries ∙ ap (λ n. mutations_below c.args.copy.now.log (n + 1)) (c.upto_of.ensures ∙ ap upto_of c.value-2.ensures))
+      (rows-told _ _ _ _ _ _ _ _ _ _ _ c.in_ok-rows.ensures.rows (c.as_slice-tokens.ensures ∙ c.deref.ensures)
       c.partition-partition.ensures (c.data_version-low.ensures ∙ ap data_version (c.name.ensures.name ∙ ap (λ (p : PartValue). p.name) c.deref-2.ensures)) c.mutation-high.ensures
       (ap (λ (d : Data). d.rows) (c.deref-4.ensures ∙ (c.body.ensures.value ∙ ap (λ (p : PartValue). p.body) c.deref-3.ensures))))
 
@@ -48,8 +54,8 @@ module _ (c : goal.In_ok-schema) where
   are-last =
       are-mutated c.args.made (arc_value c.args.old.now) c.args.copy.now c.made_name-name.result (arc_value c.in_ok-mutations.mutations) c.in_ok-rows.rows.rows c.len-len.ensures.lawful c.requires (subst IsPart c.deref-2.ensures c.name.ensures.part)
       (sym (ap result_name c.value.ensures) ∙ c.made_name-name.ensures)
-      (c.in_ok-mutations.ensures.entries ∙ ap (λ n. mutations_below c.args.copy.now.log (n + 1)) (c.upto_of.ensures ∙ ap upto_of c.value-2.ensures))
-      (rows-told _ _ _ _ _ _ c.first_pending-start.result _ _ _ _ _ _ c.first_pending-start.ensures.unchanged c.in_ok-rows.ensures.rows c.split_at.ensures.back (c.as_slice-tokens.ensures ∙ c.deref.ensures)
+      (c.in_ok-mutations.ensures.tokens.entries ∙ ap (λ n. mutations_below c.args.copy.now.log (n + 1)) (c.upto_of.ensures ∙ ap upto_of c.value-2.ensures))
+      (rows-told _ _ _ _ _ _ _ _ _ _ _ c.in_ok-rows.ensures.rows (c.as_slice-tokens.ensures ∙ c.deref.ensures)
       c.partition-partition.ensures (c.data_version-low.ensures ∙ ap data_version (c.name.ensures.name ∙ ap (λ (p : PartValue). p.name) c.deref-2.ensures)) c.mutation-high.ensures
       (ap (λ (d : Data). d.rows) (c.deref-4.ensures ∙ (c.body.ensures.value ∙ ap (λ (p : PartValue). p.body) c.deref-3.ensures))))
 
@@ -64,7 +70,7 @@ of-requires c =
     let old = arc_value c.args.old.now in
     mutated-part c.args.made old c.made_name-name.result (arc_value c.in_ok-mutations.mutations) c.in_ok-rows.rows.rows (arc_value c.in_ok-schema.schema) (arc_value c.in_ok-body.body) c.push_blocks.new.all.items c.args.copy.now (are-last c)
     (subst IsPart c.deref-2.ensures c.name.ensures.part)
-    (subst (λ n. Each (IsTokenBelow c.args.copy.now (n + 1)) (arc_value c.in_ok-mutations.mutations)) (c.upto_of.ensures ∙ ap upto_of c.value-2.ensures) c.in_ok-mutations.ensures.places)
+    (subst (λ n. Each (IsTokenBelow c.args.copy.now (n + 1)) (arc_value c.in_ok-mutations.mutations)) (c.upto_of.ensures ∙ ap upto_of c.value-2.ensures) c.in_ok-mutations.ensures.tokens.places)
     (c.in_ok-schema.ensures ∙ (c.schema-3.ensures ∙ ap (λ (p : PartValue). p.schema) c.deref-10.ensures))
     (told-data c.deref-8.result.now (PartValue.schema old) c.in_ok-rows.rows.rows _ (arc_value c.in_ok-body.body) c.in_ok-data.ensures (c.deref-8.ensures ∙ (c.schema-2.ensures ∙ ap (λ (p : PartValue). p.schema) c.deref-7.ensures)) c.in_ok-body.ensures.ok)
     (one-end _ c.push_blocks.new.all.items (PartValue.blocks old) (c.in_ok-push_blocks.ensures ∙ ap (λ (l : List AcceptedView). c.new-blocks.result.items ++ l) (c.blocks-2.ensures ∙ ap (λ (p : PartValue). p.blocks) c.deref-9.ensures)) c.new-blocks.ensures.items)
@@ -76,5 +82,5 @@ returns c =
     (c.in_ok-schema.ensures ∙ (c.schema-3.ensures ∙ ap (λ (p : PartValue). p.schema) c.deref-10.ensures))
     (sym (ap result_name c.value.ensures) ∙ c.made_name-name.ensures)
     (one-end _ c.push_blocks.new.all.items (PartValue.blocks old) (c.in_ok-push_blocks.ensures ∙ ap (λ (l : List AcceptedView). c.new-blocks.result.items ++ l) (c.blocks-2.ensures ∙ ap (λ (p : PartValue). p.blocks) c.deref-9.ensures)) c.new-blocks.ensures.items)
-    (c.in_ok-mutations.ensures.entries ∙ ap (λ n. mutations_below c.args.copy.now.log (n + 1)) (c.upto_of.ensures ∙ ap upto_of c.value-2.ensures))
-    (subst (λ n. Each (IsTokenBelow c.args.copy.now (n + 1)) (arc_value c.in_ok-mutations.mutations)) (c.upto_of.ensures ∙ ap upto_of c.value-2.ensures) c.in_ok-mutations.ensures.places)
+    (c.in_ok-mutations.ensures.tokens.entries ∙ ap (λ n. mutations_below c.args.copy.now.log (n + 1)) (c.upto_of.ensures ∙ ap upto_of c.value-2.ensures))
+    (subst (λ n. Each (IsTokenBelow c.args.copy.now (n + 1)) (arc_value c.in_ok-mutations.mutations)) (c.upto_of.ensures ∙ ap upto_of c.value-2.ensures) c.in_ok-mutations.ensures.tokens.places)

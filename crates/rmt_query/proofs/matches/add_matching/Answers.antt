@@ -2,13 +2,12 @@ use Rattle.std.proofs.Common.{◌≡◌, ℕ, List, [], ◌++◌, take, length, 
 use Rattle.std.specs.List.{filter_map}
 use Rattle.std.specs.Option.{option_to_list}
 use Rattle.std.specs.declared.option.Option.{Option}
-use Rattle.rmt_names.specs.Names.{Name}
 use Rattle.rmt_granules.specs.Granules.{PartView}
 use Rattle.rmt_model.specs.Content.{Row}
 use Rattle.rmt_changes.specs.Changes.{entries_of}
 use Rattle.rmt_query.specs.Answers.{matches, matching}
 use Rattle.rmt_query.specs.ReadRows.{row_read}
-use Rattle.rmt_query.proofs.MatchLemmas.{Others, none-before, all-before, append-none, row-none, row-one, outside}
+use Rattle.rmt_query.proofs.MatchLemmas.{Others, none-before, all-before, append-none, row-none, row-one, outside, due-read}
 use Rattle.rmt_query.proofs.matches.add_matching.Goals as goal
 
 pub rows-init : goal.rows-init
@@ -32,7 +31,7 @@ rows-preserved-in_default c =
     let long : length c.deref.result.now.rows ≡ length c.args.part.now.rows.rows = ap (λ (d : PartView). length d.rows) same in
     let bound = c.in_ok-first.ensures.bound in
     row-none (matches c.args.filter.now) (row_read (entries_of c.args.pending.now) c.args.part.now.name) c.args.part.now.rows.rows c.rows.rows.items c.args.rows.now.items c.rows.i (omega (arith, long, bound)) c.rows.invariant
-    (ap (λ (o : Option Row). option_to_list o) (sym c.in_default.is) ∙ (c.in_ok-row.ensures ∙ ap (λ (o : Option Row). matching c.args.filter.now (option_to_list o)) (subst (λ (n : Name). row_read (entries_of c.pending_for-due.result.now) n (get_or c.args.part.now.rows.rows c.rows.i []) ≡ row_read (entries_of c.args.pending.now) n (get_or c.args.part.now.rows.rows c.rows.i [])) c.name.ensures (c.pending_for-due.ensures (get_or c.args.part.now.rows.rows c.rows.i [])))))
+    (ap (λ (o : Option Row). option_to_list o) (sym c.in_default.is) ∙ (c.in_ok-row.ensures ∙ ap (λ (o : Option Row). matching c.args.filter.now (option_to_list o)) (due-read _ _ c.args.pending.now c.args.part.now.name _ (get_or c.args.part.now.rows.rows c.rows.i []) c.deref-in-rows.ensures.value c.in_ok-due.ensures c.name.ensures)))
 
 pub rows-preserved : goal.rows-preserved
 rows-preserved c =
@@ -40,7 +39,7 @@ rows-preserved c =
     let long : length c.deref.result.now.rows ≡ length c.args.part.now.rows.rows = ap (λ (d : PartView). length d.rows) same in
     let bound = c.in_ok-first.ensures.bound in
     row-one (matches c.args.filter.now) (row_read (entries_of c.args.pending.now) c.args.part.now.name) c.args.part.now.rows.rows c.rows.rows.items c.args.rows.now.items c.push.new.self.items c.rows.i c.in-Some.row (omega (arith, long, bound)) c.rows.invariant
-    (ap (λ (o : Option Row). option_to_list o) (sym c.in-Some.is) ∙ (c.in_ok-row.ensures ∙ ap (λ (o : Option Row). matching c.args.filter.now (option_to_list o)) (subst (λ (n : Name). row_read (entries_of c.pending_for-due.result.now) n (get_or c.args.part.now.rows.rows c.rows.i []) ≡ row_read (entries_of c.args.pending.now) n (get_or c.args.part.now.rows.rows c.rows.i [])) c.name.ensures (c.pending_for-due.ensures (get_or c.args.part.now.rows.rows c.rows.i []))))) c.in_ok-push.ensures.items
+    (ap (λ (o : Option Row). option_to_list o) (sym c.in-Some.is) ∙ (c.in_ok-row.ensures ∙ ap (λ (o : Option Row). matching c.args.filter.now (option_to_list o)) (due-read _ _ c.args.pending.now c.args.part.now.name _ (get_or c.args.part.now.rows.rows c.rows.i []) c.deref-in-rows.ensures.value c.in_ok-due.ensures c.name.ensures))) c.in_ok-push.ensures.items
 
 pub returns : goal.returns
 returns c =

@@ -2,7 +2,7 @@ use Rattle.std.proofs.Common.{◌≡◌, ◌∙◌, ℕ, arith, sym, ap}
 use Rattle.std.specs.declared.option.Option.{Option}
 use Rattle.std.specs.declared.option.Option.TheVariants.{Some, None}
 use Rattle.rmt_history.specs.Mutations.{number_among}
-use Rattle.rmt_table.proofs.Mutated.{mutation-below, mutation-number, through-fits, renamed, mutate-entry}
+use Rattle.rmt_table.proofs.Mutated.{mutation-below, mutation-number, mutation-order, through-fits, renamed, mutate-entry}
 use Rattle.rmt_table.proofs.table_tree.mutate.mutate_entry.Goals as goal
 
 pub unreachable-requires : goal.unreachable-requires
@@ -10,6 +10,10 @@ unreachable-requires c =
     let l = mutation-below c.args.copy.now.log c.args.upto c.args.old.now.partition c.requires.pending.number c.requires.pending.at in
     let e = c.in_default.ensures.entry in
     omega (arith, l, e)
+
+pub number_among-requires : goal.number_among-requires
+number_among-requires c =
+    mutation-order c.args.copy.now.schema c.args.copy.now.log c.args.upto c.in-Some.token.now.value c.in-Mutation.id c.in-Mutation.numbers c.as_slice.result.now c.in-Mutation.command c.requires.lawful c.in-Some.ensures.entry (sym c.value.ensures ∙ c.in-Mutation.is) c.as_slice.ensures
 
 pub unreachable-requires-in_default-number_among : goal.unreachable-requires-in_default-number_among
 unreachable-requires-in_default-number_among c =
