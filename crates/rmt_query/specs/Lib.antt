@@ -1,5 +1,6 @@
 pub use Rattle.rmt_changes.specs.Changes
 pub mod Cells
+pub mod Distinct
 pub mod Groups
 pub mod Answers
 pub mod Laws
