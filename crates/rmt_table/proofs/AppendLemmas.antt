@@ -1,6 +1,5 @@
 -- An entry at the end of a table's log, as the calls tell it.
-use Rattle.std.proofs.Common.{◌≡◌, ℕ, ◌-◌, List, [], ◌∷◌, ◌++◌, length, take, length-append, sym, ap, subst, arith, ◌∙◌}
-use Rattle.std.proofs.Math.Seq.{take-append_seam}
+use Rattle.std.proofs.Common.{◌≡◌, ℕ, List, [], ◌∷◌, ◌++◌, length, sym, ap, subst, ◌∙◌}
 use Rattle.rmt_row.specs.Token.{Token}
 use Rattle.rmt_entries.specs.declared.entry.Entry.{Entry}
 use Rattle.rmt_history.specs.Copies.{entries}
@@ -27,11 +26,3 @@ token-next h now same tokens log e token is =
 -- the token of an entry, by another word for that entry
 pub token-of : (tokens : List (Token Entry)) (t : Token Entry) (e f : Entry) → t ≡ record { place = length tokens; value = e; cell = length tokens } → e ≡ f → t ≡ record { place = length tokens; value = f; cell = length tokens }
 token-of tokens t e f q r = subst (λ (g : Entry). t ≡ record { place = length tokens; value = g; cell = length tokens }) r q
-
--- a log whose new token was taken away again
-pub taken-back : (tokens more after : List (Token Entry)) (t : Token Entry) → more ≡ tokens ++ t ∷ [] → after ≡ take (length more - 1) more → after ≡ tokens
-taken-back tokens more after t m e =
-    let n = length-append tokens (t ∷ []) in
-    e ∙ ap (λ (ts : List (Token Entry)). take (length ts - 1) ts) m
-    ∙ ap (λ (i : ℕ). take i (tokens ++ t ∷ [])) (let k : length (tokens ++ t ∷ []) - 1 ≡ length tokens = omega (arith, n) in k)
-    ∙ take-append_seam tokens (t ∷ [])
