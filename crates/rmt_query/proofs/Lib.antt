@@ -9,3 +9,4 @@ pub mod BagLaws
 pub mod Counting
 pub mod TotalLemmas
 pub mod SumLemmas
+pub mod DistinctLemmas

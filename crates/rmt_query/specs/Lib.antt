@@ -1,6 +1,7 @@
 pub use Rattle.rmt_history.specs.Mutations
 pub use Rattle.rmt_changes.specs.Changes
 pub mod Cells
+pub mod Distinct
 pub mod Groups
 pub mod Answers
 pub mod Laws

@@ -9,6 +9,7 @@ ghost use Rattle.rmt_query.specs.ReadRows.{rows_read};
 ghost use Rattle.rmt_query.specs.Cells.{zero_of};
 ghost use Rattle.rmt_query.specs.Answers.{
   answer_of,
+  groups_of,
   matching,
   group_tuples as tuples_of_groups,
   tuple_of as tuple_of_row,
@@ -20,6 +21,7 @@ ghost use Rattle.rmt_values.specs.Rows.{key_cmp};
 ghost use Rattle.rmt_values.specs.Order.{in_order};
 
 use crate::cells::{one_cell, zero_cell};
+use crate::distinct::distinct_columns;
 use crate::matches::matching_rows;
 use crate::runs::tuples_of_runs;
 use crate::totals::{are_settled, is_total, total_tuples};
@@ -102,7 +104,7 @@ fn tuples_over(
     }
 }
 
-/// The tuples of the groups of rows by these columns.
+/// The tuples of the groups of rows by these columns; one that is named again is compared once.
 fn group_tuples(
     alloc: Global,
     rows: Vec<RowRef<'_>>,
@@ -112,9 +114,23 @@ fn group_tuples(
 ) -> Result<Vec<Tuple>, AllocError>
     ensures { IfOk result (λ tuples. tuples.items ≡ tuples_of_groups schema.now items.now group.now rows.entry.items) }
 {
-    let sorted = group_sorted(rows, group)?;
-    let tuples = tuples_of_runs(alloc, &sorted, items, group)?;
+    let columns = distinct_columns(alloc, group)?;
+    let tuples = run_tuples(alloc, rows, items, &columns)?;
     let tuples = or_zeros(alloc, tuples, items, group, schema)?;
+    Ok(tuples)
+}
+
+/// The tuples of the groups of rows, which are put in the order of the groups' columns first.
+fn run_tuples(
+    alloc: Global,
+    rows: Vec<RowRef<'_>>,
+    items: &[CheckedItem],
+    columns: &[u16],
+) -> Result<Vec<Tuple>, AllocError>
+    ensures { IfOk result (λ tuples. tuples.items ≡ map (λ g. g.1) (groups_of items.now columns.now rows.entry.items)) }
+{
+    let sorted = group_sorted(rows, columns)?;
+    let tuples = tuples_of_runs(alloc, &sorted, items, columns)?;
     Ok(tuples)
 }
 

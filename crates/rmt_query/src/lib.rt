@@ -3,6 +3,7 @@
 
 mod answers;
 mod cells;
+mod distinct;
 mod granule_counts;
 mod joined_cells;
 mod laws;

@@ -1,11 +1,9 @@
 -- A prefix of a log against the log: of one length they are equal, and a shorter one goes on with the entry at its length.
 use Rattle.std.proofs.Common.{◌≡◌, ◌≤◌, inl, inr, List, [], ◌∷◌, ◌++◌, length, sym, ap, subst, arith}
 use Rattle.std.specs.declared.option.Option.TheVariants.{Some}
-use Rattle.rmt_values.specs.Rows.{Shape}
 use Rattle.rmt_entries.specs.declared.entry.Entry.{Entry}
-use Rattle.rmt_model.specs.Lawful.{IsPrefix, Lawful, entry_at}
+use Rattle.rmt_model.specs.Lawful.{IsPrefix, entry_at}
 use Rattle.rmt_model.proofs.Drops.{entry-below, entry-cases}
-use Rattle.rmt_events.proofs.Copies.{lawful-behind}
 use Rattle.rmt_events.proofs.Moves.{goes-on-refl, goes-on-more}
 use Rattle.rmt_events.proofs.Converge.{one-front}
 
@@ -36,11 +34,3 @@ behind-next (x ∷ y ∷ gained) log e q = elim (entry-cases x (y ∷ (gained ++
 pub prefix-next : (shorter longer : List Entry) (e : Entry) → IsPrefix shorter longer → entry_at longer (length shorter) ≡ Some e → IsPrefix (e ∷ shorter) longer
 prefix-next shorter longer e f q =
     subst (λ (l : List Entry). IsPrefix (e ∷ shorter) l) (sym f.is) (behind-next f.gained shorter e (subst (λ (l : List Entry). entry_at l (length shorter) ≡ Some e) f.is q))
-
--- a prefix of a lawful log is lawful
-pub prefix-lawful : (schema : Shape) (shorter longer : List Entry) → IsPrefix shorter longer → Lawful schema longer → Lawful schema shorter
-prefix-lawful schema shorter longer f l = lawful-behind schema f.gained shorter (subst (Lawful schema) f.is l)
-
--- and so is one with the log's entry at its length
-pub next-lawful : (schema : Shape) (shorter longer : List Entry) (e : Entry) → IsPrefix shorter longer → entry_at longer (length shorter) ≡ Some e → Lawful schema longer → Lawful schema (e ∷ shorter)
-next-lawful schema shorter longer e f q l = prefix-lawful schema (e ∷ shorter) longer (prefix-next shorter longer e f q) l

@@ -1,17 +1,15 @@
 -- What a pull makes of a table and of a copy of its log.
-use Rattle.std.proofs.Common.{◌≡◌, ◌≢◌, ℕ, suc, ◌-◌, ◌<◌, ◌≤◌, List, [], ◌∷◌, ◌++◌, length, refl, sym, ap, subst, arith, ◌∙◌, get_or, set}
+use Rattle.std.proofs.Common.{◌≡◌, ◌≢◌, ℕ, suc, ◌-◌, ◌<◌, ◌≤◌, List, [], ◌∷◌, length, refl, sym, ap, subst, arith, ◌∙◌, get_or, set}
 use Rattle.std.proofs.lemmas.List.{get_or_default}
-use Rattle.std.proofs.lemmas.Option.{slice_get-get_or}
-use Rattle.std.specs.Prelude.{slice_get}
 use Rattle.std.specs.Fmt.{decimal}
-use Rattle.std.specs.declared.option.Option.TheVariants.{Some, None}
-use Rattle.rmt_values.specs.Rows.{Shape}
+use Rattle.std.specs.declared.option.Option.TheVariants.{None}
 use Rattle.rmt_row.specs.Token.{Token}
 use Rattle.rmt_entries.specs.declared.entry.Entry.{Entry}
 use Rattle.rmt_entries.specs.EntryBytes.{entry_bytes}
-use Rattle.rmt_model.specs.Lawful.{IsPrefix, Lawful, entry_at}
+use Rattle.rmt_model.specs.Lawful.{IsPrefix}
 use Rattle.rmt_events.proofs.Moves.{goes-on-more}
 use Rattle.rmt_history.specs.Copies.{History, entries}
+use Rattle.rmt_history.specs.TableLogs.{Follows}
 use Rattle.rmt_history.proofs.Copied.{length-entries, token_at}
 use Rattle.rmt_tree.specs.Trees.{TreeView}
 use Rattle.rmt_tree.specs.Ops.{after_all, first_refusal}
@@ -27,8 +25,8 @@ use Rattle.rmt_table_model.proofs.TableLemmas.{pull-steps}
 use Rattle.rmt_table_model.proofs.HeldLemmas.{held-table, held-held}
 use Rattle.rmt_table.specs.SeenTable.{shown}
 use Rattle.rmt_table.proofs.CallBridge.{pull-bridge}
-use Rattle.rmt_table.specs.TableTrees.{table_at, IsReplica, Counts, IsTableTree, ArePlaced}
-use Rattle.rmt_table.proofs.PrefixLemmas.{prefix-whole, prefix-length, prefix-next, next-lawful}
+use Rattle.rmt_table.specs.TableTrees.{table_at, IsReplica, Counts, IsTableTree}
+use Rattle.rmt_table.proofs.PrefixLemmas.{prefix-whole, prefix-length, prefix-next}
 
 -- a copy that has gone on, and is a prefix of the log
 pub record IsBetween (before : History) (copy : History) (log : List Entry) : Type 0 where
@@ -41,27 +39,17 @@ pub pulled-whole : (before copy : History) (tokens : List (Token Entry)) (n : �
 pulled-whole before copy tokens n is e l =
     prefix-whole copy.log (entries tokens) is.prefix (let w = prefix-length copy.log (entries tokens) is.prefix in let t = length-entries tokens in omega (arith, w, t, e, l))
 
--- the next token
-module _ (before copy : History) (tokens : List (Token Entry)) (lawful : Lawful before.schema (entries tokens)) (places : ArePlaced tokens) (is : IsBetween before copy (entries tokens)) (i : ℕ) (at : i ≡ length copy.log) (n : ℕ) (n-is : n ≡ length copy.log) (below : n < length tokens)
-    (x next : Token Entry) (x-is : x ≡ get_or tokens i x) (next-is : next ≡ x) where
-  token-there : slice_get tokens i ≡ Some next
-  token-there = slice_get-get_or tokens i x (omega (arith, at, n-is, below)) ∙ ap (λ (t : Token Entry). Some t) (sym x-is ∙ sym next-is)
+-- a copy that follows the log is still a prefix of it
+pub follow-between : (before copy more : History) (tokens : List (Token Entry)) → IsBetween before copy (entries tokens) → Follows copy tokens more → IsBetween before more (entries tokens)
+follow-between before copy more tokens is f = subst (λ (h : History). IsBetween before h (entries tokens)) (sym f.is) (record {
+  schema = is.schema;
+  longer = goes-on-more f.next.value before.log copy.log is.longer;
+  prefix = prefix-next copy.log (entries tokens) f.next.value is.prefix (token_at tokens (length copy.log) f.next f.there);
+})
 
-  entry-next : entry_at (entries tokens) (length copy.log) ≡ Some next.value
-  entry-next = ap (entry_at (entries tokens)) (sym at) ∙ token_at tokens i next token-there
-
-  pub next-place : next.place ≡ length copy.log
-  next-place = places i next token-there ∙ at
-
-  pub next-follows : Lawful copy.schema (next.value ∷ copy.log)
-  next-follows = next-lawful copy.schema copy.log (entries tokens) next.value is.prefix entry-next (subst (λ (s : Shape). Lawful s (entries tokens)) (sym is.schema) lawful)
-
-  pub next-between : (more : History) → more ≡ record copy { log = next.value ∷ copy.log; cells = copy.cells ++ next.cell ∷ [] } → IsBetween before more (entries tokens)
-  next-between more e = subst (λ (h : History). IsBetween before h (entries tokens)) (sym e) (record {
-    schema = is.schema;
-    longer = goes-on-more next.value before.log copy.log is.longer;
-    prefix = prefix-next copy.log (entries tokens) next.value is.prefix entry-next;
-  })
+-- it has one entry more
+pub follow-longer : (copy more : History) (tokens : List (Token Entry)) → Follows copy tokens more → length more.log ≡ suc (length copy.log)
+follow-longer copy more tokens f = ap (λ (h : History). length h.log) f.is
 
 -- how much a replica has pulled
 module _ (h : Held) (tokens : List (Token Entry)) (counts : Counts) (is : IsTableTree h tokens counts) (now : Held) (same : h ≡ now) (r : ℕ) (here : IsReplica now r) (at : ℕ) (at-is : at ≡ r) (found len : ℕ) (found-is : found ≡ get_or h.pulled (at - 1) found) (len-now : len ≡ length now.log) (other : found ≢ len) where

@@ -8,6 +8,7 @@ ghost use Rattle.rmt_znodes.specs.Znodes.{entry_path as path_of_entries};
 ghost use Rattle.rmt_table.specs.TableTrees.{entry_ops as entry_ops_of};
 
 use rmt_entries::{Entry, bytes};
+use rmt_history::TableLog;
 use rmt_row::Seen;
 use rmt_tree::{MultiError, Op, Path, Tree};
 use rmt_values::Blob;
@@ -89,17 +90,17 @@ pub(crate) fn number_text(alloc: Global, number: u32) -> Result<Blob, AllocError
 /// At an error no memory was left, and tree and log are as they were.
 pub(crate) fn append_alone(
     tree: &mut Tree,
-    log: &mut Vec<Seen<Entry>>,
+    log: &mut TableLog,
     alloc: Global,
     entry: Entry,
 ) -> Result<Seen<Entry>, AllocError>
     requires in_range { EntryInRange entry }
     requires fine { first_refusal tree.old (entry_ops_of entry) 0 ≡ None }
     ensures tree { OnOk result (tree.new ≡ after_all tree.old (entry_ops_of entry)) }
-    ensures log { IfOk result (λ token. log.new.items ≡ log.old.items ++ token ∷ []) }
-    ensures token { IfOk result (λ token. token ≡ record { place = length log.old.items; value = entry; cell = length log.old.items }) }
+    ensures log { IfOk result (λ token. log.new ≡ log.old ++ token ∷ []) }
+    ensures token { IfOk result (λ token. token ≡ record { place = length log.old; value = entry; cell = length log.old }) }
     ensures err_tree { OnErr result (tree.new ≡ tree.old) }
-    ensures err_log { OnErr result (log.new.items ≡ log.old.items) }
+    ensures err_log { OnErr result (log.new ≡ log.old) }
 {
     let token = token_of(alloc, log.len(), entry)?;
     let ops = entry_ops(alloc, token.value())?;
@@ -112,17 +113,17 @@ pub(crate) fn append_alone(
 /// At an error no memory was left, and tree and log are as they were.
 pub(crate) fn append(
     tree: &mut Tree,
-    log: &mut Vec<Seen<Entry>>,
+    log: &mut TableLog,
     alloc: Global,
     ops: &[Op],
     entry: Entry,
 ) -> Result<Seen<Entry>, AllocError>
     requires fine { first_refusal tree.old ops.now 0 ≡ None }
     ensures tree { OnOk result (tree.new ≡ after_all tree.old ops.now) }
-    ensures log { IfOk result (λ token. log.new.items ≡ log.old.items ++ token ∷ []) }
-    ensures token { IfOk result (λ token. token ≡ record { place = length log.old.items; value = entry; cell = length log.old.items }) }
+    ensures log { IfOk result (λ token. log.new ≡ log.old ++ token ∷ []) }
+    ensures token { IfOk result (λ token. token ≡ record { place = length log.old; value = entry; cell = length log.old }) }
     ensures err_tree { OnErr result (tree.new ≡ tree.old) }
-    ensures err_log { OnErr result (log.new.items ≡ log.old.items) }
+    ensures err_log { OnErr result (log.new ≡ log.old) }
 {
     let token = token_of(alloc, log.len(), entry)?;
     let answer = append_token(tree, log, ops, token)?;
@@ -142,20 +143,23 @@ pub(crate) fn token_of(alloc: Global, place: usize, entry: Entry) -> Result<Seen
 /// At an error no memory was left, and tree and log are as they were.
 pub(crate) fn append_token(
     tree: &mut Tree,
-    log: &mut Vec<Seen<Entry>>,
+    log: &mut TableLog,
     ops: &[Op],
     token: Seen<Entry>,
 ) -> Result<Seen<Entry>, AllocError>
+    requires place { token.place ≡ length log.old }
     requires fine { first_refusal tree.old ops.now 0 ≡ None }
     ensures tree { OnOk result (tree.new ≡ after_all tree.old ops.now) }
-    ensures log { OnOk result (log.new.items ≡ log.old.items ++ token ∷ []) }
+    ensures log { OnOk result (log.new ≡ log.old ++ token ∷ []) }
     ensures token { IfOk result (λ answer. answer ≡ token) }
     ensures err_tree { OnErr result (tree.new ≡ tree.old) }
-    ensures err_log { OnErr result (log.new.items ≡ log.old.items) }
+    ensures err_log { OnErr result (log.new ≡ log.old) }
 {
-    log.reserve(1)?;
     let answer = token.copy()?;
-    multi(tree, ops)?;
-    log.push(token).unwrap();
+    log.push(token)?;
+    if let Err(error) = multi(tree, ops) {
+        log.pop();
+        return Err(error);
+    }
     Ok(answer)
 }

@@ -22,9 +22,8 @@ mod sessions;
 
 use crate::layout::new_ops;
 use crate::ops::multi;
-use rmt_entries::Entry;
+use rmt_history::TableLog;
 use rmt_partitions::{KeptNumbers, Partitions};
-use rmt_row::Seen;
 use rmt_tree::Tree;
 use rmt_values::{ReplicaId, Schema};
 use std::alloc::{AllocError, Global};
@@ -35,7 +34,7 @@ use std::sync::Arc;
 #[derive(Drop)]
 pub struct TableTree {
     schema: Arc<Schema, Global>,
-    log: Vec<Seen<Entry>>,
+    log: TableLog,
     partitions: Partitions,
     /// The session of each replica that has one.
     sessions: Vec<Option<u64>>,
@@ -72,9 +71,9 @@ impl Model for TableTree {
 
     ghost coded = { Prim.hlevel (codes, filter.the_row.coded, tree_code) };
 
-    ghost view = { λ t. record { schema = arc_value t.schema; log = entries t.log.items; next = t.partitions.numbers; sessions = t.sessions.items; pulled = t.pulled.items; quorum = record { pending = None; last = None }; values = t.values; tree = t.tree } };
+    ghost view = { λ t. record { schema = arc_value t.schema; log = entries t.log; next = t.partitions.numbers; sessions = t.sessions.items; pulled = t.pulled.items; quorum = record { pending = None; last = None }; values = t.values; tree = t.tree } };
 
-    ghost invariant = { λ t. IsTableTree (record { schema = arc_value t.schema; log = entries t.log.items; next = t.partitions.numbers; sessions = t.sessions.items; pulled = t.pulled.items; quorum = record { pending = None; last = None }; values = t.values; tree = t.tree }) t.log.items (record { clients = t.clients; workers = t.workers; mutations = t.mutations; blocks = t.blocks; kept = t.kept; numbers = t.numbers }) };
+    ghost invariant = { λ t. IsTableTree (record { schema = arc_value t.schema; log = entries t.log; next = t.partitions.numbers; sessions = t.sessions.items; pulled = t.pulled.items; quorum = record { pending = None; last = None }; values = t.values; tree = t.tree }) t.log (record { clients = t.clients; workers = t.workers; mutations = t.mutations; blocks = t.blocks; kept = t.kept; numbers = t.numbers }) };
 }
 
 impl TableTree {
@@ -100,7 +99,7 @@ impl TableTree {
         pulled.resize(count, 0)?;
         Ok(TableTree {
             schema,
-            log: Vec::new(alloc),
+            log: TableLog::new(alloc),
             partitions: Partitions::new(alloc),
             sessions,
             pulled,

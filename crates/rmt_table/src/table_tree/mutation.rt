@@ -23,6 +23,7 @@ use crate::change_error::ChangeError;
 use crate::ops::{append_token, entry_op, number_text, token_of};
 use crate::table_tree::TableTree;
 use rmt_entries::Entry;
+use rmt_history::TableLog;
 use rmt_list::List;
 use rmt_names::PartitionId;
 use rmt_row::Seen;
@@ -98,7 +99,7 @@ fn push_entry(
 /// At an error no memory was left, and tree and log are as they were.
 fn append_mutation(
     tree: &mut Tree,
-    log: &mut Vec<Seen<Entry>>,
+    log: &mut TableLog,
     alloc: Global,
     id: u32,
     place: u32,
@@ -108,10 +109,10 @@ fn append_mutation(
     requires in_range { EntryInRange (Mutation id numbers command) }
     requires fine { first_refusal tree.old (mutation_ops_of id place numbers command) 0 ≡ None }
     ensures tree { OnOk result (tree.new ≡ after_all tree.old (mutation_ops_of id place numbers command)) }
-    ensures log { IfOk result (λ token. log.new.items ≡ log.old.items ++ token ∷ []) }
-    ensures token { IfOk result (λ token. token ≡ record { place = length log.old.items; value = Mutation id numbers command; cell = length log.old.items }) }
+    ensures log { IfOk result (λ token. log.new ≡ log.old ++ token ∷ []) }
+    ensures token { IfOk result (λ token. token ≡ record { place = length log.old; value = Mutation id numbers command; cell = length log.old }) }
     ensures err_tree { OnErr result (tree.new ≡ tree.old) }
-    ensures err_log { OnErr result (log.new.items ≡ log.old.items) }
+    ensures err_log { OnErr result (log.new ≡ log.old) }
 {
     let ops = numbers_ops(alloc, numbers.as_slice())?;
     let entry = Entry::Mutation {
@@ -128,7 +129,7 @@ fn append_mutation(
 /// At an error no memory was left, and tree and log are as they were.
 fn append_after(
     tree: &mut Tree,
-    log: &mut Vec<Seen<Entry>>,
+    log: &mut TableLog,
     alloc: Global,
     id: u32,
     place: u32,
@@ -138,10 +139,10 @@ fn append_after(
     requires in_range { EntryInRange entry }
     requires fine { first_refusal tree.old (ops.items ++ mutation_tail id place entry) 0 ≡ None }
     ensures tree { OnOk result (tree.new ≡ after_all tree.old (ops.items ++ mutation_tail id place entry)) }
-    ensures log { IfOk result (λ token. log.new.items ≡ log.old.items ++ token ∷ []) }
-    ensures token { IfOk result (λ token. token ≡ record { place = length log.old.items; value = entry; cell = length log.old.items }) }
+    ensures log { IfOk result (λ token. log.new ≡ log.old ++ token ∷ []) }
+    ensures token { IfOk result (λ token. token ≡ record { place = length log.old; value = entry; cell = length log.old }) }
     ensures err_tree { OnErr result (tree.new ≡ tree.old) }
-    ensures err_log { OnErr result (log.new.items ≡ log.old.items) }
+    ensures err_log { OnErr result (log.new ≡ log.old) }
 {
     let token = token_of(alloc, log.len(), entry)?;
     let mut ops = ops;

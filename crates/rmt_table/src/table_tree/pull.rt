@@ -7,13 +7,11 @@ ghost use Rattle.rmt_model.specs.Lawful.{IsPrefix, Lawful};
 ghost use Rattle.rmt_tree.specs.declared.op.Op.TheVariants as op;
 ghost use Rattle.rmt_znodes.specs.declared.znode.Znode.TheVariants.{LogPointer};
 ghost use Rattle.rmt_znodes.specs.Znodes.{znode_path};
-ghost use Rattle.rmt_table.specs.TableTrees.{table_at, IsReplica, IsCopyOf, ArePlaced, pull_ops};
+ghost use Rattle.rmt_table.specs.TableTrees.{table_at, IsReplica, IsCopyOf, pull_ops};
 
 use crate::ops::{multi, number_text};
 use crate::table_tree::TableTree;
-use rmt_entries::Entry;
-use rmt_history::LogCopy;
-use rmt_row::Seen;
+use rmt_history::{LogCopy, TableLog};
 use rmt_tree::{Op, Tree};
 use rmt_values::ReplicaId;
 use rmt_znodes::Znode;
@@ -36,18 +34,16 @@ fn point(tree: &mut Tree, alloc: Global, replica: ReplicaId, len: u32) -> Result
 }
 
 /// Brings a copy of the log to the log's length. At an error no memory was left, and the copy is a longer prefix.
-fn extend(log: &[Seen<Entry>], copy: &mut LogCopy) -> Result<(), AllocError>
+fn extend(log: &TableLog, copy: &mut LogCopy) -> Result<(), AllocError>
     requires lawful { Lawful copy.old.schema (entries log.now) }
     requires prefix { IsPrefix copy.old.log (entries log.now) }
-    requires places { ArePlaced log.now }
     ensures ok { OnOk result (copy.new.log ≡ entries log.now) }
     ensures schema { copy.new.schema ≡ copy.old.schema }
     ensures longer { IsPrefix copy.old.log copy.new.log }
     ensures prefix { IsPrefix copy.new.log (entries log.now) }
 {
     'entries: while copy.len() < log.len() {
-        let next = log[copy.len()].copy()?;
-        copy.extend(next)?;
+        copy.follow(log)?;
     }
     Ok(())
 }

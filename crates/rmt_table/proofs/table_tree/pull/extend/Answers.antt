@@ -1,20 +1,30 @@
-use Rattle.rmt_table.proofs.Pulls.{pulled-whole, next-follows, next-between}
+use Rattle.std.proofs.Common.{sym, subst, arith}
+use Rattle.rmt_values.specs.Rows.{Shape}
+use Rattle.rmt_model.specs.Lawful.{Lawful}
+use Rattle.rmt_history.specs.Copies.{entries}
+use Rattle.rmt_table.proofs.Pulls.{pulled-whole, follow-between, follow-longer}
 use Rattle.rmt_table.proofs.table_tree.pull.extend.Goals as goal
 
-pub extend-requires-clause-lawful : goal.extend-requires-clause-lawful
-extend-requires-clause-lawful c =
-    next-follows c.args.copy.now c.entries.copy c.args.log.now c.requires.lawful c.requires.places c.entries.invariant c.len-in-entries.result c.len-in-entries.ensures.len c.len.result c.len.ensures.len c.entries-test.true
-    c.index-log-len.result c.in_ok-next.next c.index-log-len.is c.in_ok-next.ensures
+pub follow-requires-clause-lawful : goal.follow-requires-clause-lawful
+follow-requires-clause-lawful c = subst (λ (s : Shape). Lawful s (entries c.args.log.now)) (sym c.entries.invariant.schema) c.requires.lawful
+
+pub follow-requires-clause-longer : goal.follow-requires-clause-longer
+follow-requires-clause-longer c = let l = c.entries-test.true in let n = c.len.ensures.len in let m = c.len-in-entries.ensures in omega (arith, l, n, m)
 
 pub entries-preserved : goal.entries-preserved
-entries-preserved c =
-    next-between c.args.copy.now c.entries.copy c.args.log.now c.requires.lawful c.requires.places c.entries.invariant c.len-in-entries.result c.len-in-entries.ensures.len c.len.result c.len.ensures.len c.entries-test.true
-    c.index-log-len.result c.in_ok-next.next c.index-log-len.is c.in_ok-next.ensures
-    c.extend.new.self c.in_ok-extend.ensures.ok
+entries-preserved c = follow-between c.args.copy.now c.entries.copy c.follow.new.self c.args.log.now c.entries.invariant c.in_ok-follow.ensures.ok
+
+pub entries-smaller : goal.entries-smaller
+entries-smaller c =
+    let l = c.entries-test.true in
+    let n = c.len.ensures.len in
+    let m = c.len-in-entries.ensures in
+    let k = follow-longer c.entries.copy c.follow.new.self c.args.log.now c.in_ok-follow.ensures.ok in
+    omega (arith, l, n, m, k)
 
 pub returns : goal.returns
 returns c = record {
-  ok = pulled-whole c.args.copy.now c.entries.copy c.args.log.now c.len.result c.entries.invariant c.len.ensures.len c.entries-test.false;
+  ok = pulled-whole c.args.copy.now c.entries.copy c.args.log.now c.len.result c.entries.invariant c.len.ensures.len (let l = c.entries-test.false in let m = c.len-in-entries.ensures in omega (arith, l, m));
   schema = c.entries.invariant.schema;
   longer = c.entries.invariant.longer;
   prefix = c.entries.invariant.prefix;
