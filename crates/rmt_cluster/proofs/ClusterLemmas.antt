@@ -1,7 +1,6 @@
 -- What an event leaves of a cluster besides that it is whole.
-use Rattle.std.proofs.Common.{◌≡◌, ℕ, suc, ◌+◌, ◌*◌, ◌≤◌, ◌⊎◌, inl, inr, Bool, true, false, not, cond, List, [], ◌∷◌, ◌++◌, reverse, length, map, refl, sym, ap, subst, arith, ◌∙◌, nat_eq, nat_lt}
+use Rattle.std.proofs.Common.{◌≡◌, ℕ, suc, ◌+◌, ◌≤◌, ◌⊎◌, inl, inr, Bool, true, false, not, cond, List, [], ◌∷◌, length, map, refl, sym, ap, subst, arith, ◌∙◌, nat_eq, nat_lt}
 use Rattle.std.proofs.lemmas.Bool.Decides.{nat_tests}
-use Rattle.std.proofs.lemmas.List.{reverse-append}
 use Rattle.std.specs.declared.option.Option.{Option}
 use Rattle.rmt_names.specs.Names.{rank}
 use Rattle.rmt_values.specs.Rows.{Shape}
@@ -323,7 +322,6 @@ rests s t (ev.Restart k) (inr d) = let q = d.change in record {
   replicas = ap (λ (z : Cluster). length z.replicas) q ∙ length-with s.replicas k d.new;
 }
 
--- the event that is stored last is the newest
-pub stored-last : (olds room news : List (Event × Reply)) (e : Event) (r : Reply) → room ≡ olds → news ≡ room ++ (e, r) ∷ [] → reverse news ≡ (e, r) ∷ reverse olds
-stored-last olds room news e r q n =
-    ap reverse n ∙ (ap (λ (es : List (Event × Reply)). reverse (es ++ (e, r) ∷ [])) q ∙ reverse-append olds ((e, r) ∷ []))
+-- the event that is stored is the newest
+pub stored-next : (olds room news : List (Event × Reply)) (e : Event) (r : Reply) → room ≡ olds → news ≡ (e, r) ∷ room → news ≡ (e, r) ∷ olds
+stored-next olds room news e r q n = n ∙ ap (λ (es : List (Event × Reply)). (e, r) ∷ es) q

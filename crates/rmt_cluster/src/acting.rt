@@ -5,8 +5,8 @@ ghost use Rattle.rmt_cluster.specs.Acting.{ActsWith, KeepsAccepted, SuitAttempts
 ghost use Rattle.rmt_cluster.specs.Clusters.{MayAct, AfterError};
 
 use crate::attempts::Attempts;
-use crate::commands::copy_command;
 use crate::{entries, inserts};
+use rmt_event_log::copy_command;
 use rmt_events::{Event, Reply};
 use rmt_state::State;
 use std::alloc::{AllocError, Global};

@@ -1,4 +1,4 @@
-ghost use Rattle.std.specs.Prelude.{◌≡◌, ◌≤◌, ℕ, IfOk, OnErr, length, map, reverse};
+ghost use Rattle.std.specs.Prelude.{◌≡◌, ◌≤◌, ℕ, IfOk, OnErr, length, map};
 ghost use Rattle.std.specs.Arc.{arc_value};
 ghost use Rattle.rmt_values.specs.Order.{SameBag};
 ghost use Rattle.rmt_model.specs.Words.{Has};
@@ -22,6 +22,7 @@ mod syncing;
 
 use crate::acting::act;
 use crate::attempts::Attempts;
+use rmt_event_log::EventLog;
 use rmt_events::{Event, Reply};
 use rmt_state::State;
 use rmt_values::Schema;
@@ -35,11 +36,10 @@ use std::sync::Arc;
 pub struct Cluster {
     state: State,
     attempts: Attempts,
-    events: Vec<(Event, Reply)>,
+    events: EventLog,
 }
 
 impl Model for Cluster {
-    ghost use Rattle.std.specs.Prelude.{reverse};
     ghost use Rattle.std.specs.Coded.{codes};
     ghost use Rattle.rmt_values.specs.contracts.checked.Checked as filter;
     ghost use Rattle.rmt_tree.specs.Trees.{tree_code};
@@ -51,9 +51,9 @@ impl Model for Cluster {
 
     ghost coded = { Prim.hlevel (codes, filter.the_row.coded, tree_code) };
 
-    ghost view = { λ c. cluster_of c.state c.attempts.made c.attempts.open_ones (reverse c.events.items) };
+    ghost view = { λ c. cluster_of c.state c.attempts.made c.attempts.open_ones c.events.events };
 
-    ghost invariant = { λ c. IsCluster c.state c.attempts (reverse c.events.items) };
+    ghost invariant = { λ c. IsCluster c.state c.attempts c.events.events };
 }
 
 impl Cluster {
@@ -71,7 +71,7 @@ impl Cluster {
         Ok(Cluster {
             state: State::new(alloc, schema, up)?,
             attempts: Attempts::new(alloc),
-            events: Vec::new(alloc),
+            events: EventLog::new(alloc),
         })
     }
 
@@ -83,9 +83,9 @@ impl Cluster {
         &self.state
     }
 
-    /// The events so far, each with its reply, the oldest first.
-    pub fn events(&self) -> &[(Event, Reply)]
-        ensures { reverse result.now ≡ self.now.events }
+    /// The events so far, each with its reply.
+    pub fn events(&self) -> &EventLog
+        ensures { result.now.events ≡ self.now.events }
     {
         &self.events
     }
@@ -120,11 +120,11 @@ impl Cluster {
         ensures keeps { KeepsTable self.old self.new }
         ensures whole { IsWhole self.old }
     {
-        self.events.reserve(1)?;
+        self.events.reserve()?;
         self.state.sound();
         let reply = act(alloc, &mut self.state, &mut self.attempts, &event)?;
         let stored = reply;
-        self.events.push((event, stored))?;
+        self.events.push(event, stored);
         Ok(reply)
     }
 }

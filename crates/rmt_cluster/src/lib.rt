@@ -6,7 +6,6 @@ mod attempt;
 mod attempts;
 mod causes;
 mod cluster;
-mod commands;
 mod entries;
 mod inserts;
 mod sync_error;

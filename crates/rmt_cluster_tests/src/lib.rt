@@ -32,6 +32,8 @@ mod record;
 #[cfg(test)]
 mod rows;
 #[cfg(test)]
+mod stored;
+#[cfg(test)]
 mod tables;
 #[cfg(test)]
 mod tests;

@@ -1,4 +1,4 @@
-use Rattle.std.proofs.Common.{◌≡◌, ◌∙◌, List, reverse, map, sym, ap, subst, arith, length}
+use Rattle.std.proofs.Common.{◌≡◌, ◌∙◌, List, map, sym, ap, subst, arith, length}
 use Rattle.rmt_model.specs.Words.{Has}
 use Rattle.rmt_replica.specs.Replicas.{ReplicaView}
 use Rattle.rmt_replica.specs.SeenReplica.{shown}
@@ -34,7 +34,7 @@ pub returns-clause-may : goal.returns-clause-may
 returns-clause-may c =
     let i = c.self.inside in
     let x = c.args.state in
-    let may = turn-may i.state i.attempts.made i.attempts.open_ones (reverse i.events.items) x c.sound.ensures.state c.self.invariant.some in
+    let may = turn-may i.state i.attempts.made i.attempts.open_ones i.events.events x c.sound.ensures.state c.self.invariant.some in
     drawn-may c.turn.result x c.args.self.now (subst (λ (s : Cluster). MayStep s (turn s x).event) c.self.view_is may)
     (drawn-event c.turn.result c.replicas.result.now x c.args.self.now (of_cluster c) c.turn.ensures.turn)
 
