@@ -178,6 +178,74 @@ def values_and_numbers():
     return case("8,388,608 values and 65,536 numbers", script, output)
 
 
+# ---- what a small script may cost
+
+
+def costs():
+    """Scripts of less than 1 MB, each of which would take minutes or gigabytes if what is settled, or named once more,
+    were looked at again. They are played within 10 seconds and 1 GB."""
+    yield settled_mutations()
+    yield one_part_each()
+    yield one_name_many_times()
+    yield millions_of_turns()
+    yield mutations_of_many_copies()
+
+
+def settled_mutations():
+    """20,000 rows in 1,000 partitions, and 200 mutations that match nothing: each SELECT is as quick as without them."""
+    rows, partitions, mutations, reads = 20_000, 1_000, 200, 200
+    script = [table("PARTITION BY p", "k UInt64, p UInt64"), "INSERT INTO t FORMAT CSV\n"]
+    script += (f"{k},{k % partitions}\n" for k in range(rows))
+    script += [";\n", *["ALTER TABLE t DELETE WHERE k > 99999;\n"] * mutations]
+    script += ["SELECT count(), sum(k) FROM t SYNC;\nWAIT MUTATION t 199;\n"]
+    script += ["SELECT count(), sum(k) FROM t SYNC; SELECT count() FROM t WHERE k >= 10 SYNC;\n"] * (reads // 2)
+    output = ["ok\n", *(f"part {p}_0_0_0\n" for p in range(partitions))]
+    output += (f"mutation {id:010}\n" for id in range(mutations))
+    total = f"rows 1\n{rows},{sum(range(rows))}\n"
+    output += [total, f"done {mutations - 1:010}\n", *[total, f"rows 1\n{rows - 10}\n"] * (reads // 2)]
+    return case("200 settled mutations in 1,000 partitions", script, output)
+
+
+def one_part_each():
+    """1,000 partitions of one part each are optimized 500 times: nothing is merged."""
+    names = [f"{p}_0_0_0" for p in range(1_000)]
+    script = [table("PARTITION BY k", "k UInt64"), "INSERT INTO t VALUES ", *(f"({p})" for p in range(1_000)), ";\n"]
+    script += ["OPTIMIZE TABLE t FINAL;\n"] * 500
+    output = ["ok\n", *(f"part {name}\n" for name in names), *["".join(f"optimized {n}\n" for n in names)] * 500]
+    return case("1,000 partitions of one part", script, output)
+
+
+def one_name_many_times():
+    """A column that stands 100,000 times in GROUP BY is compared once; one that stands 10,000 times among the items is
+    printed as often."""
+    script = [table(), "INSERT INTO t VALUES ", *(f"({c % 500})" for c in range(50_000)), ";\n"]
+    script += ["SELECT count() FROM t GROUP BY ", ",".join("c" * 100_000), " SYNC;\n"]
+    script += ["SELECT ", ",".join("c" * 10_000), " FROM t WHERE c < 2 GROUP BY c SYNC;\n"]
+    output = ["ok\npart all_0_0_0\nrows 500\n", "100\n" * 500]
+    output += ["rows 2\n", *(",".join([str(c)] * 10_000) + "\n" for c in range(2))]
+    return case("one name many times", script, output)
+
+
+def millions_of_turns():
+    """1,000,000 turns, five times over: what is stored of a turn is small."""
+    script = [table(), "INSERT INTO t VALUES (1); INSERT INTO t VALUES (2);\n"]
+    script += (f"RUN t 1000000 SEED {seed};\n" for seed in range(5))
+    script += ["SELECT count(), sum(c) FROM t SYNC;\n"]
+    output = ["ok\npart all_0_0_0\npart all_1_1_0\n", *["ran 1000000\n"] * 5, "rows 1\n2,3\n"]
+    return case("5,000,000 turns", script, output)
+
+
+def mutations_of_many_copies():
+    """1,024 mutations in each of four tables, copied by eight replicas: they are listed once for all."""
+    script, output = ["REPLICAS 8;\n"], ["ok\n"]
+    for name in "tuvw":
+        script += [table(columns="k UInt64, c UInt64").replace(" t ", f" {name} "), f"INSERT INTO {name} VALUES (1,1);\n"]
+        script += [f"ALTER TABLE {name} UPDATE c = c + 1 WHERE k = 1;\n"] * 1024
+        script += [f"@r{r} SELECT c FROM {name} SYNC;\n" for r in range(1, 9)]
+        output += ["ok\npart all_0_0_0\n", *(f"mutation {id:010}\n" for id in range(1024)), "rows 1\n1025\n" * 8]
+    return case("4,096 mutations copied by eight replicas", script, output)
+
+
 # ---- rows that look random
 
 
@@ -242,4 +310,4 @@ def digest(rows):
     return hashlib.sha256(body + hashlib.sha256(body).digest()).hexdigest()
 
 
-SUBJECTS = {"calls": calls, "grammar": grammar, "limits": limits, "merges": merges}
+SUBJECTS = {"calls": calls, "costs": costs, "grammar": grammar, "limits": limits, "merges": merges}

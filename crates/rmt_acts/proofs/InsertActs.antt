@@ -16,10 +16,12 @@ use Rattle.rmt_statement_model.specs.TableStates.{TableState, learned}
 use Rattle.rmt_statement_model.specs.Inserts.{with_number, InsertsAll}
 use Rattle.rmt_statement_model.specs.Shows.{IsIdle, Shows, Leads, ups}
 use Rattle.rmt_statement_model.proofs.InsertRows.{inserts-more, inserts-stop, part-row, duplicate-row, no-number-row, no-room-row}
+use Rattle.rmt_acts.specs.StatementEvents.{PieceEvents}
 use Rattle.rmt_acts.specs.Inserting.{Begins, HasAttempt, Commits, HasGet, ComesTo}
 use Rattle.rmt_acts.specs.declared.begun.Begun.TheVariants as begins
 use Rattle.rmt_acts.specs.declared.committed.Committed.TheVariants as commits
 use Rattle.rmt_acts.specs.declared.outcome.Outcome.TheVariants as outcomes
+use Rattle.rmt_acts.proofs.EventLists.{AfterPieces, after-none, after-piece, Reaches, reaches-itself, reaches-then, reaches-piece}
 
 -- the attempt that has begun
 pub has-begun : (s u : Cluster) (r : ℕ) (b : Block) (id n : ℕ) → Begins s r b (begins.Attempt id n) u → HasAttempt u id
@@ -65,6 +67,8 @@ pub record SoFar (s u : Cluster) (r : ℕ) (all done rest : List Raw) (pieces : 
   pub ups_are : ups u ≡ ups s
   pub schema : u.table.schema ≡ s.table.schema
   pub replicas : length u.replicas ≡ length s.replicas
+  pub events : AfterPieces s r pieces u
+  pub reaches : Reaches s u
 
 pub so-far-none : (s : Cluster) (r : ℕ) (all rest : List Raw) → rest ≡ all → Fitting s all → IsIdle s r → SoFar s s r all [] rest []
 so-far-none s r all rest e f i = record {
@@ -75,6 +79,8 @@ so-far-none s r all rest e f i = record {
   ups_are = refl;
   schema = refl;
   replicas = refl;
+  events = after-none s r;
+  reaches = reaches-itself s;
 }
 
 map-append : (xs ys : List Raw) → map without_kinds (xs ++ ys) ≡ map without_kinds xs ++ map without_kinds ys
@@ -83,9 +89,9 @@ map-append (x ∷ xs) ys = ap (λ (bs : List Block). without_kinds x ∷ bs) (ma
 
 -- one more block
 pub so-far-more : (s u v : Cluster) (r : ℕ) (all done rest left : List Raw) (b : Raw) (pieces : List Piece) (piece : Piece) → SoFar s u r all done rest pieces → rest ≡ b ∷ left
-    → ((t : TableState) → Shows u t → Leads v (ComesTo t r (without_kinds b) (outcomes.Inserted piece))) → IsIdle v r → ups v ≡ ups u → v.table.schema ≡ u.table.schema → length v.replicas ≡ length u.replicas
+    → ((t : TableState) → Shows u t → Leads v (ComesTo t r (without_kinds b) (outcomes.Inserted piece))) → PieceEvents u r piece v → IsIdle v r → ups v ≡ ups u → v.table.schema ≡ u.table.schema → length v.replicas ≡ length u.replicas
     → SoFar s v r all (done ++ b ∷ []) left (pieces ++ piece ∷ [])
-so-far-more s u v r all done rest left b pieces piece x e k i up c n = record {
+so-far-more s u v r all done rest left b pieces piece x e k made i up c n = record {
   split = append_assoc done (b ∷ []) left ∙ (ap (λ (bs : List Raw). done ++ bs) (sym e) ∙ x.split);
   fit = All-rest (λ (k : Raw). All (λ row. fits s.table.schema.columns row ≡ true) k.rows) b left rest e x.fit;
   inserts = λ t h.
@@ -101,6 +107,8 @@ so-far-more s u v r all done rest left b pieces piece x e k i up c n = record {
   ups_are = up ∙ x.ups_are;
   schema = c ∙ x.schema;
   replicas = n ∙ x.replicas;
+  events = after-piece s u v r pieces piece x.events made;
+  reaches = reaches-then s u v x.reaches (reaches-piece u v r piece made);
 }
 
 -- the block at which it ends

@@ -1,3 +1,4 @@
+pub mod EventLists
 pub mod AttemptActs
 pub mod InsertActs
 pub mod ReadActs
@@ -5,6 +6,7 @@ pub mod CheckActs
 pub mod SyncActs
 pub mod ChangeActs
 pub mod PartitionLists
+pub mod PartitionNames
 pub mod OptimizeActs
 pub mod OptimizeLoops
 pub mod MutationTokens

@@ -1,5 +1,5 @@
 -- The partitions of an OPTIMIZE, one after the other.
-use Rattle.std.proofs.Common.{◌≡◌, ℕ, ◌+◌, ◌<◌, ◌≤◌, inl, inr, List, [], ◌∷◌, ◌++◌, length, take, drop, get_or, refl, sym, ap, subst, arith, ◌∙◌}
+use Rattle.std.proofs.Common.{◌≡◌, ℕ, suc, ◌+◌, ◌<◌, ◌≤◌, inl, inr, List, [], ◌∷◌, ◌++◌, length, take, drop, get_or, refl, sym, ap, subst, arith, ◌∙◌}
 use Rattle.std.proofs.lemmas.List.{take_all, take_more, drop_more, take-append-drop}
 use Rattle.std.specs.declared.option.Option.{Option}
 use Rattle.std.specs.declared.option.Option.TheVariants.{Some, None}
@@ -21,7 +21,9 @@ use Rattle.rmt_statement_model.proofs.OptimizeRows.{optimizes-more, optimizes-st
 use Rattle.rmt_statement_model.proofs.PartitionLaws.{has-live, partitions-once, asked-live}
 use Rattle.rmt_statement_model.proofs.StillLive.{live-left}
 use Rattle.rmt_acts.specs.Syncing.{SyncsReplica}
-use Rattle.rmt_acts.specs.Optimizing.{OptimizesTo}
+use Rattle.rmt_acts.specs.StatementEvents.{AtMost, CatchesUp, MergesOnce, OptimizeEvents, SyncsThen}
+use Rattle.rmt_acts.specs.Optimizing.{MergesSome, OptimizesTo}
+use Rattle.rmt_acts.proofs.EventLists.{at-most-next, Reaches, reaches-merges, reaches-synced, reaches-then}
 use Rattle.rmt_acts.specs.declared.optimized.Optimized.{Optimized}
 use Rattle.rmt_acts.specs.declared.optimized.Optimized.TheVariants as optimized
 
@@ -55,6 +57,11 @@ there ps i = get_or ps i None
 split-at : (ps : List (Option ℕ)) (i : ℕ) → i < length ps → take i ps ++ there ps i ∷ drop (i + 1) ps ≡ ps
 split-at ps i l = ap (λ (xs : List (Option ℕ)). take i ps ++ xs) (sym (drop_more ps i None l)) ∙ take-append-drop i ps
 
+-- one more name
+length-more : (names : List Name) (a : Name) → length (names ++ a ∷ []) ≡ suc (length names)
+length-more [] a = refl
+length-more (x ∷ names) a = ap suc (length-more names a)
+
 -- ---- so far
 
 -- these partitions were optimized, and have these names
@@ -65,16 +72,20 @@ pub record IsOptimizing (s : Cluster) (r : ℕ) (ps : List (Option ℕ)) (names 
   pub ups_are : ups u ≡ ups s
   pub schema : u.table.schema ≡ s.table.schema
   pub replicas : length u.replicas ≡ length s.replicas
+  pub events : SyncsThen s r (length names) (MergesOnce r) u
+  pub reaches : Reaches s u
 
 -- none yet, where the replica was brought up to date
-pub none-yet : (s u : Cluster) (r : ℕ) (names : List Name) → names ≡ [] → ((t : TableState) → Shows s t → Shows u (synced r t)) → IsUpToDate u r → IsIdle u r → ups u ≡ ups s → u.table.schema ≡ s.table.schema → length u.replicas ≡ length s.replicas → IsOptimizing s r [] names u
-none-yet s u r names e f d i up p q = record {
+pub none-yet : (s u : Cluster) (r : ℕ) (names : List Name) → names ≡ [] → ((t : TableState) → Shows s t → Shows u (synced r t)) → IsUpToDate u r → IsIdle u r → ups u ≡ ups s → u.table.schema ≡ s.table.schema → length u.replicas ≡ length s.replicas → CatchesUp s r u → IsOptimizing s r [] names u
+none-yet s u r names e f d i up p q y = record {
   optimizes = λ t h. record { state = synced r t; holds = subst (λ (ns : List Name). OptimizesAll (synced r t) r [] ns None (synced r t)) (sym e) refl; shows = f t h };
   whole = d;
   idle = i;
   ups_are = up;
   schema = p;
   replicas = q;
+  events = record { mid = u; syncs = y; then_on = subst (λ (ns : List Name). AtMost (length ns) (MergesOnce r) u u) (sym e) refl };
+  reaches = reaches-synced s u r y.syncs;
 }
 
 -- the next partition has a live name
@@ -95,8 +106,8 @@ next-live s u r asked all i names w e l k =
 
 -- one more partition
 pub one-more : (s u v : Cluster) (r : ℕ) (all : List (Option ℕ)) (i : ℕ) (names out : List Name) (o : Optimized) (name : Name) → i < length all → IsOptimizing s r (take i all) names u → OptimizesTo u r (there all i) o v
-    → o ≡ optimized.Name name → out ≡ names ++ name ∷ [] → IsUpToDate v r → IsIdle v r → ups v ≡ ups u → v.table.schema ≡ u.table.schema → length v.replicas ≡ length u.replicas → IsOptimizing s r (take (i + 1) all) out v
-one-more s u v r all i names out o name l k f e g d idle up a b =
+    → o ≡ optimized.Name name → out ≡ names ++ name ∷ [] → IsUpToDate v r → IsIdle v r → ups v ≡ ups u → v.table.schema ≡ u.table.schema → length v.replicas ≡ length u.replicas → MergesSome u r v → IsOptimizing s r (take (i + 1) all) out v
+one-more s u v r all i names out o name l k f e g d idle up a b m =
     subst (λ (ns : List Name). IsOptimizing s r (take (i + 1) all) ns v) (sym g) (subst (λ (ps : List (Option ℕ)). IsOptimizing s r ps (names ++ name ∷ []) v) (sym (take_more all i None l)) (record {
       optimizes = λ t h.
           let x = k.optimizes t h in
@@ -107,6 +118,8 @@ one-more s u v r all i names out o name l k f e g d idle up a b =
       ups_are = up ∙ k.ups_are;
       schema = a ∙ k.schema;
       replicas = b ∙ k.replicas;
+      events = record { mid = k.events.mid; syncs = k.events.syncs; then_on = subst (λ n. AtMost n (MergesOnce r) k.events.mid v) (sym (length-more names name)) (at-most-next (MergesOnce r) k.events.mid u v (length names) k.events.then_on m) };
+      reaches = reaches-then s u v k.reaches (reaches-merges u v r m);
     }))
   where
     one : OptimizesTo u r (there all i) (optimized.Name name) v
@@ -150,3 +163,14 @@ pub lacks-part : (s u : Cluster) (r : ℕ) (asked : Option (Option ℕ)) (names 
 lacks-part s u r asked names refusal e f t h =
     let l = f t h in
     record { state = l.state; holds = inl (record { none = e; refusal = refusal; is_refused = refl; lacks = l.holds }); shows = l.shows }
+
+-- ---- its events
+
+-- it ends at one that can't be merged
+pub ends-there-by : (s u v : Cluster) (r : ℕ) (ps : List (Option ℕ)) (names out : List Name) (refused : Option Refusal) → IsOptimizing s r ps names u → MergesSome u r v → out ≡ names → OptimizeEvents s r out refused v
+ends-there-by s u v r ps names out refused k m g = subst (λ (ns : List Name). OptimizeEvents s r ns refused v) (sym g)
+    (inl (record { mid = k.events.mid; syncs = k.events.syncs; then_on = at-most-next (MergesOnce r) k.events.mid u v (length names) k.events.then_on m }))
+
+-- or with the last
+pub ends-all-by : (s u : Cluster) (r : ℕ) (ps : List (Option ℕ)) (names out : List Name) → IsOptimizing s r ps names u → out ≡ names → OptimizeEvents s r out None u
+ends-all-by s u r ps names out k g = ends-there-by s u u r ps names out None k (inl refl) g

@@ -1,6 +1,6 @@
 -- A sync pulls, and does entries: it leaves the table, and what is shown, and the replica knows the whole log then, or lacks a part.
 use Rattle.std.proofs.Common.{◌≡◌, ℕ, zero, suc, ◌⊎◌, inl, inr, Bool, true, false, List, [], ◌∷◌, ◌++◌, length, refl, ap, sym, subst, arith, ◌∙◌}
-use Rattle.std.specs.Prelude.{IfOk}
+use Rattle.std.specs.Prelude.{IfOk, OnErr}
 use Rattle.std.specs.declared.result.Result.{Result}
 use Rattle.std.specs.declared.result.Result.TheVariants.{Ok, Err}
 use Rattle.std.specs.declared.alloc.AllocError.{AllocError}
@@ -39,6 +39,7 @@ use Rattle.rmt_statement_model.proofs.KnowsLaws.{done-known}
 use Rattle.rmt_statement_model.proofs.SyncLaws.{after-shows, after-ups, after-table, synced-shows}
 use Rattle.rmt_statement_model.proofs.LostSourceLaws.{unknown-there}
 use Rattle.rmt_statement_model.proofs.UpLaws.{not-down, down-told}
+use Rattle.rmt_acts.specs.StatementEvents.{CatchesUp, SyncEvents}
 use Rattle.rmt_acts.specs.Syncing.{IsSynced, IsToldAs, SyncsReplica, HasDoneGets}
 
 -- the entries that a sync looked at
@@ -221,6 +222,7 @@ pub record IsEarly (s u : Cluster) (k : ℕ) (o : Option Refusal) : Type 0 where
   pub table : u.table ≡ s.table
   pub idle : IsIdle u k
   pub ups_are : ups u ≡ ups s
+  pub events : SyncEvents s k o u
 
 pub early-told : (s u : Cluster) (k : ℕ) (e : SyncError) (result : Result (Option Refusal) AllocError) → IsWhole s → IsIdle s k → SyncsTo s k (Err e) u → IsToldAs e result → IfOk result (IsEarly s u k)
 early-told s u k errors.ReplicaDown result w i y t = absurd t
@@ -229,6 +231,19 @@ early-told s u k (errors.NoSource part source) result w i y t = subst (λ (r : R
   table = sync-table s u k w y.syncs;
   idle = sync-idle s u k w y.syncs i;
   ups_are = sync-ups s u k w y.syncs;
+  events = y;
 })
 early-told s u k errors.Memory (Ok o) w i y t = let q = t in absurd (cc)
 early-told s u k errors.Memory (Err a) w i y t = tt
+
+-- no memory was left, where no refusal was told
+pub stopped-told : (s u : Cluster) (k : ℕ) (e : SyncError) (result : Result (Option Refusal) AllocError) → SyncsTo s k (Err e) u → IsToldAs e result → OnErr result (SyncsTo s k (Err errors.Memory) u)
+stopped-told s u k errors.ReplicaDown result y t = absurd t
+stopped-told s u k (errors.NoSource part source) result y t = subst (λ (r : Result (Option Refusal) AllocError). OnErr r (SyncsTo s k (Err errors.Memory) u)) (sym t) tt
+stopped-told s u k errors.Memory (Ok o) y t = let q = t in absurd (cc)
+stopped-told s u k errors.Memory (Err a) y t = y
+
+-- the events of a sync at whose end no refusal was told
+pub synced-events : (s u : Cluster) (r : ℕ) (o : Option Refusal) → ((x : Refusal) → o ≡ Some x → ⊥) → SyncEvents s r o u → CatchesUp s r u
+synced-events s u r None f y = y
+synced-events s u r (Some x) f y = absurd (f x refl)

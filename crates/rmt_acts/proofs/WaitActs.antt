@@ -1,5 +1,5 @@
 -- What the mutate of a part comes to, and a mutation that is waited for.
-use Rattle.std.proofs.Common.{◌≡◌, ◌∙◌, ℕ, ◌+◌, ◌<◌, inl, List, [], ◌∷◌, length, drop, get_or, refl, sym, ap, subst, arith, inr}
+use Rattle.std.proofs.Common.{◌≡◌, ◌∙◌, ℕ, suc, ◌+◌, ◌<◌, ◌≤◌, inl, List, [], ◌∷◌, length, drop, get_or, refl, sym, ap, subst, arith, inr}
 use Rattle.std.proofs.lemmas.List.{drop_more}
 use Rattle.std.specs.Prelude.{MatchOption}
 use Rattle.std.specs.declared.option.Option.{Option}
@@ -31,10 +31,12 @@ use Rattle.rmt_statement_model.specs.Shows.{IsIdle, IsUpToDate, Shows, Leads, up
 use Rattle.rmt_statement_model.proofs.PendingLaws.{AreToCome, pending-mutable, all-to-come, none-to-come, one-passed, one-mutated}
 use Rattle.rmt_statement_model.proofs.WaitRows.{IsMutateReply, mutated, mutate-shows, refused-shows}
 use Rattle.rmt_statement_model.proofs.WaitLeads.{placed-still, wait-begins, wait-goes-on, wait-ends, wait-stops}
-use Rattle.rmt_acts.specs.Waiting.{IsPlaceOf, BecomesMutated, MutatesOne, Settles, WaitsTo}
+use Rattle.rmt_acts.specs.StatementEvents.{CatchesUp, MutatesOnce, SyncsThen, WaitEvents}
+use Rattle.rmt_acts.specs.Waiting.{MutatesSome, IsPlaceOf, BecomesMutated, MutatesOne, Settles, WaitsTo}
 use Rattle.rmt_acts.specs.Syncing.{SyncsReplica, HasDoneGets}
 use Rattle.rmt_acts.proofs.SyncActs.{gets-done, gets-done-still}
 use Rattle.rmt_acts.proofs.OptimizeActs.{whole-log}
+use Rattle.rmt_acts.proofs.EventLists.{at-most-more, at-most-next, Reaches, reaches-mutates, reaches-synced, reaches-then}
 
 -- ---- one part
 
@@ -78,10 +80,14 @@ pub record IsWaiting (s : Cluster) (r id place : ℕ) (parts : List Name) (u : C
   pub placed : IsPlaceOf u.table.log id place
   pub to_come : AreToCome u.table.log (place + 1) parts
   pub waits : (t : TableState) → Shows s t → Leads u (λ v. MutatesParts t r id v)
+  pub count : ℕ
+  pub events : SyncsThen s r count (MutatesOnce r) u
+  pub few : count + length parts ≤ length (live s.table.log)
+  pub reaches : Reaches s u
 
 -- all are to come
-pub waiting-begins : (s u : Cluster) (r id place : ℕ) → IsWhole u → IsPlaceOf u.table.log id place → IsIdle u r → ups u ≡ ups s → IsUpToDate u r → u.table.schema ≡ s.table.schema → length u.replicas ≡ length s.replicas → ((t : TableState) → Shows s t → Shows u (synced r t)) → IsWaiting s r id place (live u.table.log) u
-waiting-begins s u r id place h p i up d e n f = record {
+pub waiting-begins : (s u : Cluster) (r id place : ℕ) → IsWhole u → IsPlaceOf u.table.log id place → IsIdle u r → ups u ≡ ups s → IsUpToDate u r → u.table.schema ≡ s.table.schema → length u.replicas ≡ length s.replicas → ((t : TableState) → Shows s t → Shows u (synced r t)) → CatchesUp s r u → u.table ≡ s.table → IsWaiting s r id place (live u.table.log) u
+waiting-begins s u r id place h p i up d e n f y q = record {
   idle = i;
   ups_are = up;
   whole = d;
@@ -90,6 +96,10 @@ waiting-begins s u r id place h p i up d e n f = record {
   placed = p;
   to_come = all-to-come u.table.schema u.table.log (place + 1) (IsSoundTable.lawful h.table);
   waits = λ t v. wait-begins t u r id place p.0 p.1 h p.2 (f t v);
+  count = 0;
+  events = record { mid = u; syncs = y; then_on = refl };
+  few = let n : length (live u.table.log) ≡ length (live s.table.log) = ap (λ (x : Table). length (live x.log)) q in omega (arith, n);
+  reaches = reaches-synced s u r y.syncs;
 }
 
 -- a mutation stands below the length of the log
@@ -97,8 +107,8 @@ pub place-below : (log : List Entry) (id place : ℕ) → IsPlaceOf log id place
 place-below log id place p = entry-below log place _ p.2
 
 -- the next part is mutated, or has none pending
-pub waiting-goes-on : (s u w : Cluster) (r id place : ℕ) (part : Name) (parts : List Name) → IsWhole u → Settles u r part place None w → IsIdle w r → ups w ≡ ups u → w.table.schema ≡ u.table.schema → length w.replicas ≡ length u.replicas → IsWaiting s r id place (part ∷ parts) u → IsWaiting s r id place parts w
-waiting-goes-on s u w r id place part parts h m k up c n g = go (last_pending u.table.log part (place + 1)) refl m
+pub waiting-goes-on : (s u w : Cluster) (r id place : ℕ) (part : Name) (parts : List Name) → IsWhole u → Settles u r part place None w → IsIdle w r → ups w ≡ ups u → w.table.schema ≡ u.table.schema → length w.replicas ≡ length u.replicas → MutatesSome u r w → IsWaiting s r id place (part ∷ parts) u → IsWaiting s r id place parts w
+waiting-goes-on s u w r id place part parts h m k up c n y g = go (last_pending u.table.log part (place + 1)) refl m
   where
     go : (o : Option ℕ) → last_pending u.table.log part (place + 1) ≡ o → MatchOption o ((◌≡◌ {A = Option Refusal} None None) × (w ≡ u)) (λ last. MutatesOne u r part last None w) → IsWaiting s r id place parts w
     go None e q = subst (IsWaiting s r id place parts) (sym q.1) (record {
@@ -110,6 +120,10 @@ waiting-goes-on s u w r id place part parts h m k up c n g = go (last_pending u.
       placed = g.placed;
       to_come = one-passed u.table.log (place + 1) part parts g.to_come e;
       waits = g.waits;
+      count = g.count;
+      events = g.events;
+      few = let l = g.few in omega (arith, l);
+      reaches = g.reaches;
     })
     go (Some i) e b =
         let l = (pending-mutable u.table.schema u.table.log (place + 1) part i (IsSoundTable.lawful h.table) (g.to_come.are_live part (inl refl)) e).1 in
@@ -123,6 +137,10 @@ waiting-goes-on s u w r id place part parts h m k up c n g = go (last_pending u.
           to_come = subst (λ (x : List Entry). AreToCome x (place + 1) parts) (sym b.log)
               (one-mutated w.table.schema u.table.log (place + 1) part b.name parts i b.count b.mcount g.to_come e (subst (Lawful w.table.schema) b.log b.lawful));
           waits = λ t v. wait-goes-on t u w r id place i b.count b.mcount part b.name g.placed.0 g.placed.1 b.lawful g.placed.2 e (omega (arith, l)) b.room b.shows (g.waits t v);
+          count = suc g.count;
+          events = record { mid = g.events.mid; syncs = g.events.syncs; then_on = at-most-next (MutatesOnce r) g.events.mid u w g.count g.events.then_on y };
+          few = let f = g.few in omega (arith, f);
+          reaches = reaches-then s u w g.reaches (reaches-mutates u w r y);
         }
 
 -- the next of the parts
@@ -161,3 +179,14 @@ mutate-gets s u r old upto place w d st = go st.does
         (ap (λ (x : Cluster). x.replicas) st.stored ∙ ap (λ (x : Cluster). x.replicas) a.appends.at.change)
         (ap (λ (x : Cluster). x.table.log) st.stored ∙ (ap (λ (x : Cluster). x.table.log) a.appends.at.change ∙ ap (λ (x : Table). x.log) a.appends.at.does.change))
         (gets-done s r w d)
+
+-- ---- its events
+
+-- none waits any more
+pub waited-all : (s u : Cluster) (r id place : ℕ) → IsWaiting s r id place [] u → WaitEvents s r None u
+waited-all s u r id place g = inl (record { mid = g.events.mid; syncs = g.events.syncs; then_on = at-most-more (MutatesOnce r) g.events.mid u g.count (length (live s.table.log)) (let l = g.few in omega (arith, l)) g.events.then_on })
+
+-- one more entry would pass a limit
+pub waited-some : (s u w : Cluster) (r id place : ℕ) (part : Name) (parts : List Name) (refusal : Refusal) → MutatesSome u r w → IsWaiting s r id place (part ∷ parts) u → WaitEvents s r (Some refusal) w
+waited-some s u w r id place part parts refusal m g =
+    inl (record { mid = g.events.mid; syncs = g.events.syncs; then_on = at-most-more (MutatesOnce r) g.events.mid w (suc g.count) (length (live s.table.log)) (let l = g.few in omega (arith, l)) (at-most-next (MutatesOnce r) g.events.mid u w g.count g.events.then_on m) })

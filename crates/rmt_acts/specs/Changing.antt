@@ -1,5 +1,4 @@
--- What mutations, drops, kills and restarts come to. No public clause but those of `mutate`, `drop_partition`, `restart_replica`,
--- `kill` and `restart` cites this module.
+-- What mutations and drops come to. No public clause but those of `mutate` and `drop_partition` cites this module.
 use Rattle.std.specs.Prelude.{◌≡◌, ◌⊎◌, ℕ, List}
 use Rattle.std.specs.declared.option.Option.{Option}
 use Rattle.std.specs.declared.option.Option.TheVariants.{Some}
@@ -10,9 +9,6 @@ use Rattle.rmt_entries.specs.declared.entry.Entry.{Entry}
 use Rattle.rmt_entries.specs.declared.entry.Entry.TheVariants.{DropRange}
 use Rattle.rmt_model.specs.Lawful.{entry_at}
 use Rattle.rmt_events.specs.Clusters.{Cluster}
-use Rattle.rmt_events.specs.Steps.{Step}
-use Rattle.rmt_events.specs.declared.event.Event.TheVariants as ev
-use Rattle.rmt_events.specs.declared.reply.Reply.{Reply}
 use Rattle.rmt_reply.specs.declared.refusal.Refusal.{Refusal}
 use Rattle.rmt_statement_model.specs.TableStates.{TableState, learned}
 use Rattle.rmt_statement_model.specs.Mutations.{Mutates, LacksMutation}
@@ -32,24 +28,6 @@ DropsSome t r p below u = Drops t r p below u ⊎ DropsNothing t p below u
 abbrev pub DropsTo : Cluster → ℕ → Option ℕ → Result ℕ Refusal → Cluster → Type 0
 DropsTo s r p (Ok below) u = (t : TableState) → Shows s t → Leads u (DropsSome t r p below)
 DropsTo s r p (Err refusal) u = (t : TableState) → Shows s t → Leads u (LacksDrop t p refusal)
-
--- the replica's session ended, and another one began
-pub record BeginsAnew (s : Cluster) (r : ℕ) (u : Cluster) : Type 0 where
-  pub mid : Cluster
-  pub ended : Reply
-  pub ends : Step s (ev.Kill r) ended mid
-  pub begun : Reply
-  pub begins : Step mid (ev.Restart r) begun u
-
--- the replica's session ended
-pub record EndsSession (s : Cluster) (r : ℕ) (u : Cluster) : Type 0 where
-  pub reply : Reply
-  pub ends : Step s (ev.Kill r) reply u
-
--- a session of the replica began
-pub record BeginsSession (s : Cluster) (r : ℕ) (u : Cluster) : Type 0 where
-  pub reply : Reply
-  pub begins : Step s (ev.Restart r) reply u
 
 -- ---- what only private functions cite
 

@@ -11,6 +11,7 @@ use Rattle.rmt_statement_model.specs.TableStates.{TableState, kept_with}
 use Rattle.rmt_statement_model.specs.Inserts.{Inserts, Refuses, number_for, with_number, number_limit, block_limit}
 use Rattle.rmt_statement_model.specs.Shows.{HoldsNone, Shows, ups}
 use Rattle.rmt_statement_model.specs.Attempts.{IsOpen, IsAccepted}
+use Rattle.rmt_acts.specs.StatementEvents.{PieceEvents, RefusedEvents}
 use Rattle.rmt_acts.specs.declared.begun.Begun.{Begun}
 use Rattle.rmt_acts.specs.declared.begun.Begun.TheVariants as begun
 use Rattle.rmt_acts.specs.declared.committed.Committed.{Committed}
@@ -85,3 +86,8 @@ pub record HasGet (s : Cluster) (place r : ℕ) : Type 0 where
 abbrev pub ComesTo : TableState → ℕ → Block → Outcome → TableState → Type 0
 ComesTo t r b (outcomes.Inserted piece) u = Inserts t r b piece u
 ComesTo t r b (outcomes.Refused refusal) u = Refuses t b refusal u
+
+-- the events of one block
+abbrev pub BlockEvents : Cluster → ℕ → Outcome → Cluster → Type 0
+BlockEvents s r (outcomes.Inserted piece) u = PieceEvents s r piece u
+BlockEvents s r (outcomes.Refused refusal) u = RefusedEvents s r (Some refusal) u

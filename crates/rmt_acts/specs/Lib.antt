@@ -1,4 +1,6 @@
 pub use Rattle.rmt_statement_model.specs.TableStates
+pub use Rattle.rmt_events.specs.Steps
+pub mod StatementEvents
 pub mod Inserting
 pub mod Syncing
 pub mod Changing

@@ -1,5 +1,5 @@
 -- What one partition of an OPTIMIZE comes to. No public clause cites this module.
-use Rattle.std.specs.Prelude.{◌≡◌, ℕ, List}
+use Rattle.std.specs.Prelude.{◌≡◌, ◌⊎◌, ℕ, List}
 use Rattle.std.specs.declared.option.Option.{Option}
 use Rattle.std.specs.declared.option.Option.TheVariants.{Some}
 use Rattle.rmt_names.specs.Names.{Name}
@@ -14,6 +14,7 @@ use Rattle.rmt_reply.specs.declared.refusal.Refusal.TheVariants.{Unmergeable, Li
 use Rattle.rmt_statement_model.specs.TableStates.{TableState, synced}
 use Rattle.rmt_statement_model.specs.Optimizes.{Optimizes, CantOptimize}
 use Rattle.rmt_statement_model.specs.Shows.{Shows, Leads}
+use Rattle.rmt_acts.specs.StatementEvents.{MergesOnce}
 use Rattle.rmt_acts.specs.declared.optimized.Optimized.{Optimized}
 use Rattle.rmt_acts.specs.declared.optimized.Optimized.TheVariants as optimized
 
@@ -27,6 +28,10 @@ pub record OptimizesOne (t : TableState) (r : ℕ) (p : Option ℕ) (name : Name
 abbrev pub OptimizesTo : Cluster → ℕ → Option ℕ → Optimized → Cluster → Type 0
 OptimizesTo s r p (optimized.Name name) u = (t : TableState) → Shows s t → Leads u (OptimizesOne t r p name)
 OptimizesTo s r p (optimized.Refused why) u = (t : TableState) → Shows s t → Leads u (λ v. CantOptimize t p why × (v ≡ t))
+
+-- some parts are merged, or none
+abbrev pub MergesSome : Cluster → ℕ → Cluster → Type 0
+MergesSome s r u = (u ≡ s) ⊎ MergesOnce r s u
 
 -- why names weren't merged, as a statement's reply says it
 abbrev pub IsToldAs : StepRefused → Refusal → Type 0

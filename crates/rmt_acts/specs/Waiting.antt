@@ -16,6 +16,7 @@ use Rattle.rmt_statement_model.specs.TableStates.{TableState, synced}
 use Rattle.rmt_statement_model.specs.LostSources.{LacksSource}
 use Rattle.rmt_statement_model.specs.Waits.{WaitsFor, LacksEntries}
 use Rattle.rmt_statement_model.specs.Shows.{Shows, Leads, IsUpToDate, ups}
+use Rattle.rmt_acts.specs.StatementEvents.{MutatesOnce}
 
 -- a wait is refused: the replica lacks a part, or an entry more would pass a limit
 abbrev pub RefusesWait : (ℕ → Bool) → TableState → ℕ → ℕ → Refusal → TableState → Type 0
@@ -57,3 +58,7 @@ MutatesOne s r old upto (Some refusal) u = (t : TableState) → Shows s t → Is
 abbrev pub Settles : Cluster → ℕ → Name → ℕ → Option Refusal → Cluster → Type 0
 Settles s r part place refused u =
     MatchOption (last_pending s.table.log part (place + 1)) ((refused ≡ None) × (u ≡ s)) (λ last. MutatesOne s r part last refused u)
+
+-- a part is mutated, or none is
+abbrev pub MutatesSome : Cluster → ℕ → Cluster → Type 0
+MutatesSome s r u = (u ≡ s) ⊎ MutatesOnce r s u

@@ -1,5 +1,5 @@
 //! The events that insert one block.
-ghost use Rattle.std.specs.Prelude.{◌≡◌, length, true, IfOk, OnOk};
+ghost use Rattle.std.specs.Prelude.{◌≡◌, ◌∷◌, [], length, true, IfOk, OnOk, OnErr};
 ghost use Rattle.std.specs.List.{All};
 ghost use Rattle.rmt_values.specs.Rows.{fits};
 ghost use Rattle.rmt_events.specs.Clusters.{without_kinds};
@@ -8,7 +8,9 @@ ghost use Rattle.rmt_state.specs.States.{IsNumber};
 ghost use Rattle.rmt_statement_model.specs.TableStates.{TableState, learned};
 ghost use Rattle.rmt_statement_model.specs.Shows.{HoldsNone, IsIdle, Shows, Leads, KeepsUps};
 ghost use Rattle.rmt_statement_model.specs.Attempts.{IsAllocateReply, IsCommitReply};
-ghost use Rattle.rmt_acts.specs.Inserting.{IsBegun, Begins, IsCommitted, Commits, HasAttempt, IsUpWith, HasGet, ComesTo};
+ghost use Rattle.rmt_events.specs.declared.event.Event.TheVariants as ev;
+ghost use Rattle.rmt_acts.specs.StatementEvents.{Makes, TriesBlock, StopsAfter};
+ghost use Rattle.rmt_acts.specs.Inserting.{IsBegun, Begins, IsCommitted, Commits, HasAttempt, IsUpWith, HasGet, BlockEvents, ComesTo};
 
 use crate::begun::Begun;
 use crate::committed::Committed;
@@ -54,6 +56,8 @@ fn begin(
     ensures begins { IfOk result (λ begun.
         Begins cluster.old replica (without_kinds block) begun cluster.new) }
     ensures whole { IfOk result (λ _. IsWhole cluster.new) }
+    ensures events { IfOk result (λ _. TriesBlock cluster.old replica cluster.new) }
+    ensures err { OnErr result (StopsAfter cluster.old cluster.new) }
     ensures keeps { KeepsUps cluster.old result cluster.new }
 {
     cluster.replicas_are_numbered();
@@ -94,6 +98,9 @@ fn commit(alloc: Global, cluster: &mut Cluster, attempt: u32) -> Result<Committe
     requires up { IsUpWith cluster.old attempt }
     ensures commits { IfOk result (λ done. Commits cluster.old attempt done cluster.new) }
     ensures free { IfOk result (λ _. HoldsNone cluster.new) }
+    ensures events { IfOk result (λ _.
+        Makes cluster.old (ev.Stage attempt ∷ ev.Commit attempt ∷ []) cluster.new) }
+    ensures err { OnErr result (StopsAfter cluster.old cluster.new) }
     ensures keeps { KeepsUps cluster.old result cluster.new }
 {
     let _staged = cluster.step(alloc, Event::Stage { attempt })?;
@@ -117,6 +124,9 @@ fn do_get(
     ensures does { OnOk result ((t : TableState) → Shows cluster.old t
         → Shows cluster.new (record t { known = learned t.known replica entry })) }
     ensures idle { OnOk result (IsIdle cluster.new replica) }
+    ensures events { OnOk result
+        (Makes cluster.old (ev.Pull replica ∷ ev.Apply replica entry ∷ []) cluster.new) }
+    ensures err { OnErr result (StopsAfter cluster.old cluster.new) }
     ensures keeps { KeepsUps cluster.old result cluster.new }
 {
     let _pulled = cluster.step(alloc, Event::Pull { replica })?;
@@ -140,6 +150,9 @@ pub(crate) fn insert_block(
     ensures inserts { IfOk result (λ outcome. (t : TableState) → Shows cluster.old t
         → Leads cluster.new (ComesTo t replica (without_kinds block) outcome)) }
     ensures idle { IfOk result (λ _. IsIdle cluster.new replica) }
+    ensures events { IfOk result (λ outcome.
+        BlockEvents cluster.old replica outcome cluster.new) }
+    ensures err { OnErr result (StopsAfter cluster.old cluster.new) }
     ensures keeps { KeepsUps cluster.old result cluster.new }
 {
     let partition = block.partition();

@@ -1,7 +1,9 @@
 //! ALTER .. DROP PARTITION.
-ghost use Rattle.std.specs.Prelude.{◌≡◌, length, IfOk};
+ghost use Rattle.std.specs.Prelude.{◌≡◌, ◌∷◌, [], length, IfOk, OnErr};
 ghost use Rattle.rmt_state.specs.States.{IsNumber};
 ghost use Rattle.rmt_statement_model.specs.Shows.{IsIdle, KeepsUps};
+ghost use Rattle.rmt_events.specs.declared.event.Event.TheVariants as ev;
+ghost use Rattle.rmt_acts.specs.StatementEvents.{DropEvents, Makes, StopsAfter};
 ghost use Rattle.rmt_acts.specs.Changing.{DropsTo, HasDrop, HasDropAt, IsNumberAt, DoesDrop};
 
 use rmt_cluster::Cluster;
@@ -39,6 +41,9 @@ fn do_drop(
     requires idle { IsIdle cluster.old replica }
     ensures does { IfOk result (λ number. DoesDrop cluster.old replica entry number cluster.new) }
     ensures idle { IfOk result (λ _. IsIdle cluster.new replica) }
+    ensures events { IfOk result (λ _.
+        Makes cluster.old (ev.Pull replica ∷ ev.Apply replica entry ∷ []) cluster.new) }
+    ensures err { OnErr result (StopsAfter cluster.old cluster.new) }
     ensures keeps { KeepsUps cluster.old result cluster.new }
 {
     cluster.replicas_are_numbered();
@@ -65,6 +70,9 @@ pub fn drop_partition(
     requires idle { IsIdle cluster.old replica }
     ensures drops { IfOk result (λ below. DropsTo cluster.old replica partition below cluster.new) }
     ensures idle { IfOk result (λ _. IsIdle cluster.new replica) }
+    ensures events { IfOk result (λ _.
+        DropEvents cluster.old replica partition cluster.new) }
+    ensures err { OnErr result (StopsAfter cluster.old cluster.new) }
     ensures keeps { KeepsUps cluster.old result cluster.new }
 {
     let reply = cluster.step(alloc, Event::DropPartition { partition })?;

@@ -1,5 +1,5 @@
 //! INSERT of blocks.
-ghost use Rattle.std.specs.Prelude.{◌≡◌, length, map, true, IfOk};
+ghost use Rattle.std.specs.Prelude.{◌≡◌, length, map, true, IfOk, OnErr};
 ghost use Rattle.std.specs.List.{All};
 ghost use Rattle.rmt_values.specs.Rows.{fits};
 ghost use Rattle.rmt_events.specs.Clusters.{without_kinds};
@@ -7,6 +7,7 @@ ghost use Rattle.rmt_state.specs.States.{IsNumber};
 ghost use Rattle.rmt_statement_model.specs.TableStates.{TableState};
 ghost use Rattle.rmt_statement_model.specs.Inserts.{InsertsAll};
 ghost use Rattle.rmt_statement_model.specs.Shows.{IsIdle, Shows, Leads, KeepsUps};
+ghost use Rattle.rmt_acts.specs.StatementEvents.{InsertEvents, StopsAfter};
 
 use crate::attempt::insert_block;
 use crate::insertion::Insertion;
@@ -32,6 +33,9 @@ pub fn insert_blocks(
     ensures inserts { IfOk result (λ i. (t : TableState) → Shows cluster.old t → Leads cluster.new
         (InsertsAll t replica (map without_kinds blocks.items) i.pieces i.refused)) }
     ensures idle { IfOk result (λ _. IsIdle cluster.new replica) }
+    ensures events { IfOk result (λ i.
+        InsertEvents cluster.old replica i.pieces i.refused cluster.new) }
+    ensures err { OnErr result (StopsAfter cluster.old cluster.new) }
     ensures keeps { KeepsUps cluster.old result cluster.new }
 {
     let mut pieces = Vec::new(alloc);

@@ -1,9 +1,11 @@
 //! ALTER .. UPDATE and ALTER .. DELETE.
-ghost use Rattle.std.specs.Prelude.{◌≡◌, length, IfOk};
+ghost use Rattle.std.specs.Prelude.{◌≡◌, ◌∷◌, [], length, IfOk, OnErr};
 ghost use Rattle.rmt_values.specs.Commands.{CommandFits};
 ghost use Rattle.rmt_entries.specs.EntryBytes.{CommandInRange};
 ghost use Rattle.rmt_model.specs.Lawful.{mutation_count};
 ghost use Rattle.rmt_statement_model.specs.Shows.{HoldsNone, KeepsUps};
+ghost use Rattle.rmt_events.specs.declared.event.Event.TheVariants as ev;
+ghost use Rattle.rmt_acts.specs.StatementEvents.{Makes};
 ghost use Rattle.rmt_acts.specs.Changing.{MutatesTo};
 
 use rmt_cluster::Cluster;
@@ -31,6 +33,9 @@ pub fn mutate(
     requires in_range { CommandInRange command }
     ensures mutates { IfOk result (λ made. MutatesTo cluster.old command made cluster.new) }
     ensures free { IfOk result (λ _. HoldsNone cluster.new) }
+    ensures events { IfOk result (λ _.
+        Makes cluster.old (ev.CreateMutation command ∷ []) cluster.new) }
+    ensures err { OnErr result (cluster.new ≡ cluster.old) }
     ensures keeps { KeepsUps cluster.old result cluster.new }
 {
     let id = mutations_made(cluster);

@@ -1,5 +1,5 @@
 //! OPTIMIZE .. FINAL.
-ghost use Rattle.std.specs.Prelude.{◌≡◌, ℕ, List as Names, length, IfOk};
+ghost use Rattle.std.specs.Prelude.{◌≡◌, ℕ, List as Names, length, IfOk, OnErr};
 ghost use Rattle.std.specs.declared.option.Option.TheVariants.{Some};
 ghost use Rattle.rmt_reply.specs.declared.refusal.Refusal.{Refusal as Why};
 ghost use Rattle.rmt_names.specs.Names.{Name};
@@ -10,7 +10,8 @@ ghost use Rattle.rmt_state.specs.States.{IsNumber};
 ghost use Rattle.rmt_statement_model.specs.TableStates.{TableState};
 ghost use Rattle.rmt_statement_model.specs.Optimizes.{live_of, OptimizesTable};
 ghost use Rattle.rmt_statement_model.specs.Shows.{IsIdle, IsUpToDate, Shows, Leads, ups, KeepsUps};
-ghost use Rattle.rmt_acts.specs.Optimizing.{IsMergeAt, IsToldAs, OptimizesTo};
+ghost use Rattle.rmt_acts.specs.StatementEvents.{OptimizeEvents, StopsAfter};
+ghost use Rattle.rmt_acts.specs.Optimizing.{IsMergeAt, IsToldAs, MergesSome, OptimizesTo};
 
 use crate::optimization::Optimization;
 use crate::optimized::Optimized;
@@ -59,7 +60,7 @@ fn merged_at(copy: &LogCopy, place: usize) -> PartName
     }
 }
 
-/// Merges all live parts of a partition into one, where there are two or more, and brings the replica up to date.
+/// Merges all live parts of a partition into one, where there are two or more, and brings the replica up to date then.
 fn optimize_partition(
     alloc: Global,
     cluster: &mut Cluster,
@@ -73,15 +74,15 @@ fn optimize_partition(
     ensures optimizes { IfOk result (λ o. OptimizesTo cluster.old replica partition o cluster.new) }
     ensures whole { IfOk result (λ _. IsUpToDate cluster.new replica) }
     ensures idle { IfOk result (λ _. IsIdle cluster.new replica) }
+    ensures events { IfOk result (λ _. MergesSome cluster.old replica cluster.new) }
+    ensures err { OnErr result (StopsAfter cluster.old cluster.new) }
     ensures keeps { KeepsUps cluster.old result cluster.new }
 {
     // What always holds of a cluster is known here.
     cluster.drained_replicas_agree();
     let sources = live_names(alloc, cluster.copy(replica), partition)?;
     if sources.len() == 1 {
-        let name = sources.as_slice()[0];
-        catch_up(alloc, cluster, replica)?;
-        return Ok(Optimized::Name(name));
+        return Ok(Optimized::Name(sources.as_slice()[0]));
     }
     let reply = cluster.step(alloc, Event::Merge { replica, sources })?;
     match &reply {
@@ -95,7 +96,7 @@ fn optimize_partition(
     }
 }
 
-/// Merges all parts of each partition into one, at a replica that is brought up to date first and after each; or of one
+/// Merges all parts of each partition into one, at a replica that is brought up to date first and after each merge; or of one
 /// partition alone. It ends at the first partition whose parts can't be merged, or before all where the replica lacks a part
 /// whose source is down; what was merged stays so. At an error no memory was left, and what was done stays done.
 pub fn optimize(
@@ -109,6 +110,9 @@ pub fn optimize(
     ensures optimizes { IfOk result (λ o. (t : TableState) → Shows cluster.old t
         → Leads cluster.new (OptimizesTable (ups cluster.old) t replica asked o.names o.refused)) }
     ensures idle { IfOk result (λ _. IsIdle cluster.new replica) }
+    ensures events { IfOk result (λ o.
+        OptimizeEvents cluster.old replica o.names o.refused cluster.new) }
+    ensures err { OnErr result (StopsAfter cluster.old cluster.new) }
     ensures keeps { KeepsUps cluster.old result cluster.new }
 {
     // What always holds of a cluster is known here.

@@ -1,5 +1,7 @@
 //! Live names by partition.
-ghost use Rattle.std.specs.Prelude.{◌≡◌, IfOk, filter, map, nat_eq};
+ghost use Rattle.std.specs.Prelude.{◌≡◌, IfOk, filter, map, nat_eq, nat_lt};
+ghost use Rattle.rmt_model.specs.Words.{Pairwise};
+ghost use Rattle.rmt_model.specs.Live.{Before};
 ghost use Rattle.rmt_names.specs.Names.{rank};
 ghost use Rattle.rmt_statement_model.specs.Optimizes.{live_of, partitions_asked};
 
@@ -15,19 +17,22 @@ fn are_same(left: PartitionId, right: PartitionId) -> bool
     left == right
 }
 
-/// Those of the names that are of a partition, in order.
-fn of_partition(
-    alloc: Global,
-    names: &[PartName],
-    partition: PartitionId,
-) -> Result<Vec<PartName>, AllocError>
-    ensures { IfOk result (λ kept. kept.items ≡ filter (λ a. nat_eq (rank a.partition) (rank partition)) names.now) }
+/// Whether the name's partition comes before this one.
+fn is_earlier(name: &PartName, partition: PartitionId) -> bool
+    ensures { result ≡ nat_lt (rank name.now.partition) (rank partition) }
 {
-    names
-        .iter()
-        .filter(|name| are_same(name.partition(), partition))
-        .copied()
-        .collect(alloc)
+    name.partition() < partition
+}
+
+/// Those of the names that are of a partition: they stand side by side, and are found by bisection.
+fn of_partition(names: &[PartName], partition: PartitionId) -> &[PartName]
+    requires in_order { Pairwise Before names.now }
+    ensures { result.now ≡ filter (λ a. nat_eq (rank a.partition) (rank partition)) names.now }
+{
+    let first = names.partition_point(|name| is_earlier(name, partition));
+    let later = names.split_at(first).1;
+    let count = later.partition_point(|name| are_same(name.partition(), partition));
+    later.split_at(count).0
 }
 
 /// The live names of a partition, in order.
@@ -38,7 +43,9 @@ pub(crate) fn live_names(
 ) -> Result<List<PartName>, AllocError>
     ensures { IfOk result (λ names. names ≡ live_of copy.now.log partition) }
 {
-    let names = of_partition(alloc, copy.live(), partition)?;
+    // The log of a copy is lawful, so that its live names are in order.
+    let _entries = copy.len();
+    let names = Vec::from_slice(alloc, of_partition(copy.live(), partition))?;
     Ok(List::new(names))
 }
 

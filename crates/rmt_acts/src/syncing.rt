@@ -1,8 +1,11 @@
 //! A replica is brought up to date.
-ghost use Rattle.std.specs.Prelude.{◌≡◌, ◌≢◌, length, IfOk, OnOk};
+ghost use Rattle.std.specs.Prelude.{◌≡◌, ◌≢◌, length, IfOk, OnOk, OnErr};
 ghost use Rattle.rmt_state.specs.States.{IsNumber};
-ghost use Rattle.rmt_cluster.specs.declared.sync_error.SyncError.TheVariants.{ReplicaDown};
+ghost use Rattle.std.specs.declared.result.Result.TheVariants.{Err as Stopped};
+ghost use Rattle.rmt_cluster.specs.Syncs.{SyncsTo};
+ghost use Rattle.rmt_cluster.specs.declared.sync_error.SyncError.TheVariants.{ReplicaDown, Memory};
 ghost use Rattle.rmt_statement_model.specs.Shows.{IsIdle, KeepsUps};
+ghost use Rattle.rmt_acts.specs.StatementEvents.{CatchesUp, SyncEvents};
 ghost use Rattle.rmt_acts.specs.Syncing.{HasDoneGets, IsSynced, IsToldAs, SyncsReplica};
 
 use rmt_cluster::{Cluster, SyncError};
@@ -38,6 +41,8 @@ pub fn sync_replica(
     ensures syncs { IfOk result (λ refused. SyncsReplica cluster.old replica refused cluster.new) }
     ensures table { IfOk result (λ _. cluster.new.table ≡ cluster.old.table) }
     ensures idle { IfOk result (λ _. IsIdle cluster.new replica) }
+    ensures events { IfOk result (λ refused. SyncEvents cluster.old replica refused cluster.new) }
+    ensures err { OnErr result (SyncsTo cluster.old replica (Stopped Memory) cluster.new) }
     ensures keeps { KeepsUps cluster.old result cluster.new }
 {
     // What always holds of a cluster is known here.
@@ -61,6 +66,8 @@ pub(crate) fn catch_up(
     ensures syncs { OnOk result (IsSynced cluster.old replica cluster.new) }
     ensures table { OnOk result (cluster.new.table ≡ cluster.old.table) }
     ensures idle { OnOk result (IsIdle cluster.new replica) }
+    ensures events { OnOk result (CatchesUp cluster.old replica cluster.new) }
+    ensures err { OnErr result (SyncsTo cluster.old replica (Stopped Memory) cluster.new) }
     ensures keeps { KeepsUps cluster.old result cluster.new }
 {
     // What always holds of a cluster is known here.

@@ -1,12 +1,13 @@
 //! WAIT MUTATION.
-ghost use Rattle.std.specs.Prelude.{◌≡◌, ◌<◌, length, IfOk};
+ghost use Rattle.std.specs.Prelude.{◌≡◌, ◌<◌, length, IfOk, OnErr};
 ghost use Rattle.rmt_model.specs.Words.{Has};
 ghost use Rattle.rmt_model.specs.Live.{live};
 ghost use Rattle.rmt_model.specs.Lawful.{mutation_count};
 ghost use Rattle.rmt_state.specs.States.{IsNumber};
 ghost use Rattle.rmt_events.specs.LogEvents.{IsMutable};
 ghost use Rattle.rmt_statement_model.specs.Shows.{IsIdle, IsUpToDate, KeepsUps};
-ghost use Rattle.rmt_acts.specs.Waiting.{IsPlaceOf, MutatesOne, Settles, WaitsTo};
+ghost use Rattle.rmt_acts.specs.StatementEvents.{MutatesOnce, StopsAfter, WaitEvents};
+ghost use Rattle.rmt_acts.specs.Waiting.{IsPlaceOf, MutatesOne, MutatesSome, Settles, WaitsTo};
 
 use crate::reading::all_mutations;
 use crate::syncing::{catch_up, sync_replica};
@@ -44,6 +45,8 @@ fn mutate_part(
     requires mutable { IsMutable cluster.old.table.log old upto }
     ensures mutates { IfOk result (λ refused. MutatesOne cluster.old replica old upto refused cluster.new) }
     ensures idle { IfOk result (λ _. IsIdle cluster.new replica) }
+    ensures events { IfOk result (λ _. MutatesOnce replica cluster.old cluster.new) }
+    ensures err { OnErr result (StopsAfter cluster.old cluster.new) }
     ensures keeps { KeepsUps cluster.old result cluster.new }
 {
     let reply = cluster.step(alloc, Event::Mutate { replica, old, upto })?;
@@ -78,6 +81,8 @@ fn settle_part(
     requires below { place < length cluster.old.table.log }
     ensures settles { IfOk result (λ refused. Settles cluster.old replica part place refused cluster.new) }
     ensures idle { IfOk result (λ _. IsIdle cluster.new replica) }
+    ensures events { IfOk result (λ _. MutatesSome cluster.old replica cluster.new) }
+    ensures err { OnErr result (StopsAfter cluster.old cluster.new) }
     ensures keeps { KeepsUps cluster.old result cluster.new }
 {
     // What always holds of a cluster is known here.
@@ -104,6 +109,8 @@ pub fn wait_for(
     requires known { id < mutation_count cluster.old.table.log }
     ensures waits { IfOk result (λ refused. WaitsTo cluster.old replica id refused cluster.new) }
     ensures idle { IfOk result (λ _. IsIdle cluster.new replica) }
+    ensures events { IfOk result (λ refused. WaitEvents cluster.old replica refused cluster.new) }
+    ensures err { OnErr result (StopsAfter cluster.old cluster.new) }
     ensures keeps { KeepsUps cluster.old result cluster.new }
 {
     if let Some(lacking) = sync_replica(alloc, cluster, replica)? {

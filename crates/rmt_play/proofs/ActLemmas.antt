@@ -39,19 +39,20 @@ use Rattle.rmt_play.specs.ActRefusals.{refused_names, refused_query}
 use Rattle.rmt_play.specs.InsertStatement.{InsertsRows}
 use Rattle.rmt_play.specs.SelectStatement.{Syncs, Reads}
 use Rattle.rmt_play.specs.ExplainStatement.{Explains}
-use Rattle.rmt_play.specs.Acts.{Acts}
+use Rattle.rmt_acts.specs.StatementEvents.{SyncEvents}
+use Rattle.rmt_play.specs.ActEvents.{InsertsBy, refusal_told}
 use Rattle.rmt_play.specs.QueryAnswers.{IsSelection, IsExplained}
-use Rattle.rmt_play.specs.PlayerSteps.{HasRows, RefusesRows, Declines, ExecutesIn, ExecutesQuery}
+use Rattle.rmt_play.specs.PlayerSteps.{HasRows, RefusesRows, DoesAct, Declines, ExecutesIn, ExecutesQuery}
 
 -- ---- queries
 
 -- a query that isn't refused
-answered : (s u : Cluster) (t v : TableState) (query : Query) (Answers : TableState → Line → TableState → Type 0) (line : Line) → query_refusal s.table.schema query ≡ None → Shows s t → Shows u v → Answers t line v
-    → Leads u (λ v. MatchOption (refused_query (query_refusal t.schema query)) (Answers t line v) (Declines t line v))
-answered s u t v query Answers line q h k a = record {
+answered : (s u : Cluster) (t v : TableState) (query : Query) (Answers : TableState → Line → TableState → Type 0) (Events : Line → Cluster → Type 0) (line : Line) → query_refusal s.table.schema query ≡ None → Shows s t → Shows u v → Answers t line v → Events line u
+    → Leads u (λ v. MatchOption (refused_query (query_refusal t.schema query)) (Answers t line v × Events line u) (Declines s t line u v))
+answered s u t v query Answers Events line q h k a m = record {
   state = v;
-  holds = subst (λ (o : Option Refusal). MatchOption o (Answers t line v) (Declines t line v))
-      (sym (ap (λ (c : Shape). refused_query (query_refusal c query)) h.schema ∙ ap refused_query q)) a;
+  holds = subst (λ (o : Option Refusal). MatchOption o (Answers t line v × Events line u) (Declines s t line u v))
+      (sym (ap (λ (c : Shape). refused_query (query_refusal c query)) h.schema ∙ ap refused_query q)) (a, m);
   shows = k;
 }
 
@@ -82,31 +83,31 @@ none-of (Some x) f = absurd (f x refl)
 
 -- SELECT .. SYNC
 pub syncs-in : (s u : Cluster) (r : ℕ) (query : Query) (checked : CheckedQuery) (cells : List (List Cell)) → query_refusal s.table.schema query ≡ None → IsCheckedQuery s.table.schema query checked
-    → SyncsReplica s r None u
+    → SyncsReplica s r None u → SyncEvents s r None u
     → ((t : TableState) → Shows u t → KnowsAll t r → cells ≡ answer_of t.schema checked (plain_rows t))
-    → ExecutesQuery s query (λ t. Syncs (ups s) t r query) (lines.Rows cells) u
-syncs-in s u r query checked cells q is f a = λ t h.
-    answered s u t (synced r t) query (λ t. Syncs (ups s) t r query) (lines.Rows cells) q h (f.shows t h) (inl (record {
+    → ExecutesQuery s query (λ t. Syncs (ups s) t r query) (λ line. SyncEvents s r (refusal_told line)) (lines.Rows cells) u
+syncs-in s u r query checked cells q is f m a = λ t h.
+    answered s u t (synced r t) query (λ t. Syncs (ups s) t r query) (λ line. SyncEvents s r (refusal_told line)) (lines.Rows cells) q h (f.shows t h) (inl (record {
       checked = checked;
       is = checked-in s t query checked h is;
       reply = ap (λ (x : List (List Cell)). lines.Rows x) (a (synced r t) (f.shows t h) (synced-knows t r));
       change = refl;
-    }))
+    })) m
 
 -- the replica lacks a part
-pub sync-lacks : (s u : Cluster) (r : ℕ) (query : Query) (why : Refusal) → query_refusal s.table.schema query ≡ None → SyncsReplica s r (Some why) u → ExecutesQuery s query (λ t. Syncs (ups s) t r query) (lines.Refused why) u
-sync-lacks s u r query why q f = λ t h.
+pub sync-lacks : (s u : Cluster) (r : ℕ) (query : Query) (why : Refusal) → query_refusal s.table.schema query ≡ None → SyncsReplica s r (Some why) u → SyncEvents s r (Some why) u → ExecutesQuery s query (λ t. Syncs (ups s) t r query) (λ line. SyncEvents s r (refusal_told line)) (lines.Refused why) u
+sync-lacks s u r query why q f m = λ t h.
     let l = f t h in
-    answered s u t l.state query (λ t. Syncs (ups s) t r query) (lines.Refused why) q h l.shows (inr (record { refusal = why; lacks = l.holds; reply = refl }))
+    answered s u t l.state query (λ t. Syncs (ups s) t r query) (λ line. SyncEvents s r (refusal_told line)) (lines.Refused why) q h l.shows (inr (record { refusal = why; lacks = l.holds; reply = refl })) m
 
 -- a plain SELECT
 pub reads-in : (s : Cluster) (r : ℕ) (query : Query) (checked : CheckedQuery) (names : List Name) (cells : List (List Cell)) → query_refusal s.table.schema query ≡ None → IsCheckedQuery s.table.schema query checked
-    → IsSelection s r checked names cells → ExecutesQuery s query (λ t. Reads t r query) (lines.Read names cells) s
+    → IsSelection s r checked names cells → ExecutesQuery s query (λ t. Reads t r query) (λ line u. u ≡ s) (lines.Read names cells) s
 reads-in s r query checked names cells q is a = λ t h.
     let reading = a.reading t h in
     let held = reading.holds ∙ ap (map (data_at t)) (sym a.named) in
     let shown = subst (λ (ns : List Name). Shows s (shown_at r ns t)) (sym a.named) (a.known t h) in
-    answered s s t (shown_at r names t) query (λ t. Reads t r query) (lines.Read names cells) q h shown (record {
+    answered s s t (shown_at r names t) query (λ t. Reads t r query) (λ line u. u ≡ s) (lines.Read names cells) q h shown (record {
       checked = checked;
       is = checked-in s t query checked h is;
       names = names;
@@ -114,14 +115,14 @@ reads-in s r query checked names cells q is a = λ t h.
       reply = ap (λ (x : List (List Cell)). lines.Read names x) (a.answered
           ∙ (ap (λ (c : Shape). answer_of c checked (all_rows (data_in a.parts))) (sym h.schema) ∙ ap (λ (x : List PartView). answer_of t.schema checked (all_rows x)) held));
       change = refl;
-    })
+    }) refl
 
 -- EXPLAIN
 pub explains-in : (s : Cluster) (r : ℕ) (query : Query) (checked : CheckedQuery) (all : List (Name × ℕ × ℕ)) → query_refusal s.table.schema query ≡ None → IsCheckedQuery s.table.schema query checked
-    → IsExplained s r checked all → ExecutesQuery s query (λ t. Explains t r query) (lines.Granules all) s
+    → IsExplained s r checked all → ExecutesQuery s query (λ t. Explains t r query) (λ line u. u ≡ s) (lines.Granules all) s
 explains-in s r query checked all q is a = λ t h.
     let reading = a.reading t h in
-    answered s s t (shown_at r (names_in a.parts) t) query (λ t. Explains t r query) (lines.Granules all) q h (a.known t h) (record {
+    answered s s t (shown_at r (names_in a.parts) t) query (λ t. Explains t r query) (λ line u. u ≡ s) (lines.Granules all) q h (a.known t h) (record {
       checked = checked;
       is = checked-in s t query checked h is;
       names = names_in a.parts;
@@ -130,38 +131,38 @@ explains-in s r query checked all q is a = λ t h.
       counted = subst (λ (x : List PartView). AreExplained checked.filter (names_in a.parts) x all) reading.holds a.counted;
       reply = refl;
       change = refl;
-    })
+    }) refl
 
 -- a query that is refused
-pub query-refused : (s : Cluster) (query : Query) (Answers : TableState → Line → TableState → Type 0) (line : Line) (why : Refusal) → refused_query (query_refusal s.table.schema query) ≡ Some why → line ≡ lines.Refused why
-    → ExecutesQuery s query Answers line s
-query-refused s query Answers line why q e = λ t h. record {
+pub query-refused : (s : Cluster) (query : Query) (Answers : TableState → Line → TableState → Type 0) (Events : Line → Cluster → Type 0) (line : Line) (why : Refusal) → refused_query (query_refusal s.table.schema query) ≡ Some why → line ≡ lines.Refused why
+    → ExecutesQuery s query Answers Events line s
+query-refused s query Answers Events line why q e = λ t h. record {
   state = t;
-  holds = subst (λ (o : Option Refusal). MatchOption o (Answers t line t) (Declines t line t))
-      (sym (ap (λ (c : Shape). refused_query (query_refusal c query)) h.schema ∙ q)) (e, refl);
+  holds = subst (λ (o : Option Refusal). MatchOption o (Answers t line t × Events line s) (Declines s t line s t))
+      (sym (ap (λ (c : Shape). refused_query (query_refusal c query)) h.schema ∙ q)) (e, refl, refl);
   shows = h;
 }
 
 -- ---- INSERT
 
 -- rows that are inserted
-pub inserts-in : (s u : Cluster) (r : ℕ) (insert : Insert) (rows : List Row) (line : Line) → ups s r ≡ true → HasRows s.table.schema insert rows → ((t : TableState) → Shows s t → Leads u (InsertsRows t r rows line))
+pub inserts-in : (s u : Cluster) (r : ℕ) (insert : Insert) (rows : List Row) (line : Line) → ups s r ≡ true → HasRows s.table.schema insert rows → ((t : TableState) → Shows s t → Leads u (InsertsRows t r rows line)) → InsertsBy s r line u
     → ExecutesIn s r (acts.Insert insert) line u
-inserts-in s u r insert rows line up k f = λ t h.
+inserts-in s u r insert rows line up k f m = λ t h.
     let led = f t h in
     let here = subst (λ (c : Shape). HasRows c insert rows) (sym h.schema) k in
     record {
       state = led.state;
-      holds = subst (λ (o : Option Refusal). MatchOption o (Acts (ups s) t r (acts.Insert insert) line led.state) (Declines t line led.state))
-          (sym (ap refused_names here.known)) (inl (up, record { rows = rows; read = here.read; inserts = led.holds }));
+      holds = subst (λ (o : Option Refusal). MatchOption o (DoesAct (ups s) s t r (acts.Insert insert) line u led.state) (Declines s t line u led.state))
+          (sym (ap refused_names here.known)) (inl (up, record { rows = rows; read = here.read; inserts = led.holds }), m);
       shows = led.shows;
     }
 
 -- the same of a call
 pub inserts-all-in : {E : Type 0} (result : Result Line E) (s u : Cluster) (r : ℕ) (insert : Insert) (rows : List Row) → ups s r ≡ true → HasRows s.table.schema insert rows
-    → IfOk result (λ line. (t : TableState) → Shows s t → Leads u (InsertsRows t r rows line)) → IfOk result (λ line. ExecutesIn s r (acts.Insert insert) line u)
-inserts-all-in (Ok line) s u r insert rows up k f = inserts-in s u r insert rows line up k f
-inserts-all-in (Err e) s u r insert rows up k f = tt
+    → IfOk result (λ line. (t : TableState) → Shows s t → Leads u (InsertsRows t r rows line)) → IfOk result (λ line. InsertsBy s r line u) → IfOk result (λ line. ExecutesIn s r (acts.Insert insert) line u)
+inserts-all-in (Ok line) s u r insert rows up k f m = inserts-in s u r insert rows line up k f m
+inserts-all-in (Err e) s u r insert rows up k f m = tt
 
 -- the rows of each block fit
 pub split-fits : (shape : Shape) (rows : List Row) (blocks : List BlockView) → IsSplit shape rows blocks → All (λ row. fits shape.columns row ≡ true) rows → All (λ b. All (λ row. fits shape.columns row ≡ true) b.rows) blocks
@@ -185,8 +186,8 @@ inserts-split s u r rows blocks all refused p f t h =
 pub rows-refused : (s : Cluster) (r : ℕ) (insert : Insert) (line : Line) (why : Refusal) → RefusesRows s.table.schema insert why → line ≡ lines.Refused why → ExecutesIn s r (acts.Insert insert) line s
 rows-refused s r insert line why k e = λ t h. record { state = t; holds = go t (subst (λ (c : Shape). RefusesRows c insert why) (sym h.schema) k); shows = h }
   where
-    go : (t : TableState) → RefusesRows t.schema insert why → MatchOption (refused_names (names_refusal t.schema.columns insert.columns)) (Acts (ups s) t r (acts.Insert insert) line t) (Declines t line t)
-    go t (inl q) = subst (λ (o : Option Refusal). MatchOption o (Acts (ups s) t r (acts.Insert insert) line t) (Declines t line t)) (sym q) (e, refl)
+    go : (t : TableState) → RefusesRows t.schema insert why → MatchOption (refused_names (names_refusal t.schema.columns insert.columns)) (DoesAct (ups s) s t r (acts.Insert insert) line s t) (Declines s t line s t)
+    go t (inl q) = subst (λ (o : Option Refusal). MatchOption o (DoesAct (ups s) s t r (acts.Insert insert) line s t) (Declines s t line s t)) (sym q) (e, refl, refl)
     go t (inr b) =
-        subst (λ (o : Option Refusal). MatchOption o (Acts (ups s) t r (acts.Insert insert) line t) (Declines t line t)) (sym (ap refused_names b.known))
-        (inr (inl (record { row = b.row; refused = b.refused; reply = e ∙ ap (λ (w : Refusal). lines.Refused w) b.is; unchanged = refl })))
+        subst (λ (o : Option Refusal). MatchOption o (DoesAct (ups s) s t r (acts.Insert insert) line s t) (Declines s t line s t)) (sym (ap refused_names b.known))
+        (inr (inl (record { row = b.row; refused = b.refused; reply = e ∙ ap (λ (w : Refusal). lines.Refused w) b.is; unchanged = refl })), subst (λ (l : Line). InsertsBy s r l s) (sym e) refl)

@@ -28,11 +28,11 @@ use Rattle.rmt_play.proofs.TableLemmas.{length-shown, append-shown, none-in}
 use Rattle.rmt_play.proofs.SendLemmas.{found-at}
 
 -- a table is added
-pub adds : (p : PlayerView) (name : List ℕ) (schema : Shape) (c : Cluster) → Shows c (empty_table schema) → Moves p (λ w v. Creates w name schema lines.Okay v) (record p { tables = p.tables ++ record { name = name; cluster = c } ∷ [] })
+pub adds : (p : PlayerView) (name : List ℕ) (schema : Shape) (c : Cluster) → IsNewTable schema p.replicas p.up c → Moves p (λ w v. Creates w name schema lines.Okay v) (record p { tables = p.tables ++ record { name = name; cluster = c } ∷ [] })
 adds p name schema c h w i = record {
-  world = record w { tables = w.tables ++ new_table name schema ∷ [] };
-  holds = record { reply = refl; change = refl };
-  is_in = record { replicas = i.replicas; up = i.up; tables = append-shown p.tables w.tables (record { name = name; cluster = c }) (new_table name schema) i.tables refl h };
+  world = record w { tables = w.tables ++ new_table name schema c ∷ [] };
+  holds = record { cluster = c; ups_are = h.ups_given; is_new = h.is_new; counted = h.all ∙ sym i.replicas; are_up = h.ups_are ∙ sym i.up; reply = refl; change = refl };
+  is_in = record { replicas = i.replicas; up = i.up; tables = append-shown p.tables w.tables (record { name = name; cluster = c }) (new_table name schema c) i.tables (record { name = refl; cluster = refl; shows = h.shows }) };
 }
 
 -- the name is taken
@@ -191,6 +191,8 @@ ups-new xs count up n e (suc i) = ap (λ j. up_at xs j) (let m : suc i ≡ 1 + i
 
 new-table : (schema : Shape) (count : ℕ) (up : List Bool) (c : Cluster) → IsNewCluster schema (take count up) c → length c.replicas ≡ count → IsNewTable schema count up c
 new-table schema count up c k n = record {
+  ups_given = take count up;
+  is_new = k;
   shows = record {
     schema = sym (ap (λ (d : Cluster). d.table.schema) k.is_new);
     log = sym (ap (λ (d : Cluster). d.table.log) k.is_new);

@@ -16,8 +16,7 @@ use Rattle.rmt_reply.specs.declared.refusal.Refusal.{Refusal}
 use Rattle.rmt_reply.specs.declared.refusal.Refusal.TheVariants.{ReplicaDown}
 use Rattle.rmt_play.specs.Checks.{first_of}
 use Rattle.rmt_play.specs.ActRefusals.{refused_names, act_refusal, act_refusals, down_refusal, id_refusal}
-use Rattle.rmt_play.specs.Acts.{Acts}
-use Rattle.rmt_play.specs.PlayerSteps.{Declines, ExecutesAt, ExecutesThere, IsOwnRefusal}
+use Rattle.rmt_play.specs.PlayerSteps.{DoesAct, Declines, ExecutesAt, ExecutesThere, IsOwnRefusal}
 
 -- the refusal, or that of the replica
 abbrev or_down : ℕ → Option Refusal → Refusal
@@ -25,8 +24,8 @@ or_down r None = ReplicaDown r
 or_down r (Some why) = why
 
 -- the replica's own refusal is last, or first where the act has none
-declines : (up : ℕ → Bool) (t : TableState) (r : ℕ) (act : Act) (why : Option Refusal) → act_refusal t act ≡ why → down_refusal up r act ≡ Some (ReplicaDown r) → ExecutesAt up t r act (lines.Refused (or_down r why)) t
-declines up t r act why own down = subst (λ (o : Option Refusal). MatchOption o (Acts up t r act (lines.Refused (or_down r why)) t) (Declines t (lines.Refused (or_down r why)) t)) (sym first) (refl, refl)
+declines : (up : ℕ → Bool) (s : Cluster) (t : TableState) (r : ℕ) (act : Act) (why : Option Refusal) → act_refusal t act ≡ why → down_refusal up r act ≡ Some (ReplicaDown r) → ExecutesAt up s t r act (lines.Refused (or_down r why)) s t
+declines up s t r act why own down = subst (λ (o : Option Refusal). MatchOption o (DoesAct up s t r act (lines.Refused (or_down r why)) s t) (Declines s t (lines.Refused (or_down r why)) s t)) (sym first) (refl, refl, refl)
   where
     by : (o : Option Refusal) → first_of (o ∷ Some (ReplicaDown r) ∷ id_refusal t act ∷ []) ≡ Some (or_down r o)
     by None = refl
@@ -36,36 +35,36 @@ declines up t r act why own down = subst (λ (o : Option Refusal). MatchOption o
     first = rw (own, down) (by why)
 
 -- an INSERT is refused for its columns, a bad row, or the replica
-insert-declines : (up : ℕ → Bool) (t : TableState) (r : ℕ) (insert : Insert) (why : Option Refusal) → up r ≡ false → IsOwnRefusal t.schema (acts.Insert insert) why → ExecutesAt up t r (acts.Insert insert) (lines.Refused (or_down r why)) t
-insert-declines up t r insert None down k =
-    subst (λ (o : Option Refusal). MatchOption (first_of (o ∷ None ∷ None ∷ [])) (Acts up t r (acts.Insert insert) (lines.Refused (ReplicaDown r)) t) (Declines t (lines.Refused (ReplicaDown r)) t)) (sym (ap refused_names k.1.known))
-    (inr (inr (record { down = down; rows = k.0; read = k.1.read; reply = refl; unchanged = refl })))
-insert-declines up t r insert (Some why) down (inl q) =
-    subst (λ (o : Option Refusal). MatchOption (first_of (o ∷ None ∷ None ∷ [])) (Acts up t r (acts.Insert insert) (lines.Refused why) t) (Declines t (lines.Refused why) t)) (sym q) (refl, refl)
-insert-declines up t r insert (Some why) down (inr b) =
-    subst (λ (o : Option Refusal). MatchOption (first_of (o ∷ None ∷ None ∷ [])) (Acts up t r (acts.Insert insert) (lines.Refused why) t) (Declines t (lines.Refused why) t)) (sym (ap refused_names b.known))
-    (inr (inl (record { row = b.row; refused = b.refused; reply = ap (λ (w : Refusal). lines.Refused w) b.is; unchanged = refl })))
+insert-declines : (up : ℕ → Bool) (s : Cluster) (t : TableState) (r : ℕ) (insert : Insert) (why : Option Refusal) → up r ≡ false → IsOwnRefusal t.schema (acts.Insert insert) why → ExecutesAt up s t r (acts.Insert insert) (lines.Refused (or_down r why)) s t
+insert-declines up s t r insert None down k =
+    subst (λ (o : Option Refusal). MatchOption (first_of (o ∷ None ∷ None ∷ [])) (DoesAct up s t r (acts.Insert insert) (lines.Refused (ReplicaDown r)) s t) (Declines s t (lines.Refused (ReplicaDown r)) s t)) (sym (ap refused_names k.1.known))
+    (inr (inr (record { down = down; rows = k.0; read = k.1.read; reply = refl; unchanged = refl })), refl)
+insert-declines up s t r insert (Some why) down (inl q) =
+    subst (λ (o : Option Refusal). MatchOption (first_of (o ∷ None ∷ None ∷ [])) (DoesAct up s t r (acts.Insert insert) (lines.Refused why) s t) (Declines s t (lines.Refused why) s t)) (sym q) (refl, refl, refl)
+insert-declines up s t r insert (Some why) down (inr b) =
+    subst (λ (o : Option Refusal). MatchOption (first_of (o ∷ None ∷ None ∷ [])) (DoesAct up s t r (acts.Insert insert) (lines.Refused why) s t) (Declines s t (lines.Refused why) s t)) (sym (ap refused_names b.known))
+    (inr (inl (record { row = b.row; refused = b.refused; reply = ap (λ (w : Refusal). lines.Refused w) b.is; unchanged = refl })), refl)
 
-each-declines : (up : ℕ → Bool) (t : TableState) (r : ℕ) (act : Act) (why : Option Refusal) → up r ≡ false → IsOwnRefusal t.schema act why → ExecutesAt up t r act (lines.Refused (or_down r why)) t
-each-declines up t r (acts.Insert insert) why down k = insert-declines up t r insert why down k
-each-declines up t r (acts.Select table query mode) why down k = declines up t r (acts.Select table query mode) why (k t refl) (rw down refl)
-each-declines up t r (acts.Explain table query) why down k = declines up t r (acts.Explain table query) why (k t refl) (rw down refl)
-each-declines up t r (acts.Mutate table command) why down k = declines up t r (acts.Mutate table command) why (k t refl) (rw down refl)
-each-declines up t r (acts.DropPartition table word) why down k = declines up t r (acts.DropPartition table word) why (k t refl) (rw down refl)
-each-declines up t r (acts.Optimize table word) why down k = declines up t r (acts.Optimize table word) why (k t refl) (rw down refl)
-each-declines up t r (acts.ShowParts table) why down k = declines up t r (acts.ShowParts table) why (k t refl) (rw down refl)
-each-declines up t r (acts.CheckTable table) why down k = declines up t r (acts.CheckTable table) why (k t refl) (rw down refl)
-each-declines up t r (acts.WaitMutation table id) why down k = declines up t r (acts.WaitMutation table id) why (k t refl) (rw down refl)
-each-declines up t r (acts.SyncReplica table) why down k = declines up t r (acts.SyncReplica table) why (k t refl) (rw down refl)
-each-declines up t r (acts.RestartReplica table) why down k = declines up t r (acts.RestartReplica table) why (k t refl) (rw down refl)
-each-declines up t r (acts.StopFetches table) why down k = declines up t r (acts.StopFetches table) why (k t refl) (rw down refl)
-each-declines up t r (acts.StartFetches table) why down k = declines up t r (acts.StartFetches table) why (k t refl) (rw down refl)
+each-declines : (up : ℕ → Bool) (s : Cluster) (t : TableState) (r : ℕ) (act : Act) (why : Option Refusal) → up r ≡ false → IsOwnRefusal t.schema act why → ExecutesAt up s t r act (lines.Refused (or_down r why)) s t
+each-declines up s t r (acts.Insert insert) why down k = insert-declines up s t r insert why down k
+each-declines up s t r (acts.Select table query mode) why down k = declines up s t r (acts.Select table query mode) why (k t refl) (rw down refl)
+each-declines up s t r (acts.Explain table query) why down k = declines up s t r (acts.Explain table query) why (k t refl) (rw down refl)
+each-declines up s t r (acts.Mutate table command) why down k = declines up s t r (acts.Mutate table command) why (k t refl) (rw down refl)
+each-declines up s t r (acts.DropPartition table word) why down k = declines up s t r (acts.DropPartition table word) why (k t refl) (rw down refl)
+each-declines up s t r (acts.Optimize table word) why down k = declines up s t r (acts.Optimize table word) why (k t refl) (rw down refl)
+each-declines up s t r (acts.ShowParts table) why down k = declines up s t r (acts.ShowParts table) why (k t refl) (rw down refl)
+each-declines up s t r (acts.CheckTable table) why down k = declines up s t r (acts.CheckTable table) why (k t refl) (rw down refl)
+each-declines up s t r (acts.WaitMutation table id) why down k = declines up s t r (acts.WaitMutation table id) why (k t refl) (rw down refl)
+each-declines up s t r (acts.SyncReplica table) why down k = declines up s t r (acts.SyncReplica table) why (k t refl) (rw down refl)
+each-declines up s t r (acts.RestartReplica table) why down k = declines up s t r (acts.RestartReplica table) why (k t refl) (rw down refl)
+each-declines up s t r (acts.StopFetches table) why down k = declines up s t r (acts.StopFetches table) why (k t refl) (rw down refl)
+each-declines up s t r (acts.StartFetches table) why down k = declines up s t r (acts.StartFetches table) why (k t refl) (rw down refl)
 
 -- in a cluster, whatever state it shows
 pub down-refused : (s : Cluster) (r : ℕ) (act : Act) (why : Option Refusal) (line : Line) → ups s r ≡ false → IsOwnRefusal s.table.schema act why → line ≡ lines.Refused (or_down r why) → ExecutesThere s r act line s
 down-refused s r act why line down k e t h =
     let own = subst (λ (c : Shape). IsOwnRefusal c act why) (sym h.schema) k in
-    record { state = t; holds = subst (λ (l : Line). ExecutesAt (ups s) t r act l t) (sym e) (each-declines (ups s) t r act why down own); shows = h }
+    record { state = t; holds = subst (λ (l : Line). ExecutesAt (ups s) s t r act l s t) (sym e) (each-declines (ups s) s t r act why down own); shows = h }
 
 -- the two ways
 pub own-refused : (s : Cluster) (r : ℕ) (act : Act) (refusal : Refusal) → ups s r ≡ false → IsOwnRefusal s.table.schema act (Some refusal) → ExecutesThere s r act (lines.Refused refusal) s

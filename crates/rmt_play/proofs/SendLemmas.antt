@@ -17,10 +17,11 @@ use Rattle.rmt_reply.specs.declared.refusal.Refusal.TheVariants.{UnknownTable, W
 use Rattle.rmt_play.specs.World.{Table, World}
 use Rattle.rmt_play.specs.ActRefusals.{act_refusal, act_refusals, down_refusal, id_refusal}
 use Rattle.rmt_play.specs.Checks.{first_of, table_of, table_named, replica_at, unknown_replica, refused_without, refused_name, refused_act, sent_refusals, refused_turns, run_refusals}
-use Rattle.rmt_play.specs.Acts.{Acts}
+use Rattle.rmt_cluster.specs.Runs.{RunsAll}
+use Rattle.rmt_play.specs.ActEvents.{ActEvents}
 use Rattle.rmt_play.specs.RunStatement.{RunsTurns}
 use Rattle.rmt_play.specs.Plays.{PerformsSent, RunsIn, Refuses, with_table}
-use Rattle.rmt_play.specs.PlayerSteps.{PlayerView, IsAtAll, IsIn, ComesTo, Moves, IsPlaceOf, HasNone, ChangesAt, ActsAt, Declines, refusal_there, ExecutesIn, ExecutesAt, ExecutesThere, ExecutesSent, RunsCluster, ExecutesRun}
+use Rattle.rmt_play.specs.PlayerSteps.{PlayerView, IsAtAll, IsIn, ComesTo, Moves, IsPlaceOf, HasNone, ChangesAt, ActsAt, DoesAct, Declines, refusal_there, ExecutesIn, ExecutesAt, ExecutesThere, ExecutesSent, RunsCluster, ExecutesRun}
 use Rattle.rmt_play.proofs.TableLemmas.{FoundIn, each-get, found-in, none-in, with-same}
 
 -- ---- acts at a replica
@@ -72,7 +73,7 @@ up-refusals up t r act h = own act (down act)
 pub there-up : (s u : Cluster) (r : ℕ) (act : Act) (line : Line) → ups s r ≡ true → ExecutesIn s r act line u → ExecutesThere s r act line u
 there-up s u r act line h f t k =
     let l = f t k in
-    record { state = l.state; holds = subst (λ (o : Option Refusal). MatchOption o (Acts (ups s) t r act line l.state) (Declines t line l.state)) (sym (up-refusals (ups s) t r act h)) l.holds; shows = l.shows }
+    record { state = l.state; holds = subst (λ (o : Option Refusal). MatchOption o (DoesAct (ups s) s t r act line u l.state) (Declines s t line u l.state)) (sym (up-refusals (ups s) t r act h)) l.holds; shows = l.shows }
 
 -- ---- in the world
 
@@ -115,21 +116,25 @@ sends old new sent place replica line all p at a w i =
     refused : first_of (sent_refusals w sent) ≡ first_of (act_refusals w.up f.table.state replica sent.act)
     refused = refusals-there w sent f.table replica f.found here
 
-    led : Leads a.after (ExecutesAt w.up f.table.state replica sent.act line)
-    led = subst (λ (up : ℕ → Bool). Leads a.after (ExecutesAt up f.table.state replica sent.act line)) ups-are (a.changes f.table.state f.shows)
+    s : Cluster
+    s = a.table.cluster
 
-    is_in : (v : TableState) → Shows a.after v → IsIn new (record w { tables = with_table w.tables (table_named sent.act) (record f.table { state = v }) })
-    is_in v h = subst (λ (q : PlayerView). IsIn q (record w { tables = with_table w.tables (table_named sent.act) (record f.table { state = v }) })) (sym a.rest)
+    led : Leads a.after (ExecutesAt w.up s f.table.state replica sent.act line a.after)
+    led = subst (λ (up : ℕ → Bool). Leads a.after (ExecutesAt up s f.table.state replica sent.act line a.after)) ups-are (a.changes f.table.state f.is.shows)
+
+    is_in : (v : TableState) → Shows a.after v → IsIn new (record w { tables = with_table w.tables (table_named sent.act) (record f.table { state = v; cluster = a.after }) })
+    is_in v h = subst (λ (q : PlayerView). IsIn q (record w { tables = with_table w.tables (table_named sent.act) (record f.table { state = v; cluster = a.after }) })) (sym a.rest)
         (record { replicas = i.replicas; up = i.up; tables = f.set a.after v h })
 
-    go : (o : Option Refusal) (v : TableState) → Shows a.after v → MatchOption o (Acts w.up f.table.state replica sent.act line v) (Declines f.table.state line v) → ComesTo new (λ u. MatchOption o (PerformsSent w sent line u) (λ refusal. Refuses w refusal line u))
+    go : (o : Option Refusal) (v : TableState) → Shows a.after v → MatchOption o (DoesAct w.up s f.table.state replica sent.act line a.after v) (Declines s f.table.state line a.after v) → ComesTo new (λ u. MatchOption o (PerformsSent w sent line u) (λ refusal. Refuses w refusal line u))
     go None v h k = record {
       world = record w { tables = with_table w.tables (table_named sent.act) (record f.table { state = v }) };
-      holds = record { replica = replica; at = here; acts = record { table = f.table; found = f.found; after = v; changes = k; rest = refl } };
+      holds = record { replica = replica; at = here; acts = record { table = f.table; found = f.found; after = v; changes = k.0; cluster = a.after; events = subst (λ (x : Cluster). ActEvents x replica sent.act line a.after) (sym f.is.cluster) k.1; rest = refl } };
       is_in = is_in v h;
     }
     go (Some refusal) v h k =
-        let stays = ap (λ (s : TableState). with_table w.tables (table_named sent.act) (record f.table { state = s })) k.1 ∙ with-same w.tables (table_named sent.act) f.table f.found in
+        let same : record f.table { state = v; cluster = a.after } ≡ f.table = ap (λ (x : TableState). record f.table { state = x; cluster = a.after }) k.1 ∙ ap (λ (x : Cluster). record f.table { cluster = x }) (k.2 ∙ sym f.is.cluster) in
+        let stays = ap (λ (x : Table). with_table w.tables (table_named sent.act) x) same ∙ with-same w.tables (table_named sent.act) f.table f.found in
         record {
           world = w;
           holds = record { reply = k.0; unchanged = refl };
@@ -160,13 +165,13 @@ runs-found w name turns seed t e =
     ap (λ (o : Option Table). first_of (refused_without o name ∷ refused_turns turns seed ∷ [])) e ∙ alone (refused_turns turns seed)
 
 -- background work that is done in its table
-pub runs : (old new : PlayerView) (name : List ℕ) (turns seed place : ℕ) (line : Line) → IsPlaceOf old.tables name place → refused_turns turns seed ≡ None → ChangesAt old place (RunsCluster turns line) new → Moves old (ExecutesRun name turns seed line) new
+pub runs : (old new : PlayerView) (name : List ℕ) (turns seed place : ℕ) (line : Line) → IsPlaceOf old.tables name place → refused_turns turns seed ≡ None → ChangesAt old place (RunsCluster turns seed line) new → Moves old (ExecutesRun name turns seed line) new
 runs old new name turns seed place line p q a w i =
-    subst (λ (o : Option Refusal). ComesTo new (λ v. MatchOption o (RunsIn w name turns line v) (λ refusal. Refuses w refusal line v))) (sym (runs-found w name turns seed f.table f.found ∙ q))
+    subst (λ (o : Option Refusal). ComesTo new (λ v. MatchOption o (RunsIn w name turns seed line v) (λ refusal. Refuses w refusal line v))) (sym (runs-found w name turns seed f.table f.found ∙ q))
     (record {
-      world = record w { tables = with_table w.tables name (record f.table { state = led.state }) };
-      holds = record { table = f.table; found = f.found; after = led.state; changes = led.holds; rest = refl };
-      is_in = subst (λ (x : PlayerView). IsIn x (record w { tables = with_table w.tables name (record f.table { state = led.state }) })) (sym a.rest)
+      world = record w { tables = with_table w.tables name (record f.table { state = led.state; cluster = a.after }) };
+      holds = record { table = f.table; found = f.found; after = led.state; changes = led.holds; cluster = a.after; events = subst (λ (x : Cluster). RunsAll x seed turns a.after) (sym f.is.cluster) a.changes.events; rest = refl };
+      is_in = subst (λ (x : PlayerView). IsIn x (record w { tables = with_table w.tables name (record f.table { state = led.state; cluster = a.after }) })) (sym a.rest)
           (record { replicas = i.replicas; up = i.up; tables = f.set a.after led.state led.shows });
     })
   where
@@ -174,12 +179,12 @@ runs old new name turns seed place line p q a w i =
     f = subst (FoundIn old.tables w.tables name place) (let e = sym p.there ∙ a.there in cc) (found-at old w name place i p)
 
     led : Leads a.after (RunsTurns f.table.state turns line)
-    led = a.changes f.table.state f.shows
+    led = a.changes.turns_made f.table.state f.is.shows
 
 -- a table that isn't there
 pub no-run-table : (p : PlayerView) (name : List ℕ) (turns seed : ℕ) → HasNone p.tables name → Moves p (ExecutesRun name turns seed (lines.Refused (UnknownTable name))) p
 no-run-table p name turns seed none w i =
-    subst (λ (o : Option Refusal). ComesTo p (λ v. MatchOption o (RunsIn w name turns (lines.Refused (UnknownTable name)) v) (λ refusal. Refuses w refusal (lines.Refused (UnknownTable name)) v)))
+    subst (λ (o : Option Refusal). ComesTo p (λ v. MatchOption o (RunsIn w name turns seed (lines.Refused (UnknownTable name)) v) (λ refusal. Refuses w refusal (lines.Refused (UnknownTable name)) v)))
     (sym (ap (λ (o : Option Table). first_of (refused_without o name ∷ refused_turns turns seed ∷ [])) (none-in p.tables w.tables name none i.tables)))
     (record { world = w; holds = record { reply = refl; unchanged = refl }; is_in = i })
 
@@ -187,7 +192,7 @@ no-run-table p name turns seed none w i =
 pub no-turns : (p : PlayerView) (name : List ℕ) (turns seed place : ℕ) (why : Refusal) (line : Line) → IsPlaceOf p.tables name place → refused_turns turns seed ≡ Some why → line ≡ lines.Refused why → Moves p (ExecutesRun name turns seed line) p
 no-turns p name turns seed place why line f q e w i =
     let t = found-at p w name place i f in
-    subst (λ (o : Option Refusal). ComesTo p (λ v. MatchOption o (RunsIn w name turns line v) (λ refusal. Refuses w refusal line v))) (sym (runs-found w name turns seed t.table t.found ∙ q))
+    subst (λ (o : Option Refusal). ComesTo p (λ v. MatchOption o (RunsIn w name turns seed line v) (λ refusal. Refuses w refusal line v))) (sym (runs-found w name turns seed t.table t.found ∙ q))
     (record { world = w; holds = record { reply = e; unchanged = refl }; is_in = i })
 
 -- the word of that refusal

@@ -12,7 +12,7 @@ use Rattle.rmt_play.specs.World.{Table}
 use Rattle.rmt_play.specs.Checks.{table_of}
 use Rattle.rmt_play.specs.Plays.{with_table}
 use Rattle.rmt_play.specs.Shown.{AreShown, HasReplicas}
-use Rattle.rmt_play.specs.PlayerSteps.{NamedCluster, is_up, IsAtAll, ShowTables, HasNone}
+use Rattle.rmt_play.specs.PlayerSteps.{NamedCluster, is_up, IsAtAll, IsTableOf, ShowTables, HasNone}
 
 -- ---- lists
 
@@ -37,19 +37,19 @@ pub length-shown : (cs : List NamedCluster) (ts : List Table) → ShowTables cs 
 length-shown [] [] s = refl
 length-shown [] (t ∷ ts) s = absurd s
 length-shown (c ∷ cs) [] s = absurd s
-length-shown (c ∷ cs) (t ∷ ts) s = ap suc (length-shown cs ts s.2)
+length-shown (c ∷ cs) (t ∷ ts) s = ap suc (length-shown cs ts s.1)
 
-pub append-shown : (cs : List NamedCluster) (ts : List Table) (c : NamedCluster) (t : Table) → ShowTables cs ts → t.name ≡ c.name → Shows c.cluster t.state → ShowTables (cs ++ c ∷ []) (ts ++ t ∷ [])
-append-shown [] [] c t s n h = (n, h, tt)
-append-shown [] (u ∷ ts) c t s n h = absurd s
-append-shown (d ∷ cs) [] c t s n h = absurd s
-append-shown (d ∷ cs) (u ∷ ts) c t s n h = (s.0, s.1, append-shown cs ts c t s.2 n h)
+pub append-shown : (cs : List NamedCluster) (ts : List Table) (c : NamedCluster) (t : Table) → ShowTables cs ts → IsTableOf c t → ShowTables (cs ++ c ∷ []) (ts ++ t ∷ [])
+append-shown [] [] c t s h = (h, tt)
+append-shown [] (u ∷ ts) c t s h = absurd s
+append-shown (d ∷ cs) [] c t s h = absurd s
+append-shown (d ∷ cs) (u ∷ ts) c t s h = (s.0, append-shown cs ts c t s.1 h)
 
 pub shown-clusters : (cs : List NamedCluster) (ts : List Table) → ShowTables cs ts → AreShown (map (λ c. c.cluster) cs) ts
 shown-clusters [] [] s = tt
 shown-clusters [] (t ∷ ts) s = absurd s
 shown-clusters (c ∷ cs) [] s = absurd s
-shown-clusters (c ∷ cs) (t ∷ ts) s = (s.1, shown-clusters cs ts s.2)
+shown-clusters (c ∷ cs) (t ∷ ts) s = (sym s.0.cluster, s.0.shows, shown-clusters cs ts s.1)
 
 -- the clusters of a player's tables have its replicas
 pub at-all-clusters : (count : ℕ) (up : List Bool) (ts : List NamedCluster) → Each (IsAtAll count up) ts → Each (HasReplicas count (is_up count up)) (map (λ t. t.cluster) ts)
@@ -62,8 +62,8 @@ at-all-clusters count up (t ∷ ts) e = (record { counted = e.0.0; are_up = e.0.
 pub record FoundIn (cs : List NamedCluster) (ts : List Table) (name : List ℕ) (place : ℕ) (c : NamedCluster) : Type 0 where
   pub table : Table
   pub found : table_of ts name ≡ Some table
-  pub shows : Shows c.cluster table.state
-  pub set : (d : Cluster) (v : TableState) → Shows d v → ShowTables (slice_set cs place (record c { cluster = d })) (with_table ts name (record table { state = v }))
+  pub is : IsTableOf c table
+  pub set : (d : Cluster) (v : TableState) → Shows d v → ShowTables (slice_set cs place (record c { cluster = d })) (with_table ts name (record table { state = v; cluster = d }))
 
 not-true : (b : Bool) → (b ≡ true → ⊥) → b ≡ false
 not-true true f = absurd (f refl)
@@ -75,25 +75,25 @@ found-in [] ts name place c e q f s = absurd (cc)
 found-in (b ∷ cs) [] name place c e q f s = absurd s
 found-in (b ∷ cs) (t ∷ ts) name zero c e q f s =
     let same : b ≡ c = cc in
-    let here : bytes_eq t.name name ≡ true = ap (λ (n : List ℕ). bytes_eq n name) (s.0 ∙ ap (λ (x : NamedCluster). x.name) same) ∙ q in
+    let here : bytes_eq t.name name ≡ true = ap (λ (n : List ℕ). bytes_eq n name) (s.0.name ∙ ap (λ (x : NamedCluster). x.name) same) ∙ q in
     record {
       table = t;
       found = ap (λ (x : Bool). cond x (Some t) (table_of ts name)) here;
-      shows = subst (λ (x : NamedCluster). Shows x.cluster t.state) same s.1;
+      is = subst (λ (x : NamedCluster). IsTableOf x t) same s.0;
       set = λ d v h. subst (λ (us : List Table). ShowTables (record c { cluster = d } ∷ cs) us)
-          (sym (ap (λ (x : Bool). cond x (record t { state = v } ∷ ts) (t ∷ with_table ts name (record t { state = v }))) here))
-          (s.0 ∙ ap (λ (x : NamedCluster). x.name) same, h, s.2);
+          (sym (ap (λ (x : Bool). cond x (record t { state = v; cluster = d } ∷ ts) (t ∷ with_table ts name (record t { state = v; cluster = d }))) here))
+          (record { name = s.0.name ∙ ap (λ (x : NamedCluster). x.name) same; cluster = refl; shows = h }, s.1);
     }
 found-in (b ∷ cs) (t ∷ ts) name (suc place) c e q f s =
-    let r = found-in cs ts name place c e q (λ j d l g. f (suc j) d (omega (arith, l)) g) s.2 in
-    let other : bytes_eq t.name name ≡ false = ap (λ (n : List ℕ). bytes_eq n name) s.0 ∙ not-true (bytes_eq b.name name) (f 0 b (omega arith) refl) in
+    let r = found-in cs ts name place c e q (λ j d l g. f (suc j) d (omega (arith, l)) g) s.1 in
+    let other : bytes_eq t.name name ≡ false = ap (λ (n : List ℕ). bytes_eq n name) s.0.name ∙ not-true (bytes_eq b.name name) (f 0 b (omega arith) refl) in
     record {
       table = r.table;
       found = ap (λ (x : Bool). cond x (Some t) (table_of ts name)) other ∙ r.found;
-      shows = r.shows;
+      is = r.is;
       set = λ d v h. subst (λ (us : List Table). ShowTables (b ∷ slice_set cs place (record c { cluster = d })) us)
-          (sym (ap (λ (x : Bool). cond x (record r.table { state = v } ∷ ts) (t ∷ with_table ts name (record r.table { state = v }))) other))
-          (s.0, s.1, r.set d v h);
+          (sym (ap (λ (x : Bool). cond x (record r.table { state = v; cluster = d } ∷ ts) (t ∷ with_table ts name (record r.table { state = v; cluster = d }))) other))
+          (s.0, r.set d v h);
     }
 
 pub none-in : (cs : List NamedCluster) (ts : List Table) (name : List ℕ) → HasNone cs name → ShowTables cs ts → table_of ts name ≡ None
@@ -101,8 +101,8 @@ none-in [] [] name f s = refl
 none-in [] (t ∷ ts) name f s = absurd s
 none-in (c ∷ cs) [] name f s = absurd s
 none-in (c ∷ cs) (t ∷ ts) name f s =
-    let other : bytes_eq t.name name ≡ false = ap (λ (n : List ℕ). bytes_eq n name) s.0 ∙ not-true (bytes_eq c.name name) (f 0 c refl) in
-    ap (λ (x : Bool). cond x (Some t) (table_of ts name)) other ∙ none-in cs ts name (λ j d e. f (suc j) d e) s.2
+    let other : bytes_eq t.name name ≡ false = ap (λ (n : List ℕ). bytes_eq n name) s.0.name ∙ not-true (bytes_eq c.name name) (f 0 c refl) in
+    ap (λ (x : Bool). cond x (Some t) (table_of ts name)) other ∙ none-in cs ts name (λ j d e. f (suc j) d e) s.1
 
 -- a table that is put in its own place
 pub with-same : (ts : List Table) (name : List ℕ) (t : Table) → table_of ts name ≡ Some t → with_table ts name t ≡ ts

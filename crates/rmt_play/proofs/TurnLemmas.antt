@@ -14,7 +14,10 @@ use Rattle.rmt_reply.specs.declared.refusal.Refusal.TheVariants.{UnknownReplica,
 use Rattle.rmt_play.specs.World.{Table, World, with_up}
 use Rattle.rmt_play.specs.ActRefusals.{refused_down, refused_up}
 use Rattle.rmt_play.specs.Checks.{first_of, replica_of, refused_name, kill_refusals, restart_refusals}
-use Rattle.rmt_play.specs.Plays.{Turns, Refuses}
+use Rattle.rmt_events.specs.Clusters.{Cluster}
+use Rattle.rmt_events.specs.declared.event.Event.{Event}
+use Rattle.rmt_acts.specs.StatementEvents.{Makes}
+use Rattle.rmt_play.specs.Plays.{session_event, InEach, Turns, Refuses}
 use Rattle.rmt_play.specs.PlayerSteps.{NamedCluster, PlayerView, is_up, IsAtAll, IsIn, ComesTo, Moves, ShowTables, TurnsTable, TurnsEach, TurnsAll, ExecutesKill, ExecutesRestart}
 use Rattle.rmt_play.proofs.TableLemmas.{each-get, get-below}
 
@@ -44,15 +47,27 @@ up-set count up i b l m (suc j) =
 
 -- ---- tables
 
+-- tables that the clusters show, made of these by one event each
+record AreTurned (event : Event) (ds : List NamedCluster) (ts : List Table) : Type 0 where
+  news : List Table
+  events : InEach event ts news
+  shown : ShowTables ds news
+
 -- each table shows what it showed
-shown-turned : (r : ℕ) (b : Bool) (cs ds : List NamedCluster) (ts : List Table) → length ds ≡ length cs → ((j : ℕ) (s u : NamedCluster) → slice_get cs j ≡ Some s → slice_get ds j ≡ Some u → TurnsTable r b s u) → ShowTables cs ts → ShowTables ds ts
-shown-turned r b [] [] ts n f h = h
+shown-turned : (r : ℕ) (b : Bool) (cs ds : List NamedCluster) (ts : List Table) → length ds ≡ length cs → ((j : ℕ) (s u : NamedCluster) → slice_get cs j ≡ Some s → slice_get ds j ≡ Some u → TurnsTable r b s u) → ShowTables cs ts → AreTurned (session_event r b) ds ts
+shown-turned r b [] [] [] n f h = record { news = []; events = tt; shown = tt }
+shown-turned r b [] [] (t ∷ ts) n f h = absurd h
 shown-turned r b [] (d ∷ ds) ts n f h = absurd (omega (arith, n))
 shown-turned r b (c ∷ cs) [] ts n f h = absurd (omega (arith, n))
 shown-turned r b (c ∷ cs) (d ∷ ds) [] n f h = absurd h
 shown-turned r b (c ∷ cs) (d ∷ ds) (t ∷ ts) n f h =
     let x = f 0 c d refl refl in
-    (h.0 ∙ sym x.name, x.turns.shows t.state h.1, shown-turned r b cs ds ts (omega (arith, n)) (λ j s u p q. f (suc j) s u p q) h.2)
+    let rest = shown-turned r b cs ds ts (omega (arith, n)) (λ j s u p q. f (suc j) s u p q) h.1 in
+    record {
+      news = record t { cluster = d.cluster } ∷ rest.news;
+      events = (refl, subst (λ (s : Cluster). Makes s (session_event r b ∷ []) d.cluster) (sym h.0.cluster) x.turns.events, rest.events);
+      shown = (record { name = h.0.name ∙ sym x.name; cluster = refl; shows = x.turns.shows t.state h.0.shows }, rest.shown);
+    }
 
 -- each table is at all replicas, of which the others are up
 pub all-turned : (count i : ℕ) (up : List Bool) (b : Bool) (cs ds : List NamedCluster) → i < count → i < length up → length ds ≡ length cs → ((j : ℕ) (s u : NamedCluster) → slice_get cs j ≡ Some s → slice_get ds j ≡ Some u → TurnsTable (suc i) b s u) → Each (IsAtAll count up) cs → Each (IsAtAll count (slice_set up i b)) ds
@@ -154,16 +169,20 @@ turning-ends r b olds news i l f = record { all = f.all; each = λ j s u p q. f.
 
 -- ---- the world
 
+-- the tables of the world, once the replica is up, or down
+tables-turned : (p q : PlayerView) (w : World) (r : ℕ) (b : Bool) → TurnsAll p r b q → IsIn p w → AreTurned (session_event r b) q.tables w.tables
+tables-turned p q w r b f i = shown-turned r b p.tables q.tables w.tables f.each.all f.each.each i.tables
+
 -- the player is in the world in which the replica is up, or down
-turned : (p q : PlayerView) (w : World) (r : ℕ) (b : Bool) → 1 ≤ r → r ≤ p.replicas → p.replicas ≤ 8 → length p.up ≡ 8 → TurnsAll p r b q → IsIn p w → IsIn q (record w { up = with_up w.up r b })
-turned p q w r b some few eight n f i = go r some few f.rest f.each
+turned : (p q : PlayerView) (w : World) (r : ℕ) (b : Bool) → 1 ≤ r → r ≤ p.replicas → p.replicas ≤ 8 → length p.up ≡ 8 → (f : TurnsAll p r b q) → (i : IsIn p w) → IsIn q (record w { up = with_up w.up r b; tables = (tables-turned p q w r b f i).news })
+turned p q w r b some few eight n f i = go r some few f.rest (tables-turned p q w r b f i).news (tables-turned p q w r b f i).shown
   where
-    go : (r : ℕ) → 1 ≤ r → r ≤ p.replicas → q ≡ record p { up = slice_set p.up (r - 1) b; tables = q.tables } → TurnsEach r b p.tables q.tables → IsIn q (record w { up = with_up w.up r b })
-    go zero some few rest each = absurd (omega (arith, some))
-    go (suc m) some few rest each = subst (λ (x : PlayerView). IsIn x (record w { up = with_up w.up (suc m) b })) (sym rest) (record {
+    go : (r : ℕ) → 1 ≤ r → r ≤ p.replicas → q ≡ record p { up = slice_set p.up (r - 1) b; tables = q.tables } → (news : List Table) → ShowTables q.tables news → IsIn q (record w { up = with_up w.up r b; tables = news })
+    go zero some few rest news shown = absurd (omega (arith, some))
+    go (suc m) some few rest news shown = subst (λ (x : PlayerView). IsIn x (record w { up = with_up w.up (suc m) b; tables = news })) (sym rest) (record {
       replicas = i.replicas;
       up = ap (λ (g : ℕ → Bool). with_up g (suc m) b) i.up ∙ subst (λ k. with_up (is_up p.replicas p.up) (suc m) b ≡ is_up p.replicas (slice_set p.up k b)) (let e : m ≡ suc m - 1 = omega arith in e) (sym (fun_ext (up-set p.replicas p.up m b (omega (arith, few)) (omega (arith, few, eight, n)))));
-      tables = shown-turned (suc m) b p.tables q.tables w.tables each.all each.each i.tables;
+      tables = shown;
     })
 
 alone : (o : Option Refusal) → first_of (o ∷ []) ≡ o
@@ -188,7 +207,7 @@ restart-found p w name r i e =
 pub kills : (p q : PlayerView) (name : List ℕ) (r : ℕ) → replica_of p.replicas name ≡ Some r → 1 ≤ r → r ≤ p.replicas → p.replicas ≤ 8 → length p.up ≡ 8 → is_up p.replicas p.up r ≡ true → TurnsAll p r false q → Moves p (ExecutesKill name lines.Okay) q
 kills p q name r e some few eight n up f w i =
     subst (λ (o : Option Refusal). ComesTo q (λ v. MatchOption o (Turns w name false lines.Okay v) (λ refusal. Refuses w refusal lines.Okay v))) (sym (kill-found p w name r i e ∙ ap (λ (b : Bool). cond b None (Some (ReplicaDown r))) up))
-    (record { world = record w { up = with_up w.up r false }; holds = record { replica = r; at = there p w name r i e; reply = refl; change = refl }; is_in = turned p q w r false some few eight n f i })
+    (record { world = record w { up = with_up w.up r false; tables = (tables-turned p q w r false f i).news }; holds = record { replica = r; at = there p w name r i e; reply = refl; tables = (tables-turned p q w r false f i).news; events = (tables-turned p q w r false f i).events; change = refl }; is_in = turned p q w r false some few eight n f i })
 
 pub kill-down : (p : PlayerView) (name : List ℕ) (r : ℕ) → replica_of p.replicas name ≡ Some r → is_up p.replicas p.up r ≡ false → Moves p (ExecutesKill name (lines.Refused (ReplicaDown r))) p
 kill-down p name r e down w i =
@@ -205,7 +224,7 @@ kill-unknown p name e w i =
 pub restarts : (p q : PlayerView) (name : List ℕ) (r : ℕ) → replica_of p.replicas name ≡ Some r → 1 ≤ r → r ≤ p.replicas → p.replicas ≤ 8 → length p.up ≡ 8 → is_up p.replicas p.up r ≡ false → TurnsAll p r true q → Moves p (ExecutesRestart name lines.Okay) q
 restarts p q name r e some few eight n down f w i =
     subst (λ (o : Option Refusal). ComesTo q (λ v. MatchOption o (Turns w name true lines.Okay v) (λ refusal. Refuses w refusal lines.Okay v))) (sym (restart-found p w name r i e ∙ ap (λ (b : Bool). cond b (Some (ReplicaUp r)) None) down))
-    (record { world = record w { up = with_up w.up r true }; holds = record { replica = r; at = there p w name r i e; reply = refl; change = refl }; is_in = turned p q w r true some few eight n f i })
+    (record { world = record w { up = with_up w.up r true; tables = (tables-turned p q w r true f i).news }; holds = record { replica = r; at = there p w name r i e; reply = refl; tables = (tables-turned p q w r true f i).news; events = (tables-turned p q w r true f i).events; change = refl }; is_in = turned p q w r true some few eight n f i })
 
 pub restart-up : (p : PlayerView) (name : List ℕ) (r : ℕ) → replica_of p.replicas name ≡ Some r → is_up p.replicas p.up r ≡ true → Moves p (ExecutesRestart name (lines.Refused (ReplicaUp r))) p
 restart-up p name r e up w i =

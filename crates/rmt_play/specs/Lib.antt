@@ -7,6 +7,7 @@ pub use Rattle.rmt_query.specs.Answers
 pub use Rattle.rmt_query.specs.Explained
 pub use Rattle.rmt_statement_model.specs.Shows
 pub use Rattle.rmt_reply.specs.Printed
+pub use Rattle.rmt_acts.specs.StatementEvents
 pub mod World
 pub mod ActRefusals
 pub mod Checks
@@ -23,6 +24,7 @@ pub mod WaitStatement
 pub mod SystemStatements
 pub mod RunStatement
 pub mod Acts
+pub mod ActEvents
 pub mod Plays
 pub mod Shown
 pub mod Runs

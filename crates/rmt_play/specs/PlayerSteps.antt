@@ -29,9 +29,13 @@ use Rattle.rmt_reply.specs.declared.refusal.Refusal.TheVariants.{BadRow}
 use Rattle.rmt_play.specs.World.{Table, World}
 use Rattle.rmt_play.specs.Checks.{first_of, create_refusals, sent_refusals, kill_refusals, restart_refusals, run_refusals, refusals}
 use Rattle.rmt_play.specs.ActRefusals.{refused_names, refused_query, act_refusal, act_refusals, id_refusal}
+use Rattle.rmt_cluster.specs.NewClusters.{IsNewCluster}
+use Rattle.rmt_cluster.specs.Runs.{RunsAll}
+use Rattle.rmt_acts.specs.StatementEvents.{Makes}
 use Rattle.rmt_play.specs.Acts.{Acts}
+use Rattle.rmt_play.specs.ActEvents.{ActEvents}
 use Rattle.rmt_play.specs.RunStatement.{RunsTurns}
-use Rattle.rmt_play.specs.Plays.{Creates, PerformsSent, Turns, RunsIn, Performs, Refuses, ExecutesStatement, Step}
+use Rattle.rmt_play.specs.Plays.{Creates, PerformsSent, session_event, Turns, RunsIn, Performs, Refuses, ExecutesStatement, Step}
 
 -- ---- what a player has
 
@@ -69,15 +73,23 @@ IsEmptyPlayer p = p ≡ record { replicas = 2; up = replicate 8 true; tables = [
 
 -- a cluster without rows, at so many replicas, of which these are up
 pub record IsNewTable (schema : Shape) (count : ℕ) (up : List Bool) (c : Cluster) : Type 0 where
+  pub ups_given : List Bool
+  pub is_new : IsNewCluster schema ups_given c
   pub shows : Shows c (empty_table schema)
   pub all : length c.replicas ≡ count
   pub ups_are : ups c ≡ is_up count up
   pub free : HoldsNone c
 
--- each table has its name, and its cluster shows it
+-- a table has its name and its cluster, which shows it
+pub record IsTableOf (c : NamedCluster) (t : Table) : Type 0 where
+  pub name : t.name ≡ c.name
+  pub cluster : t.cluster ≡ c.cluster
+  pub shows : Shows c.cluster t.state
+
+-- each of the tables has
 abbrev pub ShowTables : List NamedCluster → List Table → Type 0
 ShowTables [] [] = Unit {0}
-ShowTables (c ∷ clusters) (t ∷ tables) = (t.name ≡ c.name) × Shows c.cluster t.state × ShowTables clusters tables
+ShowTables (c ∷ clusters) (t ∷ tables) = IsTableOf c t × ShowTables clusters tables
 ShowTables clusters tables = ⊥
 
 -- the player is in this world
@@ -154,8 +166,12 @@ RefusesRows schema insert refusal =
 -- ---- what is sent to a replica
 
 -- nothing changes, and this is the reply
-abbrev pub Declines : TableState → Line → TableState → Refusal → Type 0
-Declines t line u refusal = (line ≡ lines.Refused refusal) × (u ≡ t)
+abbrev pub Declines : Cluster → TableState → Line → Cluster → TableState → Refusal → Type 0
+Declines s t line u v refusal = (line ≡ lines.Refused refusal) × (v ≡ t) × (u ≡ s)
+
+-- an act does what it says in its table, by its events
+abbrev pub DoesAct : (ℕ → Bool) → Cluster → TableState → ℕ → Act → Line → Cluster → TableState → Type 0
+DoesAct up s t r act line u v = Acts up t r act line v × ActEvents s r act line u
 
 -- why an act is refused at a replica that is up
 abbrev pub refusal_there : TableState → Act → Option Refusal
@@ -163,30 +179,30 @@ refusal_there t (acts.WaitMutation table id) = id_refusal t (acts.WaitMutation t
 refusal_there t act = act_refusal t act
 
 -- an act does what it says in its table at a replica that is up, or is refused
-abbrev pub ExecutesAct : (ℕ → Bool) → TableState → ℕ → Act → Line → TableState → Type 0
-ExecutesAct up t r act line u = MatchOption (refusal_there t act) (Acts up t r act line u) (Declines t line u)
+abbrev pub ExecutesAct : (ℕ → Bool) → Cluster → TableState → ℕ → Act → Line → Cluster → TableState → Type 0
+ExecutesAct up s t r act line u v = MatchOption (refusal_there t act) (DoesAct up s t r act line u v) (Declines s t line u v)
 
 -- the same in a cluster, whatever state it shows
 abbrev pub ExecutesIn : Cluster → ℕ → Act → Line → Cluster → Type 0
-ExecutesIn s r act line u = (t : TableState) → Shows s t → Leads u (ExecutesAct (ups s) t r act line)
+ExecutesIn s r act line u = (t : TableState) → Shows s t → Leads u (ExecutesAct (ups s) s t r act line u)
 
 -- an act does what it says in its table at a replica, up or down, or is refused
-abbrev pub ExecutesAt : (ℕ → Bool) → TableState → ℕ → Act → Line → TableState → Type 0
-ExecutesAt up t r act line u = MatchOption (first_of (act_refusals up t r act)) (Acts up t r act line u) (Declines t line u)
+abbrev pub ExecutesAt : (ℕ → Bool) → Cluster → TableState → ℕ → Act → Line → Cluster → TableState → Type 0
+ExecutesAt up s t r act line u v = MatchOption (first_of (act_refusals up t r act)) (DoesAct up s t r act line u v) (Declines s t line u v)
 
 -- the same in a cluster, whatever state it shows
 abbrev pub ExecutesThere : Cluster → ℕ → Act → Line → Cluster → Type 0
-ExecutesThere s r act line u = (t : TableState) → Shows s t → Leads u (ExecutesAt (ups s) t r act line)
+ExecutesThere s r act line u = (t : TableState) → Shows s t → Leads u (ExecutesAt (ups s) s t r act line u)
 
 -- the cause for which an act is refused in a table of this schema, if it is sent to a replica that is down
 abbrev pub IsOwnRefusal : Shape → Act → Option Refusal → Type 0
 IsOwnRefusal schema (acts.Insert insert) why = MatchOption why ((rows : List Row) × HasRows schema insert rows) (RefusesRows schema insert)
 IsOwnRefusal schema act why = (t : TableState) → t.schema ≡ schema → act_refusal t act ≡ why
 
--- a query is answered in a cluster, or refused
-abbrev pub ExecutesQuery : Cluster → Query → (TableState → Line → TableState → Type 0) → Line → Cluster → Type 0
-ExecutesQuery s query Answers line u =
-    (t : TableState) → Shows s t → Leads u (λ v. MatchOption (refused_query (query_refusal t.schema query)) (Answers t line v) (Declines t line v))
+-- a query is answered in a cluster, by these events, or refused
+abbrev pub ExecutesQuery : Cluster → Query → (TableState → Line → TableState → Type 0) → (Line → Cluster → Type 0) → Line → Cluster → Type 0
+ExecutesQuery s query Answers Events line u =
+    (t : TableState) → Shows s t → Leads u (λ v. MatchOption (refused_query (query_refusal t.schema query)) (Answers t line v × Events line u) (Declines s t line u v))
 
 -- what is sent to a replica is done in its table, or refused
 abbrev pub ExecutesSent : Sent → Line → World → World → Type 0
@@ -213,6 +229,7 @@ pub record TurnsCluster (replica : ℕ) (is_up : Bool) (s u : Cluster) : Type 0 
   pub ups_are : (k : ℕ) → ups u k ≡ cond (nat_eq replica k) is_up (ups s k)
   pub free : HoldsNone s → HoldsNone u
   pub all : length u.replicas ≡ length s.replicas
+  pub events : Makes s (session_event replica is_up ∷ []) u
 
 -- the same of a table
 pub record TurnsTable (replica : ℕ) (is_up : Bool) (s u : NamedCluster) : Type 0 where
@@ -239,14 +256,15 @@ ExecutesRestart name line old new = MatchOption (first_of (restart_refusals old 
 
 -- ---- RUN
 
--- so many turns of background work are done in a cluster, whatever state it shows
-abbrev pub RunsCluster : ℕ → Line → Cluster → Cluster → Type 0
-RunsCluster turns line s u = (t : TableState) → Shows s t → Leads u (RunsTurns t turns line)
+-- so many turns of background work are done in a cluster, whatever state it shows, by events that are drawn from the seed
+pub record RunsCluster (turns seed : ℕ) (line : Line) (s u : Cluster) : Type 0 where
+  pub turns_made : (t : TableState) → Shows s t → Leads u (RunsTurns t turns line)
+  pub events : RunsAll s seed turns u
 
 -- background work is done in its table, or refused
 abbrev pub ExecutesRun : List ℕ → ℕ → ℕ → Line → World → World → Type 0
 ExecutesRun table turns seed line old new =
-    MatchOption (first_of (run_refusals old table turns seed)) (RunsIn old table turns line new) (λ refusal. Refuses old refusal line new)
+    MatchOption (first_of (run_refusals old table turns seed)) (RunsIn old table turns seed line new) (λ refusal. Refuses old refusal line new)
 
 -- ---- a statement
 

@@ -1,9 +1,16 @@
--- What statements reply and change, one after the other.
-use Rattle.std.specs.Prelude.{◌≡◌, ℕ, cond, List, [], ◌∷◌, ◌++◌, Bool, true, false, MatchOption}
+-- What statements reply and change, and the events that they make, one after the other.
+use Rattle.std.specs.Prelude.{◌≡◌, ℕ, cond, List, [], ◌∷◌, ◌++◌, length, Bool, true, false, MatchOption}
 use Rattle.std.specs.Str.{bytes_eq}
 use Rattle.std.specs.declared.option.Option.TheVariants.{Some}
 use Rattle.rmt_values.specs.Rows.{Shape}
+use Rattle.rmt_events.specs.Clusters.{Cluster}
+use Rattle.rmt_events.specs.declared.event.Event.{Event}
+use Rattle.rmt_events.specs.declared.event.Event.TheVariants as ev
+use Rattle.rmt_cluster.specs.NewClusters.{IsNewCluster}
+use Rattle.rmt_cluster.specs.Runs.{RunsAll}
 use Rattle.rmt_statement_model.specs.TableStates.{TableState}
+use Rattle.rmt_statement_model.specs.Shows.{ups}
+use Rattle.rmt_acts.specs.StatementEvents.{Makes}
 use Rattle.rmt_sql.specs.declared.parsed.Parsed.{Parsed}
 use Rattle.rmt_sql.specs.declared.parsed.Parsed.TheVariants as parsed
 use Rattle.rmt_statements.specs.declared.sent.Sent.{Sent}
@@ -17,6 +24,7 @@ use Rattle.rmt_reply.specs.declared.refusal.Refusal.TheVariants.{Syntax}
 use Rattle.rmt_play.specs.World.{Table, World, all_up, with_up, start, new_table}
 use Rattle.rmt_play.specs.Checks.{schema_made, table_of, replica_of, replica_at, table_named, refusal_of}
 use Rattle.rmt_play.specs.Acts.{Acts}
+use Rattle.rmt_play.specs.ActEvents.{ActEvents}
 use Rattle.rmt_play.specs.RunStatement.{RunsTurns}
 
 -- a refusal changes nothing
@@ -31,40 +39,61 @@ pub record Counts (old : World) (count : ℕ) (line : Line) (new : World) : Type
   pub reply : line ≡ lines.Okay
   pub change : new ≡ record old { replicas = count; up = all_up count }
 
--- CREATE makes an empty table
+-- CREATE makes an empty table, whose cluster has all replicas, and to which nothing has come yet
 pub record Creates (old : World) (name : List ℕ) (schema : Shape) (line : Line) (new : World) : Type 0 where
+  pub cluster : Cluster
+  pub ups_are : List Bool
+  pub is_new : IsNewCluster schema ups_are cluster
+  pub counted : length cluster.replicas ≡ old.replicas
+  pub are_up : ups cluster ≡ old.up
   pub reply : line ≡ lines.Okay
-  pub change : new ≡ record old { tables = old.tables ++ new_table name schema ∷ [] }
+  pub change : new ≡ record old { tables = old.tables ++ new_table name schema cluster ∷ [] }
 
 -- the tables, with one in place of the one of that name
 abbrev pub with_table : List Table → List ℕ → Table → List Table
 with_table [] name t = []
 with_table (u ∷ others) name t = cond (bytes_eq u.name name) (t ∷ others) (u ∷ with_table others name t)
 
--- the table of this name changes so, and nothing else does
-pub record InTable (old : World) (name : List ℕ) (Change : TableState → TableState → Type 0) (new : World) : Type 0 where
+-- the table of this name changes so, by these events of its cluster, and nothing else does
+pub record InTable (old : World) (name : List ℕ) (Change : TableState → TableState → Type 0) (Events : Cluster → Cluster → Type 0) (new : World) : Type 0 where
   pub table : Table
   pub found : table_of old.tables name ≡ Some table
   pub after : TableState
   pub changes : Change table.state after
-  pub rest : new ≡ record old { tables = with_table old.tables name (record table { state = after }) }
+  pub cluster : Cluster
+  pub events : Events table.cluster cluster
+  pub rest : new ≡ record old { tables = with_table old.tables name (record table { state = after; cluster = cluster }) }
 
 -- what is sent to a replica is done in its table
 pub record PerformsSent (old : World) (sent : Sent) (line : Line) (new : World) : Type 0 where
   pub replica : ℕ
   pub at : replica_at old.replicas sent.replica ≡ Some replica
-  pub acts : InTable old (table_named sent.act) (λ t u. Acts old.up t replica sent.act line u) new
+  pub acts : InTable old (table_named sent.act) (λ t u. Acts old.up t replica sent.act line u) (λ s u. ActEvents s replica sent.act line u) new
+
+-- the event with which a replica goes down, or comes up
+abbrev pub session_event : ℕ → Bool → Event
+session_event r false = ev.Kill r
+session_event r true = ev.Restart r
+
+-- one event in the cluster of each table; their states stay
+abbrev pub InEach : Event → List Table → List Table → Type 0
+InEach event [] [] = Unit {0}
+InEach event (t ∷ olds) (u ∷ news) =
+    (u ≡ record t { cluster = u.cluster }) × Makes t.cluster (event ∷ []) u.cluster × InEach event olds news
+InEach event olds news = ⊥
 
 -- KILL and RESTART: the replica of this name is down, or up, then. What it has of each table stays
 pub record Turns (old : World) (name : List ℕ) (is_up : Bool) (line : Line) (new : World) : Type 0 where
   pub replica : ℕ
   pub at : replica_of old.replicas name ≡ Some replica
   pub reply : line ≡ lines.Okay
-  pub change : new ≡ record old { up = with_up old.up replica is_up }
+  pub tables : List Table
+  pub events : InEach (session_event replica is_up) old.tables tables
+  pub change : new ≡ record old { up = with_up old.up replica is_up; tables = tables }
 
--- RUN: background work is done in its table
-abbrev pub RunsIn : World → List ℕ → ℕ → Line → World → Type 0
-RunsIn old table turns line new = InTable old table (λ t u. RunsTurns t turns line u) new
+-- RUN: background work is done in its table, by events that are drawn from the seed
+abbrev pub RunsIn : World → List ℕ → ℕ → ℕ → Line → World → Type 0
+RunsIn old table turns seed line new = InTable old table (λ t u. RunsTurns t turns line u) (λ s u. RunsAll s seed turns u) new
 
 -- what a statement does that meets no refusal; the others aren't played
 abbrev pub Performs : World → Statement → Line → World → Type 0
@@ -73,7 +102,7 @@ Performs old (statements.Create table columns partition key granularity window) 
     Creates old table (schema_made columns partition key granularity window) line new
 Performs old (statements.Kill name) line new = Turns old name false line new
 Performs old (statements.Restart name) line new = Turns old name true line new
-Performs old (statements.Run table turns seed) line new = RunsIn old table turns line new
+Performs old (statements.Run table turns seed) line new = RunsIn old table turns seed line new
 Performs old (statements.At sent) line new = PerformsSent old sent line new
 Performs old statement line new = ⊥
 

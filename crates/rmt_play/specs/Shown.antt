@@ -13,11 +13,11 @@ use Rattle.rmt_play.specs.World.{Table}
 use Rattle.rmt_play.specs.declared.end.End.{End}
 use Rattle.rmt_play.specs.declared.end.End.TheVariants as ends
 
--- a cluster for each table, in their order: it has the table's log, blocks and next numbers; and what is known at a replica
--- is covered by an active part there, or dropped in the log
+-- the cluster of each table, in their order, as the statements' events made it: it has the table's log, blocks and next numbers;
+-- and what is known at a replica is covered by an active part there, or dropped in the log
 abbrev pub AreShown : List Cluster → List Table → Type 0
 AreShown [] [] = Unit {0}
-AreShown (c ∷ clusters) (t ∷ tables) = Shows c t.state × AreShown clusters tables
+AreShown (c ∷ clusters) (t ∷ tables) = (c ≡ t.cluster) × Shows c t.state × AreShown clusters tables
 AreShown clusters tables = ⊥
 
 -- the cluster has so many replicas, of which these are up, and no insert holds a block number

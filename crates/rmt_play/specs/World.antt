@@ -1,12 +1,15 @@
 -- The world that a script's statements change: its replicas and tables.
 use Rattle.std.specs.Prelude.{ℕ, ◌&&◌, cond, nat_eq, nat_le, Bool, List, []}
 use Rattle.rmt_values.specs.Rows.{Shape}
+use Rattle.rmt_events.specs.Clusters.{Cluster}
 use Rattle.rmt_statement_model.specs.TableStates.{TableState, empty_table}
 
--- a table: its name; its schema, log, blocks and next numbers, and what is known at each replica
+-- a table: its name; its schema, log, blocks and next numbers, and what is known at each replica; and its cluster, as the events
+-- of its statements made it
 pub record Table : Type 0 where
   pub name : List ℕ
   pub state : TableState
+  pub cluster : Cluster
 
 -- how many replicas there are, which of them are up, and the tables in the order in which they were created
 pub record World : Type 0 where
@@ -27,5 +30,5 @@ abbrev pub start : World
 start = record { replicas = 2; up = all_up 2; tables = [] }
 
 -- a table without rows
-abbrev pub new_table : List ℕ → Shape → Table
-new_table name schema = record { name = name; state = empty_table schema }
+abbrev pub new_table : List ℕ → Shape → Cluster → Table
+new_table name schema cluster = record { name = name; state = empty_table schema; cluster = cluster }

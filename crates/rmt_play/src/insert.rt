@@ -8,6 +8,7 @@ ghost use Rattle.rmt_statement_model.specs.TableStates.{TableState};
 ghost use Rattle.rmt_statement_model.specs.Shows.{HoldsNone, IsIdle, Leads, Shows, KeepsUps};
 ghost use Rattle.rmt_columns.specs.RowsByColumn.{kinds_in};
 ghost use Rattle.rmt_statements.specs.declared.act.Act.TheVariants as acts;
+ghost use Rattle.rmt_play.specs.ActEvents.{InsertsBy};
 ghost use Rattle.rmt_play.specs.InsertStatement.{InsertsRows};
 ghost use Rattle.rmt_play.specs.PlayerSteps.{HasRows, RefusesRows, ExecutesIn};
 
@@ -66,6 +67,7 @@ fn insert_rows(
     requires kinds { rows.kinds ≡ kinds_in cluster.old.table.schema.columns }
     ensures inserts { IfOk result (λ line. (t : TableState) → Shows cluster.old t
         → Leads cluster.new (InsertsRows t replica rows.rows line)) }
+    ensures events { IfOk result (λ line. InsertsBy cluster.old replica line cluster.new) }
     ensures free { IfOk result (λ _. HoldsNone cluster.new) }
     ensures keeps { KeepsUps cluster.old result cluster.new }
 {

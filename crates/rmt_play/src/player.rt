@@ -327,7 +327,7 @@ impl Player {
     ) -> Result<Line, AllocError>
         requires place { place < length self.old.tables }
         requires seed { seed < 2 ^ 31 }
-        ensures { IfOk result (λ line. ChangesAt self.old place (RunsCluster turns line) self.new) }
+        ensures { IfOk result (λ line. ChangesAt self.old place (RunsCluster turns seed line) self.new) }
     {
         match run_in(alloc, &mut self.tables[place].cluster, turns, seed) {
             Ok(line) => Ok(line),

@@ -2,6 +2,8 @@
 ghost use Rattle.std.specs.Prelude.{◌≡◌, true, length, IfOk};
 ghost use Rattle.rmt_state.specs.States.{IsNumber};
 ghost use Rattle.rmt_statement_model.specs.Shows.{HoldsNone, IsIdle, ups, KeepsUps};
+ghost use Rattle.rmt_acts.specs.StatementEvents.{SyncEvents};
+ghost use Rattle.rmt_play.specs.ActEvents.{refusal_told};
 ghost use Rattle.rmt_play.specs.SelectStatement.{Syncs, Reads};
 ghost use Rattle.rmt_play.specs.QueryAnswers.{IsSelection, IsExplained};
 ghost use Rattle.rmt_play.specs.PlayerSteps.{ExecutesQuery};
@@ -55,7 +57,8 @@ pub(crate) fn sync_in(
     requires here { IsNumber replica (length cluster.old.replicas) }
     requires idle { IsIdle cluster.old replica }
     ensures executes { IfOk result (λ line. ExecutesQuery cluster.old query.now
-        (λ t. Syncs (ups cluster.old) t replica query.now) line cluster.new) }
+        (λ t. Syncs (ups cluster.old) t replica query.now)
+        (λ line. SyncEvents cluster.old replica (refusal_told line)) line cluster.new) }
     ensures free { IfOk result (λ _. HoldsNone cluster.new) }
     ensures keeps { KeepsUps cluster.old result cluster.new }
 {
@@ -81,7 +84,7 @@ pub(crate) fn read_in(
     requires here { IsNumber replica (length cluster.now.replicas) }
     requires up { ups cluster.now replica ≡ true }
     ensures { IfOk result (λ line. ExecutesQuery cluster.now query.now
-        (λ t. Reads t replica query.now) line cluster.now) }
+        (λ t. Reads t replica query.now) (λ line u. u ≡ cluster.now) line cluster.now) }
 {
     match check(alloc, query, schema_of(cluster))? {
         Ok(query) => {
@@ -119,7 +122,7 @@ pub(crate) fn explain_in(
     requires here { IsNumber replica (length cluster.now.replicas) }
     requires up { ups cluster.now replica ≡ true }
     ensures { IfOk result (λ line. ExecutesQuery cluster.now query.now
-        (λ t. Explains t replica query.now) line cluster.now) }
+        (λ t. Explains t replica query.now) (λ line u. u ≡ cluster.now) line cluster.now) }
 {
     match check(alloc, query, schema_of(cluster))? {
         Ok(query) => {

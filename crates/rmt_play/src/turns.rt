@@ -35,7 +35,7 @@ pub(crate) fn run_in(
 ) -> Result<Line, AllocError>
     requires free { HoldsNone cluster.old }
     requires seed { seed < 2 ^ 31 }
-    ensures runs { IfOk result (λ line. RunsCluster turns line cluster.old cluster.new) }
+    ensures runs { IfOk result (λ line. RunsCluster turns seed line cluster.old cluster.new) }
     ensures free { IfOk result (λ _. HoldsNone cluster.new) }
     ensures keeps { KeepsUps cluster.old result cluster.new }
 {

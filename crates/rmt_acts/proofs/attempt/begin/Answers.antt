@@ -1,9 +1,10 @@
-use Rattle.std.proofs.Common.{ap}
+use Rattle.std.proofs.Common.{ap, refl}
 use Rattle.rmt_events.specs.Clusters.{without_kinds}
 use Rattle.rmt_events.specs.declared.event.Event.TheVariants as ev
 use Rattle.rmt_events.proofs.WholeSteps.{whole-step}
 use Rattle.rmt_statement_model.proofs.UpLaws.{ups-step}
 use Rattle.rmt_acts.proofs.AttemptActs.{allocate-answers, begins-by}
+use Rattle.rmt_acts.proofs.EventLists.{at-err, reaches-itself, stops-between, stops-first}
 use Rattle.rmt_acts.proofs.attempt.begin.Goals as goal
 
 pub begun_by-requires : goal.begun_by-requires
@@ -24,3 +25,12 @@ returns-clause-keeps c = record {
 
 pub returns-clause-whole : goal.returns-clause-whole
 returns-clause-whole c = whole-step c.args.cluster.now c.step.new.self (ev.Allocate c.args.replica c.in_ok-block.block 0) c.in_ok-reply.reply c.step.ensures.whole c.in_ok-reply.ensures.ok
+
+pub returns-clause-events : goal.returns-clause-events
+returns-clause-events c = record { block = c.in_ok-block.block; makes = (c.step.new.self, c.in_ok-reply.reply, c.in_ok-reply.ensures.ok, refl) }
+
+pub returns-in_err-block-clause-err : goal.returns-in_err-block-clause-err
+returns-in_err-block-clause-err c = at-err c.from_residual.result _ (stops-between c.args.cluster.now c.args.cluster.now (reaches-itself c.args.cluster.now))
+
+pub returns-in_err-reply-clause-err : goal.returns-in_err-reply-clause-err
+returns-in_err-reply-clause-err c = at-err c.from_residual-in_err-reply.result _ (stops-first c.args.cluster.now c.step.new.self (ev.Allocate c.args.replica c.in_ok-block.block 0) c.in_err-reply.ensures.err)

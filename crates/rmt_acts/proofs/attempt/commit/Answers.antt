@@ -1,6 +1,8 @@
 use Rattle.std.proofs.Common.{◌∙◌}
 use Rattle.rmt_statement_model.specs.Attempts.{IsCommitReply}
 use Rattle.rmt_acts.proofs.AttemptActs.{commit-answers, commits-by, commit-free, commit-ups}
+use Rattle.rmt_events.specs.declared.event.Event.TheVariants as ev
+use Rattle.rmt_acts.proofs.EventLists.{at-err, reaches-step, stops-first, stops-there}
 use Rattle.rmt_acts.proofs.attempt.commit.Goals as goal
 
 -- what its Commit is answered
@@ -27,3 +29,11 @@ pub returns-clause-free : goal.returns-clause-free
 returns-clause-free c =
     commit-free c.args.cluster.now c.step.new.self c.step-2.new.self c.args.attempt c.in_ok-_staged._staged c.in_ok-reply.reply c.step.ensures.whole c.requires.up c.requires.there
     c.in_ok-_staged.ensures.ok c.in_ok-reply.ensures.ok
+
+pub returns-in_err-_staged-clause-err : goal.returns-in_err-_staged-clause-err
+returns-in_err-_staged-clause-err c = at-err c.from_residual.result _ (stops-first c.args.cluster.now c.step.new.self (ev.Stage c.args.attempt) c.in_err-_staged.ensures.err)
+
+pub returns-in_err-reply-clause-err : goal.returns-in_err-reply-clause-err
+returns-in_err-reply-clause-err c =
+    at-err c.from_residual-in_err-reply.result _
+    (stops-there c.args.cluster.now c.step.new.self c.step-2.new.self (ev.Commit c.args.attempt) (reaches-step c.args.cluster.now c.step.new.self (ev.Stage c.args.attempt) c.in_ok-_staged._staged c.in_ok-_staged.ensures.ok) c.in_err-reply.ensures.err)

@@ -1,7 +1,8 @@
-use Rattle.std.proofs.Common.{◌≡◌, ℕ, Bool, ◌∙◌, ap, subst, sym}
+use Rattle.std.proofs.Common.{◌≡◌, ℕ, Bool, [], ◌∷◌, ◌∙◌, ap, subst, sym}
 use Rattle.rmt_names.specs.Names.{Name, block_name}
 use Rattle.rmt_events.specs.Views.{Block}
 use Rattle.rmt_events.specs.Clusters.{without_kinds}
+use Rattle.rmt_events.specs.declared.event.Event.TheVariants as ev
 use Rattle.rmt_reply.specs.declared.piece.Piece.TheVariants as pieces
 use Rattle.rmt_statement_model.specs.Shows.{Leads}
 use Rattle.rmt_acts.specs.Inserting.{Begins, Commits, ComesTo}
@@ -10,6 +11,7 @@ use Rattle.rmt_acts.specs.declared.committed.Committed.{Committed}
 use Rattle.rmt_acts.specs.declared.outcome.Outcome.TheVariants as outcomes
 use Rattle.rmt_acts.proofs.AttemptActs.{idle-as, up-with}
 use Rattle.rmt_acts.proofs.InsertActs.{accepts, repeats, lacks-number, lacks-room}
+use Rattle.rmt_acts.proofs.EventLists.{at-err, reaches-made, reaches-then, reaches-tried, stops-later}
 use Rattle.rmt_acts.proofs.attempt.insert_block.Goals as goal
 
 pub commit-requires-clause-up : goal.commit-requires-clause-up
@@ -56,3 +58,15 @@ returns-in-Full-clause-idle c = idle-as c.args.cluster.now c.begin.new.cluster c
 
 pub returns-in-Full-2-clause-idle : goal.returns-in-Full-2-clause-idle
 returns-in-Full-2-clause-idle c = idle-as c.args.cluster.now c.commit.new.cluster c.args.replica (c.in_ok-entry.ensures.keeps.ups ∙ c.in_ok-begun.ensures.keeps.ups) c.requires.idle.up c.in_ok-entry.ensures.free
+
+pub returns-in_err-entry-clause-err : goal.returns-in_err-entry-clause-err
+returns-in_err-entry-clause-err c =
+    at-err c.from_residual-in_err-entry.result _
+    (stops-later c.args.cluster.now c.begin.new.cluster c.commit.new.cluster (reaches-tried c.args.cluster.now c.begin.new.cluster c.args.replica c.in_ok-begun.ensures.events) c.in_err-entry.ensures.err)
+
+pub returns-in_err-do_get-in-Entry-clause-err : goal.returns-in_err-do_get-in-Entry-clause-err
+returns-in_err-do_get-in-Entry-clause-err c =
+    at-err c.from_residual-in_err-do_get-in-Entry.result _
+    (stops-later c.args.cluster.now c.commit.new.cluster c.do_get.new.cluster
+    (reaches-then c.args.cluster.now c.begin.new.cluster c.commit.new.cluster (reaches-tried c.args.cluster.now c.begin.new.cluster c.args.replica c.in_ok-begun.ensures.events)
+    (reaches-made c.begin.new.cluster c.commit.new.cluster (ev.Stage c.in-Attempt.attempt ∷ ev.Commit c.in-Attempt.attempt ∷ []) c.in_ok-entry.ensures.events)) c.in_err-do_get-in-Entry.ensures.err)

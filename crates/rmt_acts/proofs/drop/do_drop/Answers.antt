@@ -6,6 +6,7 @@ use Rattle.rmt_events.specs.declared.reply.Reply.{Reply}
 use Rattle.rmt_acts.specs.Changing.{HasDropAt, IsNumberAt}
 use Rattle.rmt_acts.proofs.ChangeActs.{copy-log, unapplied, drop-answers, does-drop}
 use Rattle.rmt_acts.proofs.AttemptActs.{get-idle, get-ups}
+use Rattle.rmt_acts.proofs.EventLists.{at-err, reaches-step, stops-first, stops-there}
 use Rattle.rmt_acts.proofs.drop.do_drop.Goals as goal
 use Rattle.rmt_acts.proofs.drop.do_drop.Goals.{in_default-via-in-Refused+in_default, in_default-via-in_default}
 
@@ -46,3 +47,11 @@ returns-clause-keeps c = record {
   table = record { schema = c.step-2.ensures.keeps.schema ∙ c.step.ensures.keeps.schema; replicas = c.step-2.ensures.keeps.replicas ∙ c.step.ensures.keeps.replicas };
   ups = get-ups c.args.cluster.now c.step.new.self c.step-2.new.self c.args.replica c.args.entry c.in_ok-_pulled._pulled c.in_ok-reply.reply c.step.ensures.whole c.in_ok-_pulled.ensures.ok c.in_ok-reply.ensures.ok;
 }
+
+pub returns-in_err-_pulled-clause-err : goal.returns-in_err-_pulled-clause-err
+returns-in_err-_pulled-clause-err c = at-err c.from_residual.result _ (stops-first c.args.cluster.now c.step.new.self (ev.Pull c.args.replica) c.in_err-_pulled.ensures.err)
+
+pub returns-in_err-reply-clause-err : goal.returns-in_err-reply-clause-err
+returns-in_err-reply-clause-err c =
+    at-err c.from_residual-in_err-reply.result _
+    (stops-there c.args.cluster.now c.step.new.self c.step-2.new.self (ev.Apply c.args.replica c.args.entry) (reaches-step c.args.cluster.now c.step.new.self (ev.Pull c.args.replica) c.in_ok-_pulled._pulled c.in_ok-_pulled.ensures.ok) c.in_err-reply.ensures.err)

@@ -6,6 +6,7 @@ use Rattle.rmt_events.specs.declared.reply.Reply.TheVariants as rp
 use Rattle.rmt_statement_model.proofs.DropRows.{drop-refused}
 use Rattle.rmt_acts.proofs.ChangeActs.{has-drop, drops, drops-nothing}
 use Rattle.rmt_statement_model.proofs.UpLaws.{ups-step}
+use Rattle.rmt_acts.proofs.EventLists.{at-err, reaches-step, stops-first, stops-later}
 use Rattle.rmt_acts.proofs.drop.drop_partition.Goals as goal
 
 pub do_drop-requires-clause-there : goal.do_drop-requires-clause-there
@@ -42,3 +43,11 @@ returns-in_ok-below-in-Entry-clause-keeps c = record {
   table = record { schema = c.do_drop.ensures.keeps.table.schema ∙ c.step.ensures.keeps.schema; replicas = c.do_drop.ensures.keeps.table.replicas ∙ c.step.ensures.keeps.replicas };
   ups = c.in_ok-below-in-Entry.ensures.keeps.ups ∙ ups-step c.args.cluster.now c.step.new.self (ev.DropPartition c.args.partition) c.in_ok-reply.reply c.step.ensures.whole tt c.in_ok-reply.ensures.ok;
 }
+
+pub returns-in_err-reply-clause-err : goal.returns-in_err-reply-clause-err
+returns-in_err-reply-clause-err c = at-err c.from_residual.result _ (stops-first c.args.cluster.now c.step.new.self (ev.DropPartition c.args.partition) c.in_err-reply.ensures.err)
+
+pub returns-in_err-below-in-Entry-clause-err : goal.returns-in_err-below-in-Entry-clause-err
+returns-in_err-below-in-Entry-clause-err c =
+    at-err c.from_residual-in_err-below-in-Entry.result _
+    (stops-later c.args.cluster.now c.step.new.self c.do_drop.new.cluster (reaches-step c.args.cluster.now c.step.new.self (ev.DropPartition c.args.partition) c.in_ok-reply.reply c.in_ok-reply.ensures.ok) c.in_err-below-in-Entry.ensures.err)

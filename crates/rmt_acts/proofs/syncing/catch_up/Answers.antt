@@ -9,6 +9,8 @@ returns-in-Ok c =
       syncs = is-synced c.args.cluster.now c.sync.new.self c.args.replica w y.0 y.1;
       table = sync-table c.args.cluster.now c.sync.new.self c.args.replica w y.0;
       idle = sync-idle c.args.cluster.now c.sync.new.self c.args.replica w y.0 c.requires.idle;
+      events = record { syncs = y.0; done = y.1 };
+      err = tt;
       keeps = record {
         table = c.sync.ensures.keeps;
         ups = sync-ups c.args.cluster.now c.sync.new.self c.args.replica w y.0;

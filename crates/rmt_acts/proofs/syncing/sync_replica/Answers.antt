@@ -1,5 +1,5 @@
 use Rattle.std.proofs.lemmas.Result.{IfOk-weaker}
-use Rattle.rmt_acts.proofs.SyncActs.{sync-table, sync-ups, sync-idle, is-synced, not-refused, early-told}
+use Rattle.rmt_acts.proofs.SyncActs.{sync-table, sync-ups, sync-idle, is-synced, not-refused, early-told, stopped-told}
 use Rattle.rmt_acts.proofs.syncing.sync_replica.Goals as goal
 
 pub refusal_of-requires : goal.refusal_of-requires
@@ -13,6 +13,8 @@ returns-in-Ok c =
       syncs = is-synced c.args.cluster.now c.sync.new.self c.args.replica w y.0 y.1;
       table = sync-table c.args.cluster.now c.sync.new.self c.args.replica w y.0;
       idle = sync-idle c.args.cluster.now c.sync.new.self c.args.replica w y.0 c.requires.idle;
+      events = record { syncs = y.0; done = y.1 };
+      err = tt;
       keeps = record {
         table = c.sync.ensures.keeps;
         ups = sync-ups c.args.cluster.now c.sync.new.self c.args.replica w y.0;
@@ -30,3 +32,9 @@ returns-in-Err-clause-idle c = IfOk-weaker c.refusal_of.result _ _ (λ o e. e.id
 
 pub returns-in-Err-clause-keeps : goal.returns-in-Err-clause-keeps
 returns-in-Err-clause-keeps c = record { table = c.sync.ensures.keeps; ups = IfOk-weaker c.refusal_of.result _ _ (λ o e. e.ups_are) (early-told c.args.cluster.now c.sync.new.self c.args.replica c.in-Err.error c.refusal_of.result c.drained_replicas_agree.ensures.whole c.requires.idle c.in-Err.ensures.syncs c.refusal_of.ensures) }
+
+pub returns-in-Err-clause-events : goal.returns-in-Err-clause-events
+returns-in-Err-clause-events c = IfOk-weaker c.refusal_of.result _ _ (λ o e. e.events) (early-told c.args.cluster.now c.sync.new.self c.args.replica c.in-Err.error c.refusal_of.result c.drained_replicas_agree.ensures.whole c.requires.idle c.in-Err.ensures.syncs c.refusal_of.ensures)
+
+pub returns-in-Err-clause-err : goal.returns-in-Err-clause-err
+returns-in-Err-clause-err c = stopped-told c.args.cluster.now c.sync.new.self c.args.replica c.in-Err.error c.refusal_of.result c.in-Err.ensures.syncs c.refusal_of.ensures

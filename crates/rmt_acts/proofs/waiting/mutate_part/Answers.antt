@@ -8,6 +8,7 @@ use Rattle.rmt_statement_model.proofs.LockSteps.{none-held}
 use Rattle.rmt_statement_model.proofs.UpLaws.{ups-step}
 use Rattle.rmt_acts.proofs.AttemptActs.{idle-as}
 use Rattle.rmt_acts.proofs.WaitActs.{becomes-mutated, mutates-none-more, mutate-gets, only-limit}
+use Rattle.rmt_acts.proofs.EventLists.{at-err, reaches-step, stops-first, stops-later, stops-syncing}
 use Rattle.rmt_acts.proofs.waiting.mutate_part.Goals as goal
 
 pub unreachable-requires : goal.unreachable-requires
@@ -51,3 +52,12 @@ pub returns-in-LimitReached-clause-idle : goal.returns-in-LimitReached-clause-id
 returns-in-LimitReached-clause-idle c =
     idle-as c.args.cluster.now c.step.new.self c.args.replica (ups-step c.args.cluster.now c.step.new.self (ev.Mutate c.args.replica c.args.old c.args.upto) c.in_ok-reply.reply c.step.ensures.whole tt c.in_ok-reply.ensures.ok) c.requires.idle.up
     (none-held c.args.cluster.now c.step.new.self (ev.Mutate c.args.replica c.args.old c.args.upto) c.in_ok-reply.reply tt c.in_ok-reply.ensures.ok c.requires.idle.free)
+
+pub returns-in_err-reply-clause-err : goal.returns-in_err-reply-clause-err
+returns-in_err-reply-clause-err c = at-err c.from_residual.result _ (stops-first c.args.cluster.now c.step.new.self (ev.Mutate c.args.replica c.args.old c.args.upto) c.in_err-reply.ensures.err)
+
+pub returns-in_err-catch_up-in-Entry-clause-err : goal.returns-in_err-catch_up-in-Entry-clause-err
+returns-in_err-catch_up-in-Entry-clause-err c =
+    at-err c.from_residual-in_err-catch_up-in-Entry.result _
+    (stops-later c.args.cluster.now c.step.new.self c.catch_up.new.cluster (reaches-step c.args.cluster.now c.step.new.self (ev.Mutate c.args.replica c.args.old c.args.upto) c.in_ok-reply.reply c.in_ok-reply.ensures.ok)
+    (stops-syncing c.step.new.self c.catch_up.new.cluster c.args.replica c.in_err-catch_up-in-Entry.ensures.err))

@@ -38,6 +38,7 @@ returns-in-Ok-2-clause-executes c = λ table r.
     alters-in c.args.cluster.now c.mutate.new.cluster r table c.args.command.now c.in-Ok.checked (lines.Mutation c.in-Ok-2.id)
     (subst (λ (x : Shape). mutation_refusal x c.args.command.now ≡ None) c.schema_of.ensures (known k)) (subst (λ (x : Shape). IsCheckedMutation x c.args.command.now c.in-Ok.checked) c.schema_of.ensures (checked k))
     (subst (λ (m : Result ℕ Refusal). MutatesTo c.args.cluster.now c.in-Ok.checked m c.mutate.new.cluster) c.in-Ok-2.is c.in_ok-id-in-Ok.ensures.mutates)
+    c.in_ok-id-in-Ok.ensures.events
 
 pub returns-in-Err-2-clause-executes : goal.returns-in-Err-2-clause-executes
 returns-in-Err-2-clause-executes c = λ table r.
@@ -45,3 +46,4 @@ returns-in-Err-2-clause-executes c = λ table r.
     alters-in c.args.cluster.now c.mutate.new.cluster r table c.args.command.now c.in-Ok.checked (lines.Refused c.in-Err-2.refusal)
     (subst (λ (x : Shape). mutation_refusal x c.args.command.now ≡ None) c.schema_of.ensures (known k)) (subst (λ (x : Shape). IsCheckedMutation x c.args.command.now c.in-Ok.checked) c.schema_of.ensures (checked k))
     (subst (λ (m : Result ℕ Refusal). MutatesTo c.args.cluster.now c.in-Ok.checked m c.mutate.new.cluster) c.in-Err-2.is c.in_ok-id-in-Ok.ensures.mutates)
+    c.in_ok-id-in-Ok.ensures.events

@@ -21,8 +21,10 @@ returns-in-Ok-2-clause-executes c = λ table.
     drops-in c.args.cluster.now c.drop_partition.new.cluster c.args.replica table c.args.word.now c.in-Ok.partition (lines.Dropped c.in-Ok.partition c.in-Ok-2.below) (named (goal.at.returns-in-Ok-2-clause-executes c).In-Ok)
     (dropped c.args.cluster.now c.drop_partition.new.cluster c.args.replica c.in-Ok.partition c.in-Ok-2.below
     (subst (λ (m : Result ℕ Refusal). DropsTo c.args.cluster.now c.args.replica c.in-Ok.partition m c.drop_partition.new.cluster) c.in-Ok-2.is c.in_ok-below-in-Ok.ensures.drops))
+    c.in_ok-below-in-Ok.ensures.events
 
 pub returns-in-Err-2-clause-executes : goal.returns-in-Err-2-clause-executes
 returns-in-Err-2-clause-executes c = λ table.
     drops-in c.args.cluster.now c.drop_partition.new.cluster c.args.replica table c.args.word.now c.in-Ok.partition (lines.Refused c.in-Err-2.refusal) (named (goal.at.returns-in-Err-2-clause-executes c).In-Ok)
     (subst (λ (m : Result ℕ Refusal). DropsTo c.args.cluster.now c.args.replica c.in-Ok.partition m c.drop_partition.new.cluster) c.in-Err-2.is c.in_ok-below-in-Ok.ensures.drops)
+    c.in_ok-below-in-Ok.ensures.events

@@ -12,7 +12,7 @@ returns-in-Ok c =
     let there = slice_get_read tables (length tables) c.args.place c.index_mut.result.now refl place c.index_mut.ensures.value in
     let old : NamedCluster = record { name = c.behind-self.inside.name; cluster = c.behind-self.inside.cluster } in
     let new : NamedCluster = record { name = c.behind-self.inside.name; cluster = c.run_in.new.cluster } in
-    subst (λ (p : PlayerView). ChangesAt p c.args.place (RunsCluster c.args.turns c.in-Ok.line) (record { replicas = c.self.inside.replicas; up = c.self.inside.up; tables = slice_set tables c.args.place new })) c.self.view_is (record {
+    subst (λ (p : PlayerView). ChangesAt p c.args.place (RunsCluster c.args.turns c.args.seed c.in-Ok.line) (record { replicas = c.self.inside.replicas; up = c.self.inside.up; tables = slice_set tables c.args.place new })) c.self.view_is (record {
       table = old;
       there = there ∙ ap (λ (t : NamedCluster). Some t) (sym c.behind-self.view_is);
       after = c.run_in.new.cluster;
