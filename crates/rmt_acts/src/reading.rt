@@ -5,6 +5,7 @@ ghost use Rattle.std.specs.List.{All, filter};
 ghost use Rattle.rmt_state.specs.States.{IsNumber};
 ghost use Rattle.rmt_row.specs.Token.{Token};
 ghost use Rattle.rmt_model.specs.Lawful.{is_mutation, mutation_count};
+ghost use Rattle.rmt_history.specs.Mutations.{HasOrder};
 ghost use Rattle.rmt_changes.specs.Changes.{entries_of};
 ghost use Rattle.rmt_changes.specs.Laws.{EntryFits};
 ghost use Rattle.rmt_format.specs.PartBytes.{HasPartBytes};
@@ -61,6 +62,7 @@ pub fn read_parts(
 pub(crate) fn all_mutations(copy: &LogCopy) -> &[Seen<Entry>]
     ensures entries { entries_of result.now ≡ filter is_mutation copy.now.log }
     ensures fit { All (λ token. EntryFits copy.now.schema token.value) result.now }
+    ensures ordered { All (λ token. HasOrder token.value) result.now }
     ensures count { length result.now ≡ mutation_count copy.now.log }
     ensures places { (id : ℕ) (token : Token Entry) → slice_get result.now id ≡ Some token
         → IsPlaceOf copy.now.log id token.place }

@@ -1,8 +1,11 @@
 //! What a replica has.
+ghost use Rattle.std.specs.List.{All};
+ghost use Rattle.rmt_history.specs.Mutations.{HasOrder};
+
 use crate::moves::has_replica;
 use crate::parts::Part;
 use crate::rows::sorted;
-use rmt_changes::pending_row;
+use rmt_changes::{due_mutations, pending_row};
 use rmt_cluster::Cluster;
 use rmt_entries::Entry;
 use rmt_history::LogCopy;
@@ -53,14 +56,21 @@ pub(crate) fn rows_read(
     copy: &LogCopy,
 ) -> Result<Vec<Row>, Fail> {
     let mut rows = Vec::new(alloc);
-    let mutations = match copy.mutations(copy.len()) {
-        Some(list) => list.as_slice(),
-        None => &[],
-    };
+    let mutations = all_mutations(copy);
     for part in snapshot.parts() {
         read_part(alloc, &mut rows, part, mutations)?;
     }
     Ok(sorted(rows)?)
+}
+
+/// The mutations of a copy, the oldest first.
+fn all_mutations(copy: &LogCopy) -> &[Seen<Entry>]
+    ensures { All (λ token. HasOrder token.value) result.now }
+{
+    match copy.mutations(copy.len()) {
+        Some(list) => list.as_slice(),
+        None => &[],
+    }
 }
 
 /// Adds the rows that are read of a part.
@@ -69,12 +79,15 @@ fn read_part(
     rows: &mut Vec<Row>,
     part: &NamedPart,
     mutations: &[Seen<Entry>],
-) -> Result<(), Fail> {
+) -> Result<(), Fail>
+    requires { All (λ token. HasOrder token.value) mutations.now }
+{
     let (name, data) = (part.name(), part.data());
+    let (partition, version) = (name.partition(), data_version(name));
+    let due = due_mutations(alloc, mutations, partition, version, None)?;
     for i in 0..data.rows() {
         let row = data.row(i)?.ok_or("no row")?;
-        let (partition, version) = (name.partition(), data_version(name));
-        if let Some(row) = pending_row(alloc, mutations, partition, version, row)? {
+        if let Some(row) = pending_row(alloc, &due, row)? {
             rows.push(row)?;
         }
     }

@@ -1,7 +1,9 @@
-use Rattle.std.proofs.Common.{◌∙◌, [], ap, subst, sym}
+use Rattle.std.proofs.Common.{All, ◌∙◌, [], ap, subst, sym}
+use Rattle.rmt_entries.specs.declared.entry.Entry.{Entry}
+use Rattle.rmt_row.specs.Token.{Token}
 use Rattle.rmt_changes.specs.Changes.{entries_of}
 use Rattle.rmt_model.specs.Words.{Each}
-use Rattle.rmt_history.specs.Mutations.{IsTokenBelow, mutations_below}
+use Rattle.rmt_history.specs.Mutations.{HasOrder, IsTokenBelow, mutations_below}
 use Rattle.rmt_acts.proofs.ReadActs.{all-below, tokens-fit}
 use Rattle.rmt_acts.proofs.MutationTokens.{tokens-count, token-places}
 use Rattle.rmt_acts.proofs.reading.all_mutations.Goals as goal
@@ -16,6 +18,9 @@ returns-in-Some-clause-fit c =
     let log = c.args.copy.now.log in
     tokens-fit c.args.copy.now.schema log c.as_slice.result.now c.len.ensures.lawful
     (ap entries_of (c.as_slice.ensures ∙ c.deref.ensures) ∙ (c.in-Some.ensures.tokens.entries ∙ (ap (mutations_below log) c.len.ensures.len ∙ all-below log)))
+
+pub returns-in-Some-clause-ordered : goal.returns-in-Some-clause-ordered
+returns-in-Some-clause-ordered c = subst (All (λ (t : Token Entry). HasOrder t.value)) (sym (c.as_slice.ensures ∙ c.deref.ensures)) c.in-Some.ensures.ordered
 
 pub returns-in-Some-clause-count : goal.returns-in-Some-clause-count
 returns-in-Some-clause-count c =
