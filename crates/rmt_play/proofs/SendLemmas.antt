@@ -128,7 +128,7 @@ sends old new sent place replica line all p at a w i =
 
     go : (o : Option Refusal) (v : TableState) → Shows a.after v → MatchOption o (DoesAct w.up s f.table.state replica sent.act line a.after v) (Declines s f.table.state line a.after v) → ComesTo new (λ u. MatchOption o (PerformsSent w sent line u) (λ refusal. Refuses w refusal line u))
     go None v h k = record {
-      world = record w { tables = with_table w.tables (table_named sent.act) (record f.table { state = v }) };
+      world = record w { tables = with_table w.tables (table_named sent.act) (record f.table { state = v; cluster = a.after }) };
       holds = record { replica = replica; at = here; acts = record { table = f.table; found = f.found; after = v; changes = k.0; cluster = a.after; events = subst (λ (x : Cluster). ActEvents x replica sent.act line a.after) (sym f.is.cluster) k.1; rest = refl } };
       is_in = is_in v h;
     }

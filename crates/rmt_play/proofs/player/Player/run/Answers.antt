@@ -33,7 +33,7 @@ returns-in-Some-in_range c =
     let told = c.in-Some-in_range.ensures.range in
     runs c.args.self.now c.work.new.self c.args.table c.args.turns c.args.seed c.in-Some.place c.in_ok-line-in-Some-in_range.line (place (goal.at.returns-in-Some-in_range c).In-Some) told.0
     (subst (λ (x : ℕ). ChangesAt c.args.self.now c.in-Some.place (RunsCluster c.args.turns x c.in_ok-line-in-Some-in_range.line) c.work.new.self) told.2
-    (subst (λ (n : ℕ). ChangesAt c.args.self.now c.in-Some.place (RunsCluster n c.in-Some-in_range.field-0-1 c.in_ok-line-in-Some-in_range.line) c.work.new.self) told.1 c.in_ok-line-in-Some-in_range.ensures))
+    (subst (λ (n : ℕ). ChangesAt c.args.self.now c.in-Some.place (RunsCluster n c.in-Some-in_range.seed c.in_ok-line-in-Some-in_range.line) c.work.new.self) told.1 c.in_ok-line-in-Some-in_range.ensures))
 
 pub returns : goal.returns
 returns c =
