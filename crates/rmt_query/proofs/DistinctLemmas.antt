@@ -24,12 +24,12 @@ AreMarked seen columns = (c : ℕ) → slice_get seen c ≡ Some true → Has co
 abbrev column_cmp : ℕ → List Value → List Value → Ordering
 column_cmp c a b = cell_cmp (slice_get a c) (slice_get b c)
 
-then-equal : (o : Ordering) → ordering_then o Equal ≡ o
+pub then-equal : (o : Ordering) → ordering_then o Equal ≡ o
 then-equal Less = refl
 then-equal Equal = refl
 then-equal Greater = refl
 
-then-both : (o r s : Ordering) → ordering_then o (ordering_then r s) ≡ ordering_then (ordering_then o r) s
+pub then-both : (o r s : Ordering) → ordering_then o (ordering_then r s) ≡ ordering_then (ordering_then o r) s
 then-both Less r s = refl
 then-both Equal r s = refl
 then-both Greater r s = refl
@@ -63,12 +63,12 @@ alike-again columns others c same h a b = go (key_cmp columns a b) refl ∙ ap (
     go Equal e = sym (tie-each columns c a b h e)
     go Greater e = refl
 
-has-more : (columns : List ℕ) (d c : ℕ) → Has columns c → Has (columns ++ d ∷ []) c
+pub has-more : {X : Type 0} (columns : List X) (d c : X) → Has columns c → Has (columns ++ d ∷ []) c
 has-more [] d c h = absurd h
 has-more (x ∷ columns) d c (inl e) = inl e
 has-more (x ∷ columns) d c (inr h) = inr (has-more columns d c h)
 
-has-last : (columns : List ℕ) (d c : ℕ) → d ≡ c → Has (columns ++ d ∷ []) c
+pub has-last : {X : Type 0} (columns : List X) (d c : X) → d ≡ c → Has (columns ++ d ∷ []) c
 has-last [] d c e = inl e
 has-last (x ∷ columns) d c e = inr (has-last columns d c e)
 

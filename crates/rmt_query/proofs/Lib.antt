@@ -10,3 +10,4 @@ pub mod Counting
 pub mod TotalLemmas
 pub mod SumLemmas
 pub mod DistinctLemmas
+pub mod PlaceLemmas

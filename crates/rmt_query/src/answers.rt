@@ -7,6 +7,7 @@ ghost use Rattle.rmt_changes.specs.Changes.{entries_of};
 ghost use Rattle.rmt_changes.specs.Laws.{EntryFits};
 ghost use Rattle.rmt_query.specs.ReadRows.{rows_read};
 ghost use Rattle.rmt_query.specs.Cells.{zero_of};
+ghost use Rattle.rmt_query.specs.Distinct.{tuple_cmp_at};
 ghost use Rattle.rmt_query.specs.Answers.{
   answer_of,
   groups_of,
@@ -21,11 +22,11 @@ ghost use Rattle.rmt_values.specs.Rows.{key_cmp};
 ghost use Rattle.rmt_values.specs.Order.{in_order};
 
 use crate::cells::{one_cell, zero_cell};
-use crate::distinct::distinct_columns;
+use crate::distinct::{distinct_columns, distinct_places};
 use crate::matches::matching_rows;
 use crate::runs::tuples_of_runs;
 use crate::totals::{are_settled, is_total, total_tuples};
-use crate::tuple::Tuple;
+use crate::tuple::{Tuple, compare_at};
 use rmt_columns::RowRef;
 use rmt_entries::Entry;
 use rmt_partset::{NamedPart, Snapshot};
@@ -36,8 +37,9 @@ use std::alloc::{AllocError, Global};
 /// The answer of a query of a schema over the rows of a snapshot of its table: the tuples in ascending order, from left
 /// to right. Each row is first put through the mutations that are pending for its part: of the entries of `pending`,
 /// which are in the order of the log, those that have a number in the part's partition above its data version. Only the
-/// granules that the query's filter chooses are read. The mutations are looked up once for each part, and only commands that
-/// are pending for it go over its rows. At an error no memory was left.
+/// granules that the query's filter chooses are read. The mutations are looked up once for each part, and only commands
+/// that are pending for it go over its rows. An item that the query names again is compared once. At an error no memory
+/// was left.
 #[tactic(auto, unfolding(crate::specs::Answers::answer_of))]
 pub fn answer(
     alloc: Global,
@@ -54,8 +56,18 @@ pub fn answer(
     ensures none_pending { pending.now ≡ [] → IfOk result (λ tuples. tuples.items
         ≡ answer_of schema.now query.now (all_rows (data_in snapshot.now))) }
 {
-    let mut tuples = tuples_read(alloc, snapshot.parts(), query, schema, pending)?;
-    tuples.sort_by(|a, b| a.compare(b))?;
+    let places = distinct_places(alloc, query.items.as_slice())?;
+    let tuples = tuples_read(alloc, snapshot.parts(), query, schema, pending)?;
+    let sorted = tuples_sorted(tuples, &places)?;
+    Ok(sorted)
+}
+
+/// The tuples in the order of their cells at these places; those that tie keep their order.
+fn tuples_sorted(tuples: Vec<Tuple>, places: &[usize]) -> Result<Vec<Tuple>, AllocError>
+    ensures { IfOk result (λ sorted. sorted.items ≡ in_order (tuple_cmp_at places.now) tuples.items) }
+{
+    let mut tuples = tuples;
+    tuples.sort_by(|a, b| compare_at(places, a, b))?;
     Ok(tuples)
 }
 

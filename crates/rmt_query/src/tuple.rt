@@ -1,5 +1,7 @@
-ghost use Rattle.std.specs.Prelude.{◌≡◌};
-ghost use Rattle.rmt_query.specs.Cells.{tuple_cmp};
+ghost use Rattle.std.specs.Prelude.{◌≡◌, slice_get};
+ghost use Rattle.std.specs.Option.{option_cmp};
+ghost use Rattle.rmt_query.specs.Cells.{cell_order, tuple_cmp};
+ghost use Rattle.rmt_query.specs.Distinct.{tuple_cmp_at};
 
 use crate::cells::compare_cells;
 use rmt_values::Cell;
@@ -61,5 +63,31 @@ fn compare_from(left: &[Cell], right: &[Cell]) -> Ordering
                 unequal => unequal,
             },
         },
+    }
+}
+
+/// The order of tuples by their cells at these places, one place after the other. A missing cell comes first.
+pub fn compare_at(places: &[usize], a: &Tuple, b: &Tuple) -> Ordering
+    ensures { result ≡ tuple_cmp_at places.now a.now b.now }
+{
+    let (left, right) = (a.cells(), b.cells());
+    'places: for place in places {
+        match compare_cells_at(*place, left, right) {
+            Ordering::Equal => {}
+            unequal => return unequal,
+        }
+    }
+    Ordering::Equal
+}
+
+/// The order of the cells that two lists have at a place. A missing one comes first.
+fn compare_cells_at(place: usize, left: &[Cell], right: &[Cell]) -> Ordering
+    ensures { result ≡ option_cmp cell_order (slice_get left.now place) (slice_get right.now place) }
+{
+    match (left.get(place), right.get(place)) {
+        (Some(a), Some(b)) => compare_cells(a, b),
+        (Some(_), None) => Ordering::Greater,
+        (None, Some(_)) => Ordering::Less,
+        (None, None) => Ordering::Equal,
     }
 }
