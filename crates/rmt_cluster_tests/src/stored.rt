@@ -31,8 +31,13 @@ fn worked(alloc: Global, replicas: usize, steps: &[Step]) -> Result<Option<usize
     let schema = Table::Whole.schema(alloc)?;
     let up = [true; 8];
     let mut cluster = new_cluster(alloc, schema, &up[..replicas.min(8)])?;
-    let done = does_all(alloc, &mut cluster, steps)?;
-    first_misread(alloc, &cluster, &done)
+    plays(alloc, &mut cluster, steps)
+}
+
+/// The same at a cluster.
+fn plays(alloc: Global, cluster: &mut Cluster, steps: &[Step]) -> Result<Option<usize>, Fail> {
+    let done = does_all(alloc, cluster, steps)?;
+    first_misread(alloc, cluster, &done)
 }
 
 /// Does the events of a list, which come back with their answers.
