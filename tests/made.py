@@ -193,7 +193,7 @@ def costs():
 
 def settled_mutations():
     """20,000 rows in 1,000 partitions, and 200 mutations that match nothing: each SELECT is as quick as without them."""
-    rows, partitions, mutations, reads = 20_000, 1_000, 200, 200
+    rows, partitions, mutations, reads = 20_000, 1_000, 200, 20
     script = [table("PARTITION BY p", "k UInt64, p UInt64"), "INSERT INTO t FORMAT CSV\n"]
     script += (f"{k},{k % partitions}\n" for k in range(rows))
     script += [";\n", *["ALTER TABLE t DELETE WHERE k > 99999;\n"] * mutations]
