@@ -34,6 +34,7 @@ pair-more rare x (st.AppliedDown k i) h = refl
 pair-more rare x (st.Missing k has_one i p low high level mutation) h = refl
 pair-more rare x (st.Killed k) h = refl
 pair-more rare x (st.Restarted k) h = refl
+pair-more rare x (st.Noted k b) h = refl
 pair-more rare x (st.Rare i) h = get_or_append_left rare (x ∷ []) (ev.Pull 0, rp.Done) i h
 
 pairs-more : (rare : List (Event × Reply)) (x : Event × Reply) (stored : List Stored) → Each (IsSound (length rare)) stored → map (pair_of (rare ++ x ∷ [])) stored ≡ map (pair_of rare) stored
@@ -56,6 +57,7 @@ sound-more n (st.AppliedDown k i) h = tt
 sound-more n (st.Missing k has_one i p low high level mutation) h = h
 sound-more n (st.Killed k) h = tt
 sound-more n (st.Restarted k) h = tt
+sound-more n (st.Noted k b) h = tt
 sound-more n (st.Rare i) h = omega (arith, h)
 
 all-more : (n : ℕ) (stored : List Stored) → Each (IsSound n) stored → Each (IsSound (n + 1)) stored

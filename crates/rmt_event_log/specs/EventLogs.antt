@@ -34,6 +34,7 @@ IsFrequent (ev.Apply k i) (rp.Refused rf.Down) = Unit {0}
 IsFrequent (ev.Apply k i) (rp.Refused (rf.NeedsPart part)) = Unit {0}
 IsFrequent (ev.Kill k) rp.Done = Unit {0}
 IsFrequent (ev.Restart k) rp.Done = Unit {0}
+IsFrequent (ev.Note k) (rp.Noted b) = Unit {0}
 IsFrequent event reply = ⊥
 
 -- the same event, whose block may have another owner

@@ -32,6 +32,7 @@ pair_of rare (st.Missing k has_one i p low high level mutation) =
     (ev.Apply k i, rp.Refused (rf.NeedsPart (record { partition = cond has_one (Some p) None; min = low; max = high; level = level; mutation = mutation })))
 pair_of rare (st.Killed k) = (ev.Kill k, rp.Done)
 pair_of rare (st.Restarted k) = (ev.Restart k, rp.Done)
+pair_of rare (st.Noted k b) = (ev.Note k, rp.Noted b)
 pair_of rare (st.Rare i) = slice_index_or rare i (ev.Pull 0, rp.Done)
 
 -- a rare pair has its place among so many, and a missing part a name

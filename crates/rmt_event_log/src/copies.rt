@@ -51,6 +51,7 @@ fn copy_event(alloc: Global, event: &Event) -> Result<Event, AllocError>
         }),
         Event::Kill { replica } => Ok(Event::Kill { replica: *replica }),
         Event::Restart { replica } => Ok(Event::Restart { replica: *replica }),
+        Event::Note { replica } => Ok(Event::Note { replica: *replica }),
         Event::Fetches { replica, allowed } => Ok(Event::Fetches {
             replica: *replica,
             allowed: *allowed,

@@ -108,6 +108,9 @@ fn plain(stored: &Stored) -> (Event, Reply)
         }
         Stored::Killed { replica } => (Event::Kill { replica: *replica }, Reply::Done),
         Stored::Restarted { replica } => (Event::Restart { replica: *replica }, Reply::Done),
+        Stored::Noted { replica, is_noted } => {
+            (Event::Note { replica: *replica }, Reply::Noted(*is_noted))
+        }
         Stored::Numbered { .. } | Stored::Repeated { .. } | Stored::Rare(_) => unreachable!(),
     }
 }

@@ -100,6 +100,7 @@ fn plain(event: &Event, reply: &Reply) -> Option<Stored>
         Event::Apply { replica, entry } => apply(*replica, *entry, reply),
         Event::Kill { replica } => kill(*replica, reply),
         Event::Restart { replica } => restart(*replica, reply),
+        Event::Note { replica } => note(*replica, reply),
         _ => None,
     }
 }
@@ -203,6 +204,18 @@ fn restart(replica: ReplicaId, reply: &Reply) -> Option<Stored>
 {
     match reply {
         Reply::Done => Some(Stored::Restarted { replica }),
+        _ => None,
+    }
+}
+
+fn note(replica: ReplicaId, reply: &Reply) -> Option<Stored>
+    ensures { IsSorted (ev.Note replica) reply.now result }
+{
+    match reply {
+        Reply::Noted(is_noted) => Some(Stored::Noted {
+            replica,
+            is_noted: *is_noted,
+        }),
         _ => None,
     }
 }

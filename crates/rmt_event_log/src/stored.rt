@@ -82,6 +82,11 @@ pub(crate) enum Stored {
     Restarted {
         replica: ReplicaId,
     },
+    /// A Note, and whether the replica is noted.
+    Noted {
+        replica: ReplicaId,
+        is_noted: bool,
+    },
     /// Another pair, which is at this place of the rare ones.
     Rare(usize),
 }

@@ -5,12 +5,14 @@ pub mod Copies
 pub mod Marks
 pub mod FairSteps
 pub mod ReplicaSteps
+pub mod Notes
 pub mod Moves
 pub mod WholeTable
 pub mod WholeReplica
 pub mod Supplies
 pub mod WholeTries
 pub mod WholeSessions
+pub mod WholeNotes
 pub mod WholeSteps
 pub mod Converge
 pub mod Drains

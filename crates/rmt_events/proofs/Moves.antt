@@ -4,6 +4,7 @@ use Rattle.std.proofs.lemmas.Bool.Decides.{nat_tests}
 use Rattle.std.specs.declared.option.Option.{Option}
 use Rattle.std.specs.declared.option.Option.TheVariants.{Some}
 use Rattle.rmt_values.specs.Rows.{Shape}
+use Rattle.rmt_names.specs.Names.{Name}
 use Rattle.rmt_entries.specs.declared.entry.Entry.{Entry}
 use Rattle.rmt_entries.specs.declared.entry.Entry.TheVariants.{Get, Merge, Mutate, Mutation, DropRange}
 use Rattle.rmt_model.specs.Words.{Has, Each, Pairwise}
@@ -12,6 +13,7 @@ use Rattle.rmt_model.specs.Parts.{NumberedBlock}
 use Rattle.rmt_model.specs.CopiedParts.{Copied}
 use Rattle.rmt_model.proofs.Lists.{Each-at, Each-all}
 use Rattle.rmt_model.proofs.Drops.{entry-below}
+use Rattle.rmt_model.proofs.LiveLaws.{Pairwise-cases}
 use Rattle.rmt_events.specs.Views.{Block, Staged, Replica, Table}
 use Rattle.rmt_model.specs.BlockNumbers.{next_number}
 use Rattle.rmt_events.specs.ReplicaCalls.{IsStanding}
@@ -19,6 +21,7 @@ use Rattle.rmt_events.specs.Clusters.{Attempt, Cluster, block_of, committed_at, 
 use Rattle.rmt_events.specs.Whole.{IsBlockAt, HasItsBlocks, IsRightlyStaged, IsKeptAt, Follows, IsOpen, IsCommitted, HasReplica, IsWhole}
 use Rattle.rmt_events.specs.ClusterChanges.{IsNumbered, cluster_with}
 use Rattle.rmt_events.proofs.Copies.{entry-behind}
+use Rattle.rmt_events.proofs.Notes.{NotedOn, noted-kept, notes-quiet}
 use Rattle.rmt_events.specs.declared.event.Event.{Event}
 use Rattle.rmt_events.specs.declared.reply.Reply.{Reply}
 
@@ -186,8 +189,19 @@ blocks-same (DropRange p n ∷ log) olds news h = blocks-same log olds news (λ 
 pub count-kept : (s t : Cluster) → t.table.values ≡ s.table.values → t.table.schema ≡ s.table.schema → accepted t ≡ accepted s → s.table.values ≡ values_in s.table.schema (accepted s) → t.table.values ≡ values_in t.table.schema (accepted t)
 count-kept s t v c b e = v ∙ (e ∙ (ap (λ (x : Shape). values_in x (accepted s)) (sym c) ∙ ap (λ (bs : List Accepted). values_in t.table.schema bs) (sym b)))
 
-pub whole-replaced : (s : Cluster) (k : ℕ) (x y : Replica) → IsWhole s → IsNumbered s k x → y.number ≡ x.number → Follows s y → IsWhole (cluster_with s k y)
-whole-replaced s k x y w at e f =
+-- replicas of one number are one
+pub same-numbered : (s : Cluster) (x y : Replica) → IsWhole s → Has s.replicas x → Has s.replicas y → x.number ≡ y.number → x ≡ y
+same-numbered s x y w h k e = elim (Pairwise-cases (λ a b. a.number < b.number) s.replicas x y w.rising h k) [
+  | inl q ↦ q
+  | inr o ↦ elim o [ inl u ↦ absurd (omega (arith, u, e)) | inr u ↦ absurd (omega (arith, u, e)) ]
+]
+
+-- where the replica of a number keeps its notes, all are kept
+pub noted-with : (s : Cluster) (k : ℕ) (x y : Replica) → IsWhole s → IsNumbered s k x → y.number ≡ x.number → ((a : Name) → Has x.noted a → Has y.noted a) → NotedOn s.replicas (with_replica s.replicas k y)
+noted-with s k x y w at e f = noted-kept s.replicas k y (e ∙ at.number) (λ z i n a h. f a (subst (λ (v : Replica). Has v.noted a) (same-numbered s z x w i at.is_in (n ∙ sym at.number)) h))
+
+pub whole-replaced : (s : Cluster) (k : ℕ) (x y : Replica) → IsWhole s → IsNumbered s k x → y.number ≡ x.number → ((a : Name) → Has x.noted a → Has y.noted a) → Follows s y → IsWhole (cluster_with s k y)
+whole-replaced s k x y w at e n f =
     record {
       table = w.table;
       rising = rising-with s.replicas k y (e ∙ at.number) w.rising;
@@ -196,6 +210,7 @@ whole-replaced s k x y w at e f =
       attempts = Each-all (IsOpen t) s.attempts (λ a h. open-moved s t a (omega arith) (λ b. b) (grows-same s t refl refl) (λ u. u) (Each-at (IsOpen s) s.attempts a w.attempts h));
       apart = w.apart;
       counted = w.counted;
+      notes = notes-quiet s.table s.table s.replicas (with_replica s.replicas k y) refl refl (noted-with s k x y w at e n) w.notes;
     }
   where
     t : Cluster
@@ -221,6 +236,7 @@ whole-stored s e r n w =
       attempts = Each-all (IsOpen t) s.attempts (λ a h. open-moved s t a (omega arith) (λ b. n.offers_none s.events a.id ∙ b) grows (λ u. u) (Each-at (IsOpen s) s.attempts a w.attempts h));
       apart = w.apart;
       counted = count-kept s t refl refl (blocks-same s.table.log s.events ((e, r) ∷ s.events) (λ i l. n.commits_none s.events i)) w.counted;
+      notes = w.notes;
     }
   where
     t : Cluster

@@ -30,4 +30,5 @@ whole-start schema sessions replicas n =
       attempts = tt;
       apart = tt;
       counted = refl;
+      notes = record { pending = λ q e. absurd (cc); last = λ a e. absurd (cc) };
     }

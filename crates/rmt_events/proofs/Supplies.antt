@@ -76,7 +76,13 @@ number-applies s x y i ap_.Dropped a = ap (λ (z : Replica). z.number) (Settles.
 number-applies s x y i ap_.Installed (inl a) = ap (λ (z : Replica). z.number) a.1.change
 number-applies s x y i ap_.Installed (inr a) = ap (λ (z : Replica). z.number) a.does.change
 
+notes-applies : (s : Cluster) (x y : Replica) (i : ℕ) (c : Applied) → AppliesTo s i c x y → (a : Name) → Has x.noted a → Has y.noted a
+notes-applies s x y i ap_.Already a b h = subst (λ (z : Replica). Has z.noted b) (sym (Settles.change a.1)) h
+notes-applies s x y i ap_.Dropped a b h = subst (λ (z : Replica). Has z.noted b) (sym (Settles.change a.1)) h
+notes-applies s x y i ap_.Installed (inl a) b h = subst (λ (z : Replica). Has z.noted b) (sym (a.1.change)) h
+notes-applies s x y i ap_.Installed (inr a) b h = subst (λ (z : Replica). Has z.noted b) (sym (a.does.change)) h
+
 pub whole-applies : (s t : Cluster) (k i : ℕ) (reply : Reply) → IsWhole s → Applies s k i reply t → IsWhole t
 whole-applies s t k i reply w a =
     let r = a.at in
-    subst IsWhole (sym r.change) (whole-replaced s k r.old r.new w r.at (number-applies s r.old r.new i a.comes r.does.1) (follows-applies s r.old r.new i a.comes w (follower s k r.old w r.at) r.does.1))
+    subst IsWhole (sym r.change) (whole-replaced s k r.old r.new w r.at (number-applies s r.old r.new i a.comes r.does.1) (notes-applies s r.old r.new i a.comes r.does.1) (follows-applies s r.old r.new i a.comes w (follower s k r.old w r.at) r.does.1))

@@ -53,7 +53,7 @@ follows-copies s x y log w f g h e =
 
 -- a replica has copied some of the log
 pub whole-copies : (s t : Cluster) (k : ℕ) (log : List Entry) → IsWhole s → IsPrefix log s.table.log → AtReplica s k (λ x y. IsPrefix x.log log × Pulls x log y) t → IsWhole t
-whole-copies s t k log w h a = subst IsWhole (sym a.change) (whole-replaced s k a.old a.new w a.at (ap (λ (z : Replica). z.number) a.does.1) (follows-copies s a.old a.new log w (follower s k a.old w a.at) a.does.0 h a.does.1))
+whole-copies s t k log w h a = subst IsWhole (sym a.change) (whole-replaced s k a.old a.new w a.at (ap (λ (z : Replica). z.number) a.does.1) (λ b h. subst (λ (z : Replica). Has z.noted b) (sym a.does.1) h) (follows-copies s a.old a.new log w (follower s k a.old w a.at) a.does.0 h a.does.1))
 
 pub whole-pulls : (s t : Cluster) (k : ℕ) → IsWhole s → AtReplica s k (λ x y. Pulls x s.table.log y) t → IsWhole t
 whole-pulls s t k w a = whole-copies s t k s.table.log w (goes-on-refl s.table.log) (record {
@@ -153,7 +153,7 @@ follows-settles s x y i w f e =
 -- ---- a drop
 
 -- a Get whose result an active part covers stands in the copy
-covered-made : (s : Cluster) (x : Replica) (p : Option ℕ) (n source need : ℕ) (digest : List ℕ) → IsWhole s → Follows s x → Has s.table.log (Get p n digest source need) → CoveredBy (names_of x.parts) (block_name p n) → Has (made x.log) (block_name p n)
+pub covered-made : (s : Cluster) (x : Replica) (p : Option ℕ) (n source need : ℕ) (digest : List ℕ) → IsWhole s → Follows s x → Has s.table.log (Get p n digest source need) → CoveredBy (names_of x.parts) (block_name p n) → Has (made x.log) (block_name p n)
 covered-made s x p n source need digest w f h k =
     let m = Each-at (λ a. Has (made x.log) a) (names_of x.parts) k.name f.stands.fair.made_here k.is_in in
     let l = subst (Lawful s.table.schema) (IsPrefix.is f.prefix) (IsSoundTable.lawful w.table) in

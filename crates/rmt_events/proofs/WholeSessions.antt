@@ -8,7 +8,7 @@ use Rattle.rmt_entries.specs.declared.entry.Entry.{Entry}
 use Rattle.rmt_entries.specs.declared.entry.Entry.TheVariants.{Get}
 use Rattle.rmt_model.specs.Words.{Has, Each, Pairwise}
 use Rattle.rmt_model.specs.Lawful.{Used, entry_at, IsPrefix}
-use Rattle.rmt_names.specs.Names.{block_name}
+use Rattle.rmt_names.specs.Names.{Name, block_name}
 use Rattle.rmt_model.specs.Live.{Dropped}
 use Rattle.rmt_model.specs.Fair.{CoveredBy}
 use Rattle.rmt_model.specs.CopiedParts.{Copied, names_of}
@@ -23,7 +23,8 @@ use Rattle.rmt_events.specs.Whole.{HasItsBlocks, IsRightlyStaged, IsKeptAt, Foll
 use Rattle.rmt_events.specs.ClusterChanges.{IsNumbered}
 use Rattle.rmt_events.specs.Steps.{Kills, Restarts}
 use Rattle.rmt_events.proofs.TableSteps.{session-from, session-new, session-old, sound-closes, sound-opens}
-use Rattle.rmt_events.proofs.Moves.{count-kept, goes-on-refl, GrowsTo, Suits, blocks-moved, staged-moved, follows-moved, rising-with, there-with}
+use Rattle.rmt_events.proofs.Moves.{count-kept, goes-on-refl, GrowsTo, Suits, blocks-moved, staged-moved, follows-moved, rising-with, there-with, noted-with}
+use Rattle.rmt_events.proofs.Notes.{notes-quiet}
 use Rattle.rmt_events.proofs.ReplicaSteps.{stands-dies, stands-wakes}
 use Rattle.rmt_events.proofs.WholeReplica.{follower}
 use Rattle.rmt_events.specs.declared.reply.Reply.{Reply}
@@ -43,6 +44,8 @@ pub record Reopens (s : Cluster) (k : ℕ) (x y : Replica) (u : Table) : Type 0 
   pub copy_is : y.log ≡ x.log
   pub parts_are : y.parts ≡ x.parts
   pub staged_are : y.staged ≡ x.staged
+  pub noted_are : y.noted ≡ x.noted
+  pub quorum_is : u.quorum ≡ s.table.quorum
 
 each-other : (P : Replica → Type 0) (xs : List Replica) (k : ℕ) (y : Replica) → Pairwise (λ a b. a.number < b.number) xs → P y → ((z : Replica) → Has xs z → (z.number ≡ k → ⊥) → P z) → Each P (with_replica xs k y)
 each-other P [] k y r p f = tt
@@ -69,6 +72,7 @@ whole-reopens s k x y u w at r =
       });
       apart = w.apart;
       counted = count-kept s new r.values_are r.schema_is (ap (λ (l : List Entry). blocks_in l s.events) r.log_is) w.counted;
+      notes = notes-quiet s.table u s.replicas (with_replica s.replicas k y) r.quorum_is r.log_is (noted-with s k x y w at r.number_is (λ a h. subst (λ (l : List Name). Has l a) (sym r.noted_are) h)) w.notes;
     }
   where
     new : Cluster
@@ -137,6 +141,8 @@ whole-kills s t k reply w e =
       copy_is = ap (λ (z : Replica). z.log) e.dies;
       parts_are = ap (λ (z : Replica). z.parts) e.dies;
       staged_are = ap (λ (z : Replica). z.staged) e.dies;
+      noted_are = ap (λ (z : Replica). z.noted) e.dies;
+      quorum_is = ap (λ (u : Table). u.quorum) e.closes;
     }))
 
 pub whole-restarts : (s t : Cluster) (k : ℕ) (reply : Reply) → IsWhole s → Restarts s k reply t → IsWhole t
@@ -161,6 +167,8 @@ whole-restarts s t k reply w e =
       copy_is = ap (λ (z : Replica). z.log) e.wakes;
       parts_are = ap (λ (z : Replica). z.parts) e.wakes;
       staged_are = ap (λ (z : Replica). z.staged) e.wakes;
+      noted_are = ap (λ (z : Replica). z.noted) e.wakes;
+      quorum_is = ap (λ (u : Table). u.quorum) e.opens ∙ ap (λ (u : Table). u.quorum) e.closes;
     }))
   where
     rest : (j : ℕ) → (j ≡ k → ⊥) → (k ≡ j) ⊎ Has (filter (λ i. not (nat_eq i k)) e.closed.sessions) j → Has (filter (λ i. not (nat_eq i k)) e.closed.sessions) j

@@ -10,6 +10,7 @@ use Rattle.rmt_events.proofs.WholeReplica.{follower, whole-pulls}
 use Rattle.rmt_events.proofs.Supplies.{whole-applies}
 use Rattle.rmt_events.proofs.WholeTries.{whole-tries, whole-again, whole-stages, whole-ends, whole-accepts}
 use Rattle.rmt_events.proofs.WholeSessions.{whole-kills, whole-restarts}
+use Rattle.rmt_events.proofs.WholeNotes.{whole-notes}
 use Rattle.rmt_events.specs.declared.event.Event.{Event}
 use Rattle.rmt_events.specs.declared.reply.Reply.{Reply}
 use Rattle.rmt_events.specs.declared.step_refused.StepRefused.{StepRefused}
@@ -28,7 +29,7 @@ declined s t e r Cause w d f =
 whole-switched : (s t : Cluster) (k : ℕ) (allowed : Bool) (r : Reply) → IsWhole s → Switches s k allowed r t → IsWhole t
 whole-switched s t k allowed r w a =
     let f = follower s k a.old w a.at in
-    subst IsWhole (sym a.change) (whole-replaced s k a.old (record a.old { fetches = allowed }) w a.at refl (same f))
+    subst IsWhole (sym a.change) (whole-replaced s k a.old (record a.old { fetches = allowed }) w a.at refl (λ b h. h) (same f))
   where
     same : Follows s a.old → Follows s (record a.old { fetches = allowed })
     same f = record {
@@ -71,6 +72,9 @@ whole-does s t (ev.DropPartition p) r w (inr (inl d)) = whole-stored t (ev.DropP
 whole-does s t (ev.DropPartition p) r w (inr (inr d)) = declined s t (ev.DropPartition p) r _ w d (λ why. record { commits_none = λ rest i. refl; offers_none = λ rest a. refl })
 whole-does s t (ev.Kill k) r w d = whole-stored t (ev.Kill k) r (record { commits_none = λ rest i. refl; offers_none = λ rest a. refl }) (whole-kills s t k r w d)
 whole-does s t (ev.Restart k) r w d = whole-stored t (ev.Restart k) r (record { commits_none = λ rest i. refl; offers_none = λ rest a. refl }) (whole-restarts s t k r w d)
+whole-does s t (ev.Note k) r w (inl d) = whole-stored t (ev.Note k) r (record { commits_none = λ rest i. refl; offers_none = λ rest a. refl }) (whole-notes s t k r w d)
+whole-does s t (ev.Note k) r w (inr (inl d)) = whole-stored t (ev.Note k) r (record { commits_none = λ rest i. refl; offers_none = λ rest a. refl }) (subst IsWhole (sym d.unchanged) w)
+whole-does s t (ev.Note k) r w (inr (inr d)) = declined s t (ev.Note k) r _ w d (λ why. record { commits_none = λ rest i. refl; offers_none = λ rest a. refl })
 whole-does s t (ev.Fetches k allowed) r w d = whole-stored t (ev.Fetches k allowed) r (record { commits_none = λ rest i. refl; offers_none = λ rest a. refl }) (whole-switched s t k allowed r w d)
 
 -- each event leaves all whole

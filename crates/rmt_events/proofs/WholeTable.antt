@@ -15,7 +15,9 @@ use Rattle.rmt_model.specs.BlockNumbers.{next_number}
 use Rattle.rmt_events.specs.TableCalls.{AssignsMerge, AssignsMutate, CreatesMutation, DropsPartition}
 use Rattle.rmt_events.specs.Sound.{IsSoundTable}
 use Rattle.rmt_events.specs.Clusters.{blocks_in, Attempt, Cluster}
-use Rattle.rmt_events.specs.Whole.{Follows, IsOpen, IsCommitted, IsWhole}
+use Rattle.rmt_model.specs.Quorum.{quorum_blocks}
+use Rattle.rmt_events.specs.Whole.{Follows, IsOpen, IsCommitted, KeepNotes, IsWhole}
+use Rattle.rmt_events.proofs.Notes.{noted-same, notes-on, notes-same, pending-left, last-left}
 use Rattle.rmt_events.specs.ClusterChanges.{AtTable}
 use Rattle.rmt_events.proofs.Numbers.{next-has, next-advanced}
 use Rattle.rmt_events.proofs.TableSteps.{still-below, sound-merges, sound-mutates, sound-mutation, sound-drops}
@@ -35,6 +37,7 @@ pub record Gains (old : Table) (e : Entry) (new : Table) : Type 0 where
   pub none : GetsNone e
   pub uses : (p : Option ℕ) (n : ℕ) → Uses e p n → next_number old.next p ≤ n
   pub next_on : (p : Option ℕ) (m : ℕ) → m < next_number old.next p → m < next_number new.next p
+  pub notes_on : (xs : List Replica) → KeepNotes old xs → KeepNotes new xs
 
 older-entry : (s : Cluster) (u : Table) (e : Entry) (i n source need : ℕ) (p : Option ℕ) (digest : List ℕ) → Gains s.table e u → entry_at u.log i ≡ Some (Get p n digest source need) → entry_at s.table.log i ≡ Some (Get p n digest source need)
 older-entry s u e i n source need p digest g q =
@@ -51,6 +54,7 @@ whole-gains s u e w g =
       attempts = Each-all (IsOpen t) s.attempts (λ a h. try a (Each-at (IsOpen s) s.attempts a w.attempts h));
       apart = w.apart;
       counted = count-kept s t g.values_are g.schema_is (ap (λ (l : List Entry). blocks_in l s.events) g.log_is ∙ no-block e g.none) w.counted;
+      notes = g.notes_on s.replicas w.notes;
     }
   where
     t : Cluster
@@ -103,6 +107,7 @@ gains-merge t u name olds count s c =
       none = λ p n source need digest q. absurd (cc);
       uses = λ p n k. absurd k;
       next_on = λ p m l. subst (λ (x : Table). m < next_number x.next p) (sym c.change) l;
+      notes_on = λ xs k. notes-same t u xs xs (ap (λ (x : Table). x.quorum) c.change) (λ b h. subst (λ (x : Table). Has (quorum_blocks x.log) b) (sym c.change) h) (noted-same xs) k;
     }
 
 gains-mutate : (t u : Table) (old name : Name) (upto count mcount : ℕ) → IsSoundTable t → AssignsMutate t old name upto count mcount u → Gains t (Mutate old name upto count mcount) u
@@ -116,6 +121,7 @@ gains-mutate t u old name upto count mcount s c =
       none = λ p n source need digest q. absurd (cc);
       uses = λ p n k. absurd k;
       next_on = λ p m l. subst (λ (x : Table). m < next_number x.next p) (sym c.change) l;
+      notes_on = λ xs k. notes-same t u xs xs (ap (λ (x : Table). x.quorum) c.change) (λ b h. subst (λ (x : Table). Has (quorum_blocks x.log) b) (sym c.change) h) (noted-same xs) k;
     }
 
 pub whole-merge : (s t : Cluster) (name : Name) (olds : List Name) (count : ℕ) → IsWhole s → AtTable s (λ u v. AssignsMerge u name olds count v) t → IsWhole t
@@ -134,6 +140,7 @@ whole-mutation s t command w c = subst IsWhole (sym c.change) (whole-gains s c.n
   none = λ p n source need digest q. absurd (cc);
   uses = λ p n k. let e = next-has s.table.next p n (IsSoundTable.ordered w.table) k in omega (arith, e);
   next_on = λ p m l. subst (λ (x : Table). m < next_number x.next p) (sym c.does.change) (let e = next-advanced s.table.next p in omega (arith, e, l));
+  notes_on = λ xs k. notes-same s.table c.new xs xs (ap (λ (x : Table). x.quorum) c.does.change) (λ b h. subst (λ (x : Table). Has (quorum_blocks x.log) b) (sym c.does.change) h) (noted-same xs) k;
 }))
 
 pub whole-drop : (s t : Cluster) (p : Option ℕ) (n : ℕ) → IsWhole s → AtTable s (λ u v. DropsPartition u p n v) t → IsWhole t
@@ -146,4 +153,8 @@ whole-drop s t p n w c = subst IsWhole (sym c.change) (whole-gains s c.new (Drop
   none = λ q m source need digest e. absurd (cc);
   uses = λ q m k. let e = c.does.number in let f = k.1 in subst (λ (o : Option ℕ). next_number s.table.next o ≤ m) k.0 (omega (arith, e, f));
   next_on = λ q m l. subst (λ (x : Table). m < next_number x.next q) (sym c.does.change) (still-below s.table.next p q (n + 1) m (let e = c.does.number in omega (arith, e)) l);
+  notes_on = λ xs k. notes-on s.table c.new xs xs
+      (λ q e. inl (pending-left p n s.table.quorum.pending q (ap (λ (x : Table). x.quorum.pending) (sym c.does.change) ∙ e)))
+      (λ a e. last-left p n s.table.quorum.last a (ap (λ (x : Table). x.quorum.last) (sym c.does.change) ∙ e))
+      (λ b h. subst (λ (x : Table). Has (quorum_blocks x.log) b) (sym c.does.change) h) (noted-same xs) k;
 }))

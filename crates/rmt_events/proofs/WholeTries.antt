@@ -1,5 +1,5 @@
 -- The events of inserts, and those of sessions, leave all whole.
-use Rattle.std.proofs.Common.{◌≡◌, ℕ, ◌+◌, ◌<◌, ◌⊎◌, inl, inr, Bool, true, false, not, cond, List, [], ◌∷◌, length, refl, sym, ap, subst, arith, ◌∙◌, nat_eq, filter}
+use Rattle.std.proofs.Common.{◌≡◌, ℕ, ◌+◌, ◌<◌, ◌⊎◌, inl, inr, Bool, true, false, not, cond, List, [], ◌∷◌, length, refl, sym, ap, subst, arith, ◌∙◌, nat_eq, nat_le, filter}
 use Rattle.std.proofs.lemmas.Bool.Decides.{nat_tests}
 use Rattle.std.specs.declared.option.Option.{Option}
 use Rattle.std.specs.declared.option.Option.TheVariants.{Some}
@@ -20,9 +20,12 @@ use Rattle.rmt_events.specs.Clusters.{Attempt, Cluster, block_of, committed_at, 
 use Rattle.rmt_events.specs.Whole.{HasItsBlocks, IsRightlyStaged, IsKeptAt, Follows, IsOpen, IsCommitted, HasReplica, HoldDifferentNumbers, IsWhole}
 use Rattle.rmt_events.specs.ClusterChanges.{attempts_without, renumbered, cluster_with}
 use Rattle.rmt_events.specs.InsertEvents.{BeginsAttempt, RenewsAttempt, StagesAttempt, AcceptsBlock, EndsAttempt}
+use Rattle.rmt_names.specs.Names.{block_name}
+use Rattle.rmt_model.specs.Quorum.{quorum_blocks}
+use Rattle.rmt_events.proofs.Notes.{noted-same, notes-on, notes-quiet, pending-opened, block-asked}
 use Rattle.rmt_events.proofs.Numbers.{next-with}
 use Rattle.rmt_events.proofs.TableSteps.{still-below, sound-allocates, sound-commits, sound-fewer}
-use Rattle.rmt_events.proofs.Moves.{blocks-same, count-kept, goes-on-refl, goes-on-more, GrowsTo, Suits, follows-moved, suits-same, open-moved, whole-replaced}
+use Rattle.rmt_events.proofs.Moves.{blocks-same, count-kept, goes-on-refl, goes-on-more, GrowsTo, Suits, follows-moved, suits-same, open-moved, same-numbered, whole-replaced}
 use Rattle.rmt_events.proofs.ReplicaSteps.{stands-stages, stands-unstages}
 use Rattle.rmt_events.proofs.WholeReplica.{IsGetAt, still-waits, follower}
 use Rattle.rmt_events.specs.declared.event.Event.{Event}
@@ -49,6 +52,7 @@ whole-tries s t v k b need reply o w e =
       attempts = (first, Each-all (IsOpen new) s.attempts (λ a h. rest a (Each-at (IsOpen s) s.attempts a w.attempts h)));
       apart = (Each-all (HoldDifferentNumbers attempt) s.attempts (λ a h. others a (Each-at (IsOpen s) s.attempts a w.attempts h)), w.apart);
       counted = count-kept s new (ap (λ (u : Table). u.values) e.call.change) (ap (λ (u : Table). u.schema) e.call.change) (ap (λ (l : List Entry). blocks_in l new.events) log-is ∙ blocks-same s.table.log s.events new.events (λ i l. o.commits s.events s.attempts_made e.number i)) w.counted;
+      notes = notes-quiet s.table e.table s.replicas s.replicas (ap (λ (u : Table). u.quorum) e.call.change) log-is (noted-same s.replicas) w.notes;
     }))
   where
     attempt : Attempt
@@ -126,6 +130,7 @@ whole-fewer s id w =
       attempts = Each-all (IsOpen new) (attempts_without s.attempts id) (λ a h. let o = Each-at (IsOpen s) s.attempts a w.attempts (Has-filter stays s.attempts a h).0 in record { counted = o.counted; allocated = o.allocated; below = o.below; unused = o.unused });
       apart = Pairwise-filter HoldDifferentNumbers stays s.attempts w.apart;
       counted = w.counted;
+      notes = w.notes;
     }
   where
     stays : Attempt → Bool
@@ -194,6 +199,7 @@ whole-again s t id reply w e =
       ]);
       apart = renumbered-apart s.attempts id e.number others w.apart;
       counted = count-kept s new (ap (λ (u : Table). u.values) e.call.change) (ap (λ (u : Table). u.schema) e.call.change) (ap (λ (l : List Entry). blocks_in l s.events) log-is) w.counted;
+      notes = notes-quiet s.table e.table s.replicas s.replicas (ap (λ (u : Table). u.quorum) e.call.change) log-is (noted-same s.replicas) w.notes;
     })
   where
     attempt : Attempt
@@ -343,7 +349,7 @@ follows-stages s x y a w f h e =
 pub whole-stages : (s t : Cluster) (id : ℕ) (reply : Reply) → IsWhole s → StagesAttempt s id reply t → IsWhole t
 whole-stages s t id reply w e =
     let r = e.at in
-    subst IsWhole (sym r.change) (whole-replaced s e.attempt.replica r.old r.new w r.at (ap (λ (z : Replica). z.number) r.does) (follows-stages s r.old r.new e.attempt w (follower s e.attempt.replica r.old w r.at) e.is.is_in r.does))
+    subst IsWhole (sym r.change) (whole-replaced s e.attempt.replica r.old r.new w r.at (ap (λ (z : Replica). z.number) r.does) (λ a h. subst (λ (z : Replica). Has z.noted a) (sym r.does) h) (follows-stages s r.old r.new e.attempt w (follower s e.attempt.replica r.old w r.at) e.is.is_in r.does))
 
 -- ---- a try ends
 
@@ -357,6 +363,7 @@ whole-unlocked s test w =
       attempts = Each-all (IsOpen new) s.attempts (λ a h. let o = Each-at (IsOpen s) s.attempts a w.attempts h in record { counted = o.counted; allocated = o.allocated; below = o.below; unused = o.unused });
       apart = w.apart;
       counted = w.counted;
+      notes = record { pending = w.notes.pending; last = w.notes.last };
     }
   where
     new : Cluster
@@ -387,7 +394,7 @@ follows-unstages s x a w f h =
 
 pub whole-ends : (s t : Cluster) (id : ℕ) → IsWhole s → EndsAttempt s id t → IsWhole t
 whole-ends s t id w e =
-    subst IsWhole (sym same) (whole-fewer (cluster_with locked e.attempt.replica y) id (whole-replaced locked e.attempt.replica e.replica y v (record { is_in = e.at.is_in; number = e.at.number }) refl (follows-unstages locked e.replica e.attempt v (follower locked e.attempt.replica e.replica v (record { is_in = e.at.is_in; number = e.at.number })) e.is.is_in)))
+    subst IsWhole (sym same) (whole-fewer (cluster_with locked e.attempt.replica y) id (whole-replaced locked e.attempt.replica e.replica y v (record { is_in = e.at.is_in; number = e.at.number }) refl (λ a h. h) (follows-unstages locked e.replica e.attempt v (follower locked e.attempt.replica e.replica v (record { is_in = e.at.is_in; number = e.at.number })) e.is.is_in)))
   where
     locked : Cluster
     locked = record s { table = record s.table { locks = locks_without s.table.locks e.attempt.block.partition e.attempt.number } }
@@ -412,10 +419,7 @@ whole-ends s t id w e =
 
 -- replicas of one number are one
 pub one-replica : (s : Cluster) (x y : Replica) → IsWhole s → Has s.replicas x → Has s.replicas y → x.number ≡ y.number → x ≡ y
-one-replica s x y w h k e = elim (Pairwise-cases (λ a b. a.number < b.number) s.replicas x y w.rising h k) [
-  | inl q ↦ q
-  | inr o ↦ elim o [ inl u ↦ absurd (omega (arith, u, e)) | inr u ↦ absurd (omega (arith, u, e)) ]
-]
+one-replica = same-numbered
 
 pub whole-accepts : (s t : Cluster) (id : ℕ) (reply : Reply) → IsWhole s → AcceptsBlock s id reply t → IsWhole (record t { events = (ev.Commit id, reply) ∷ t.events })
 whole-accepts s t id reply w e =
@@ -431,6 +435,11 @@ whole-accepts s t id reply w e =
       attempts = Each-all (IsOpen new) (attempts_without s.attempts id) (λ b h. rest b (Has-filter stays s.attempts b h).0 (Has-filter stays s.attempts b h).1);
       apart = Pairwise-filter HoldDifferentNumbers stays s.attempts w.apart;
       counted = count;
+      notes = notes-on s.table e.table s.replicas s.replicas
+          (λ q i. pending-opened (nat_le 2 a.need) (block_name a.block.partition a.number) a.need s.table.quorum.pending q (ap (λ (u : Table). u.quorum.pending) (sym e.call.change) ∙ i))
+          (λ b i. ap (λ (u : Table). u.quorum.last) (sym e.call.change) ∙ i)
+          (λ b h. subst (λ (l : List Entry). Has (quorum_blocks l) b) (sym log-is) (block-asked (nat_le 2 a.need) (record { part = block_name a.block.partition a.number; need = a.need }) (quorum_blocks s.table.log) b h))
+          (noted-same s.replicas) w.notes;
     }))
   where
     a : Attempt

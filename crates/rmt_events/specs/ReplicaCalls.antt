@@ -134,6 +134,18 @@ Stages r n b s = s ≡ record r { staged = staged_with r.staged n b }
 abbrev pub Unstages : Replica → Option ℕ → ℕ → Replica → Type 0
 Unstages r p n s = s ≡ record r { staged = staged_without r.staged p n }
 
+-- the noted parts with one more, where it isn't among them
+pub record ListsNote (old : List Name) (a : Name) (new : List Name) : Type 0 where
+  pub there : Has new a
+  pub kept : (b : Name) → Has old b → Has new b
+  pub only : (b : Name) → Has new b → (b ≡ a) ⊎ Has old b
+
+-- an active part covers the part, which is noted
+pub record NotesPart (r : Replica) (a : Name) (s : Replica) : Type 0 where
+  pub covered : CoveredBy (names_of r.parts) a
+  pub lists : ListsNote r.noted a s.noted
+  pub change : s ≡ record r { noted = s.noted }
+
 -- the replica is down
 abbrev pub GoesDown : Replica → Replica → Type 0
 GoesDown r s = s ≡ record r { up = false }

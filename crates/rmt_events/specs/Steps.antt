@@ -1,14 +1,18 @@
 -- What each event does: the one call that it makes, or why it is refused; and what a list of events leads to.
 -- No public source: the events are this program's own, one for each call on a table or a replica that ClickHouse's
 -- documentation on Data Replication and ALTER speaks of.
-use Rattle.std.specs.Prelude.{◌≡◌, ◌⊎◌, ℕ, Bool, List, [], ◌∷◌, length}
+use Rattle.std.specs.Prelude.{◌≡◌, ◌⊎◌, ℕ, Bool, true, false, List, [], ◌∷◌, length}
+use Rattle.std.specs.declared.option.Option.TheVariants.{Some}
 use Rattle.std.specs.Arc.{arc_value}
+use Rattle.rmt_model.specs.Fair.{CoveredBy}
+use Rattle.rmt_model.specs.CopiedParts.{names_of}
+use Rattle.rmt_model.specs.Quorum.{Pending}
 use Rattle.rmt_events.specs.Views.{Replica, Table}
-use Rattle.rmt_events.specs.TableCalls.{CreatesMutation, DropsPartition, Closes, Opens}
+use Rattle.rmt_events.specs.TableCalls.{CreatesMutation, DropsPartition, Closes, Opens, Notes}
 use Rattle.rmt_events.specs.TableRefusals.{NoNumber, NoMutation, NoDrop}
-use Rattle.rmt_events.specs.ReplicaCalls.{Pulls, GoesDown, ComesUp}
+use Rattle.rmt_events.specs.ReplicaCalls.{Pulls, GoesDown, ComesUp, NotesPart}
 use Rattle.rmt_events.specs.Clusters.{Cluster, without_kinds, with_replica}
-use Rattle.rmt_events.specs.ClusterChanges.{IsNumbered, cluster_with, Declines, AtReplica, Appends, IsDown}
+use Rattle.rmt_events.specs.ClusterChanges.{IsNumbered, cluster_with, Declines, AtReplica, Appends, IsDown, IsUp}
 use Rattle.rmt_events.specs.InsertEvents.{BeginsAttempt, RenewsAttempt, NoOther, StagesAttempt, NoStage, AcceptsBlock, EndsAttempt, NoCommit, LosesAttempt, NoEnd}
 use Rattle.rmt_events.specs.ApplyEvents.{Applies, NoApply}
 use Rattle.rmt_events.specs.LogEvents.{MergesParts, NoMerge, MutatesPart, NoMutate, DropsNothing}
@@ -30,6 +34,34 @@ pub record PullsLog (s : Cluster) (k : ℕ) (reply : Reply) (t : Cluster) : Type
 abbrev pub NoPull : Cluster → ℕ → StepRefused → Type 0
 NoPull s k rf.Down = IsDown s k
 NoPull s k why = ⊥
+
+-- ---- Note
+
+-- a replica that is up notes the part that waits for its quorum, and the table has its note
+pub record NotesPending (s : Cluster) (k : ℕ) (reply : Reply) (t : Cluster) : Type 0 where
+  pub old : Replica
+  pub new : Replica
+  pub is : IsUp s k old
+  pub waiting : Pending
+  pub waits : s.table.quorum.pending ≡ Some waiting
+  pub notes : NotesPart old waiting.part new
+  pub table : Table
+  pub call : Notes s.table k table
+  pub answer : reply ≡ rp.Noted true
+  pub change : t ≡ record s { table = table; replicas = with_replica s.replicas k new }
+
+-- a replica that is up has no active part that covers one that waits for its quorum
+pub record NotesNothing (s : Cluster) (k : ℕ) (reply : Reply) (t : Cluster) : Type 0 where
+  pub replica : Replica
+  pub is : IsUp s k replica
+  pub none : (q : Pending) → s.table.quorum.pending ≡ Some q → CoveredBy (names_of replica.parts) q.part → ⊥
+  pub answer : reply ≡ rp.Noted false
+  pub unchanged : t ≡ s
+
+-- why nothing is noted
+abbrev pub NoNote : Cluster → ℕ → StepRefused → Type 0
+NoNote s k rf.Down = IsDown s k
+NoNote s k why = ⊥
 
 -- ---- Kill, Restart, Fetches
 
@@ -82,6 +114,7 @@ Does s (ev.CreateMutation command) reply t = Appends s (λ u v. CreatesMutation 
 Does s (ev.DropPartition p) reply t = ((n : ℕ) × Appends s (λ u v. DropsPartition u p n v) reply t) ⊎ (DropsNothing s p reply t ⊎ Declines s (NoDrop s.table p) reply t)
 Does s (ev.Kill k) reply t = Kills s k reply t
 Does s (ev.Restart k) reply t = Restarts s k reply t
+Does s (ev.Note k) reply t = NotesPending s k reply t ⊎ (NotesNothing s k reply t ⊎ Declines s (NoNote s k) reply t)
 Does s (ev.Fetches k allowed) reply t = Switches s k allowed reply t
 
 -- one event, which is stored with its reply

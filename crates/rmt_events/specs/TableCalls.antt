@@ -8,7 +8,7 @@ use Rattle.std.specs.declared.option.Option.{Option}
 use Rattle.std.specs.declared.option.Option.TheVariants.{Some, None}
 use Rattle.rmt_values.specs.declared.checked_mutation.CheckedMutation.{CheckedMutation}
 use Rattle.rmt_values.specs.Commands.{CommandFits}
-use Rattle.rmt_names.specs.Names.{Name, rank, Spans, block_name}
+use Rattle.rmt_names.specs.Names.{Name, rank, Covers, Spans, block_name}
 use Rattle.rmt_entries.specs.declared.entry.Entry.{Entry}
 use Rattle.rmt_entries.specs.declared.entry.Entry.TheVariants.{Get, Merge, Mutate, Mutation, DropRange}
 use Rattle.rmt_model.specs.Words.{Has, Each}
@@ -16,7 +16,7 @@ use Rattle.rmt_model.specs.Lawful.{Meets, mutation_count}
 use Rattle.rmt_model.specs.Window.{Kept}
 use Rattle.rmt_model.specs.BlockNumbers.{next_number, with_next, next_numbers_after}
 use Rattle.rmt_model.specs.EntryLimits.{worker_limit, allocate_limit, commit_limit, mutation_limit, drop_limit}
-use Rattle.rmt_model.specs.Quorum.{quorum_after_block, quorum_after_drop, quorum_after_note}
+use Rattle.rmt_model.specs.Quorum.{Pending, quorum_after_block, quorum_after_drop, quorum_after_note}
 use Rattle.rmt_events.specs.Views.{Lock, Table}
 
 -- the number n of p is held
@@ -97,10 +97,17 @@ pub record Commits (old : Table) (p : Option ℕ) (n : ℕ) (digest : List ℕ) 
 abbrev pub Unlocks : Table → Option ℕ → ℕ → Table → Type 0
 Unlocks old p n new = new ≡ record old { locks = locks_without old.locks p n }
 
--- a merge enters the log: it meets its line of a lawful log, and no lock lies in its range
+-- none of the names covers the part that waits for its quorum
+abbrev pub AreQuiet : Option Pending → List Name → Type 0
+AreQuiet None names = Unit {0}
+AreQuiet (Some q) names = Each (λ c. Covers c q.part → ⊥) names
+
+-- a merge enters the log: it meets its line of a lawful log, no lock lies in its range, and none of its sources waits for its
+-- quorum
 pub record AssignsMerge (old : Table) (name : Name) (sources : List Name) (count : ℕ) (new : Table) : Type 0 where
   pub meets : Meets old.schema old.log (Merge name sources count)
   pub free : Each (λ k. Spans name k.partition k.number → ⊥) old.locks
+  pub quiet : AreQuiet old.quorum.pending sources
   pub within : worker_limit old.log ≡ None
   pub change : new ≡ with_entry (Merge name sources count) old
 

@@ -4,7 +4,7 @@
 use Rattle.std.specs.Prelude.{◌≡◌, ◌⊎◌, ℕ, ◌<◌, ◌≤◌, List, [], ◌∷◌, length}
 use Rattle.std.specs.declared.option.Option.{Option}
 use Rattle.std.specs.declared.option.Option.TheVariants.{Some, None}
-use Rattle.rmt_names.specs.Names.{Name, Spans, merged_name}
+use Rattle.rmt_names.specs.Names.{Name, Covers, Spans, merged_name}
 use Rattle.rmt_entries.specs.declared.entry.Entry.{Entry}
 use Rattle.rmt_model.specs.Words.{Has}
 use Rattle.rmt_model.specs.Lawful.{ver}
@@ -64,16 +64,38 @@ NotAccepted t p digest need values why = ⊥
 abbrev pub HasMoved : Table → ℕ → ℕ → ℕ → Type 0
 HasMoved t len seen found = (seen ≡ len) × (found ≡ length t.log) × (seen < found)
 
--- the first neighbours among the names whose versions differ
-abbrev pub AreFirstToDiffer : List Entry → List Name → Name → Name → Type 0
-AreFirstToDiffer log [] left right = ⊥
-AreFirstToDiffer log (a ∷ []) left right = ⊥
-AreFirstToDiffer log (a ∷ b ∷ rest) left right =
-    ((ver log a ≡ ver log b → ⊥) × (left ≡ a) × (right ≡ b)) ⊎ ((ver log a ≡ ver log b) × AreFirstToDiffer log (b ∷ rest) left right)
+-- one of two names covers the part that waits for its quorum, which is this
+abbrev pub HoldPending : Option Pending → Name → Name → Name → Type 0
+HoldPending None a b part = ⊥
+HoldPending (Some q) a b part = (part ≡ q.part) × (Covers a q.part ⊎ Covers b q.part)
 
--- the names are of one version
-abbrev pub AreAlike : List Entry → List Name → Type 0
-AreAlike log names = (left right : Name) → AreFirstToDiffer log names left right → ⊥
+-- two neighbours may be merged: they are of one version, and neither covers the part that waits for its quorum
+pub record MayJoin (log : List Entry) (pending : Option Pending) (a b : Name) : Type 0 where
+  pub version : ver log a ≡ ver log b
+  pub quiet : (part : Name) → HoldPending pending a b part → ⊥
+
+-- the first neighbours among the names that may not be merged, where their versions differ
+abbrev pub AreFirstToDiffer : List Entry → Option Pending → List Name → Name → Name → Type 0
+AreFirstToDiffer log pending [] left right = ⊥
+AreFirstToDiffer log pending (a ∷ []) left right = ⊥
+AreFirstToDiffer log pending (a ∷ b ∷ rest) left right =
+    ((ver log a ≡ ver log b → ⊥) × (left ≡ a) × (right ≡ b))
+    ⊎ (MayJoin log pending a b × AreFirstToDiffer log pending (b ∷ rest) left right)
+
+-- the first neighbours among the names that may not be merged, where they are of one version and one covers the part that
+-- waits for its quorum
+abbrev pub AreFirstInQuorum : List Entry → Option Pending → List Name → Name → Name → Name → Type 0
+AreFirstInQuorum log pending [] left right part = ⊥
+AreFirstInQuorum log pending (a ∷ []) left right part = ⊥
+AreFirstInQuorum log pending (a ∷ b ∷ rest) left right part =
+    ((ver log a ≡ ver log b) × HoldPending pending a b part × (left ≡ a) × (right ≡ b))
+    ⊎ (MayJoin log pending a b × AreFirstInQuorum log pending (b ∷ rest) left right part)
+
+-- all neighbours among the names may be merged
+abbrev pub AreAlike : List Entry → Option Pending → List Name → Type 0
+AreAlike log pending [] = Unit {0}
+AreAlike log pending (a ∷ []) = Unit {0}
+AreAlike log pending (a ∷ b ∷ rest) = MayJoin log pending a b × AreAlike log pending (b ∷ rest)
 
 -- a lock's number lies in the range of the merged name
 abbrev pub IsInFlight : Table → List Name → ℕ → Type 0
@@ -83,11 +105,12 @@ IsInFlight t (a ∷ rest) n = IsLocked t.locks a.partition n × Spans (merged_na
 -- why the merge of these names doesn't enter the log
 abbrev pub NotMerged : Table → ℕ → List Name → StepRefused → Type 0
 NotMerged t len names (rf.LogMoved seen found) = HasMoved t len seen found
-NotMerged t len names (rf.Differ left right) = (len ≡ length t.log) × AreFirstToDiffer t.log names left right
+NotMerged t len names (rf.Differ left right) = (len ≡ length t.log) × AreFirstToDiffer t.log t.quorum.pending names left right
+NotMerged t len names (rf.InQuorum left right part) = (len ≡ length t.log) × AreFirstInQuorum t.log t.quorum.pending names left right part
 NotMerged t len names (rf.InFlight n) =
-    (len ≡ length t.log) × AreAlike t.log names × IsInFlight t names n × ((m : ℕ) → IsInFlight t names m → n ≤ m)
+    (len ≡ length t.log) × AreAlike t.log t.quorum.pending names × IsInFlight t names n × ((m : ℕ) → IsInFlight t names m → n ≤ m)
 NotMerged t len names (rf.LimitReached limit value) =
-    (len ≡ length t.log) × AreAlike t.log names × ((n : ℕ) → IsInFlight t names n → ⊥) × (worker_limit t.log ≡ Some (limit, value))
+    (len ≡ length t.log) × AreAlike t.log t.quorum.pending names × ((n : ℕ) → IsInFlight t names n → ⊥) × (worker_limit t.log ≡ Some (limit, value))
 NotMerged t len names why = ⊥
 
 -- why the mutation of a part doesn't enter the log

@@ -1,9 +1,10 @@
 -- What always holds of a table with its replicas.
 -- No public source: this program's own.
-use Rattle.std.specs.Prelude.{◌≡◌, ◌⊎◌, ℕ, ◌<◌, true, List}
+use Rattle.std.specs.Prelude.{◌≡◌, ◌⊎◌, ℕ, ◌<◌, ◌≤◌, true, List, length}
 use Rattle.std.specs.declared.option.Option.{Option}
 use Rattle.std.specs.declared.option.Option.TheVariants.{Some}
-use Rattle.rmt_names.specs.Names.{block_name}
+use Rattle.rmt_names.specs.Names.{Name, block_name}
+use Rattle.rmt_entries.specs.declared.entry.Entry.{Entry}
 use Rattle.rmt_entries.specs.declared.entry.Entry.TheVariants.{Get}
 use Rattle.rmt_model.specs.Words.{Has, Each, Pairwise}
 use Rattle.rmt_model.specs.Live.{Dropped}
@@ -11,7 +12,8 @@ use Rattle.rmt_model.specs.Lawful.{Used, entry_at, IsPrefix}
 use Rattle.rmt_model.specs.Fair.{CoveredBy}
 use Rattle.rmt_model.specs.Parts.{NumberedBlock}
 use Rattle.rmt_model.specs.CopiedParts.{Copied, names_of}
-use Rattle.rmt_events.specs.Views.{Block, Staged, Replica}
+use Rattle.rmt_model.specs.Quorum.{Pending, quorum_blocks}
+use Rattle.rmt_events.specs.Views.{Block, Staged, Replica, Table}
 use Rattle.rmt_model.specs.BlockNumbers.{next_number}
 use Rattle.rmt_events.specs.Sound.{IsSoundTable}
 use Rattle.rmt_events.specs.ReplicaCalls.{IsStanding, IsStaged}
@@ -75,12 +77,34 @@ pub record HasReplica (xs : List Replica) (k : ℕ) : Type 0 where
   pub is_in : Has xs replica
   pub numbered : replica.number ≡ k
 
+-- the replica of the number has the part in its list of noted ones
+pub record HasNoted (xs : List Replica) (a : Name) (k : ℕ) : Type 0 where
+  pub replica : Replica
+  pub is_in : Has xs replica
+  pub numbered : replica.number ≡ k
+  pub noted : Has replica.noted a
+
+-- as many different replicas as the part's Get asks for have it in their lists of noted ones
+pub record IsMet (log : List Entry) (xs : List Replica) (a : Name) : Type 0 where
+  pub need : ℕ
+  pub asked : Has (quorum_blocks log) (record { part = a; need = need })
+  pub by : List ℕ
+  pub once : Pairwise ◌<◌ by
+  pub enough : need ≤ length by
+  pub each : Each (HasNoted xs a) by
+
+-- what the table has of notes the replicas have: each that is noted for the part that waits for its quorum, and as many as the
+-- last part needed
+pub record KeepNotes (t : Table) (xs : List Replica) : Type 0 where
+  pub pending : (q : Pending) → t.quorum.pending ≡ Some q → Each (HasNoted xs q.part) q.noted
+  pub last : (a : Name) → t.quorum.last ≡ Some a → IsMet t.log xs a
+
 -- two attempts have different ids, and different numbers of one partition
 abbrev pub HoldDifferentNumbers : Attempt → Attempt → Type 0
 HoldDifferentNumbers a b = (a.id ≡ b.id → ⊥) × (a.block.partition ≡ b.block.partition → a.number ≡ b.number → ⊥)
 
 -- the table is sound and its values are those of the accepted blocks; each replica follows it; each Get has its block and its
--- source; open attempts have numbers of their own
+-- source; open attempts have numbers of their own; what the table has of notes the replicas have
 pub record IsWhole (s : Cluster) : Type 0 where
   pub table : IsSoundTable s.table
   pub rising : Pairwise (λ x y. x.number < y.number) s.replicas
@@ -89,3 +113,4 @@ pub record IsWhole (s : Cluster) : Type 0 where
   pub attempts : Each (IsOpen s) s.attempts
   pub apart : Pairwise HoldDifferentNumbers s.attempts
   pub counted : s.table.values ≡ values_in s.table.schema (accepted s)
+  pub notes : KeepNotes s.table s.replicas

@@ -66,6 +66,10 @@ pub enum Event {
     Restart {
         replica: ReplicaId,
     },
+    /// A replica notes the part that waits for its quorum.
+    Note {
+        replica: ReplicaId,
+    },
     /// A replica may fetch, or may not.
     Fetches {
         replica: ReplicaId,

@@ -7,17 +7,19 @@ ghost use Rattle.rmt_values.specs.Order.{SameBag};
 ghost use Rattle.rmt_names.specs.Names.{Name};
 ghost use Rattle.rmt_entries.specs.declared.entry.Entry.TheVariants.{Get, Merge, Mutate};
 ghost use Rattle.rmt_model.specs.Words.{Has, Each};
-ghost use Rattle.rmt_model.specs.Live.{live};
+ghost use Rattle.rmt_model.specs.Live.{live, Dropped};
+ghost use Rattle.rmt_model.specs.Fair.{CoveredBy};
 ghost use Rattle.rmt_model.specs.Lawful.{entry_at};
 ghost use Rattle.rmt_model.specs.Content.{rows};
 ghost use Rattle.rmt_model.specs.CopiedParts.{names_of};
+ghost use Rattle.rmt_model.specs.Quorum.{Pending};
 ghost use Rattle.rmt_queue.specs.Marks.{done_at};
 ghost use Rattle.rmt_events.specs.Views.{Replica, Table};
 ghost use Rattle.rmt_events.specs.TableCalls.{Notes};
 ghost use Rattle.rmt_events.specs.Sound.{IsSoundTable};
 ghost use Rattle.rmt_events.specs.ReplicaCalls.{IsDrained, Waits};
 ghost use Rattle.rmt_events.specs.Clusters.{Cluster, accepted, rows_at};
-ghost use Rattle.rmt_events.specs.Whole.{IsWhole, KeepsBlock};
+ghost use Rattle.rmt_events.specs.Whole.{IsWhole, IsMet, KeepsBlock};
 ghost use Rattle.rmt_events.specs.Starts.{AreNew, new_cluster};
 ghost use Rattle.rmt_events.specs.Steps.{Step, After};
 ghost use Rattle.rmt_events.specs.Draws.{Runs};
@@ -71,6 +73,18 @@ pub fn waiting_get_finds_its_block()
 pub fn waiting_merge_finds_its_sources()
     ensures merge { (s : Cluster) → IsWhole s → (x : Replica) → Has s.replicas x → (i : ℕ) → Waits x i → ((j : ℕ) → j < i → done_at x.done j ≡ true) → (new : Name) (sources : List Name) (count : ℕ) → entry_at x.log i ≡ Some (Merge new sources count) → Each (Has (names_of x.parts)) sources }
     ensures mutate { (s : Cluster) → IsWhole s → (x : Replica) → Has s.replicas x → (i : ℕ) → Waits x i → ((j : ℕ) → j < i → done_at x.done j ≡ true) → (old new : Name) (upto count mcount : ℕ) → entry_at x.log i ≡ Some (Mutate old new upto count mcount) → Has (names_of x.parts) old }
+{}
+
+/// What a replica has noted it has still, covered or dropped; and as many replicas have noted the last part whose quorum was met
+/// as its Get asked for.
+pub fn what_was_noted_is_kept()
+    ensures kept { (s : Cluster) → IsWhole s → (x : Replica) → Has s.replicas x → (a : Name) → Has x.noted a → CoveredBy (names_of x.parts) a ⊎ Dropped x.log a }
+    ensures met { (s : Cluster) → IsWhole s → (a : Name) → s.table.quorum.last ≡ Some a → IsMet s.table.log s.replicas a }
+{}
+
+/// A replica that has done the whole log has an active part that covers the one that waits for its quorum.
+pub fn drained_replica_covers_the_part_that_waits()
+    ensures { (s : Cluster) → IsWhole s → (x : Replica) → Has s.replicas x → x.log ≡ s.table.log → IsDrained x → (q : Pending) → s.table.quorum.pending ≡ Some q → CoveredBy (names_of x.parts) q.part }
 {}
 
 /// Once a replica has noted the part that waits for its quorum, a sound table is sound.

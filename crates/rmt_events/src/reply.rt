@@ -12,6 +12,8 @@ pub enum Reply {
     Applied(Applied),
     /// The length of the copy once it was pulled.
     Pulled(u32),
+    /// Whether the replica is noted for the part that waits for its quorum.
+    Noted(bool),
     /// It was done.
     Done,
     /// It was refused.

@@ -94,7 +94,7 @@ module _ (schema : Shape) (column : Column) (one two five : Shared) (d1 d2 d5 : 
         (record { left = []; right = []; among = refl }, (refl, tt)),
         (
           refl,
-          λ left right h. elim h [ inl k ↦ k.0 refl | inr k ↦ k.1 ],
+          (record { version = refl; quiet = λ part h. h }, tt),
           ((record { lock = lock_of 1 1; is_in = inl refl; partition = refl; number = refl }), record { partition = refl; low = (let k : 0 ≤ 1 = omega arith in k); high = (let k : 1 ≤ 2 = omega arith in k) }),
           lowest,
         ),
