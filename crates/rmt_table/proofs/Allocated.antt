@@ -43,12 +43,11 @@ use Rattle.rmt_table.proofs.LookupLemmas.{lookup-same, number-where}
 use Rattle.rmt_table.specs.declared.allocate_error.AllocateError.{AllocateError}
 use Rattle.rmt_table.specs.declared.allocate_error.AllocateError.TheVariants as allocate
 use Rattle.rmt_table.specs.Causes.{allocate_cause}
-use Rattle.rmt_table.specs.Refusals.{IsSameLimit}
+use Rattle.rmt_table.specs.Refusals.{IsSameLimit, allocate_of}
+use Rattle.rmt_table.specs.Quorums.{NoQuorum}
+use Rattle.rmt_table.specs.declared.quorum_error.QuorumError.{QuorumError}
+use Rattle.rmt_table.specs.declared.quorum_error.QuorumError.TheVariants as quorum
 use Rattle.rmt_table.specs.TableTrees.{table_at, session_at, Counts, IsTableTree, IsReplica}
-
--- no block asks for a quorum
-pub unasked : (h : Held) (need : ℕ) → need ≡ 0 → HasQuorum (table_at h) need
-unasked h need e = record { enough = omega (arith, e); quiet = λ l. absurd (omega (arith, e, l)) }
 
 -- the part of a kept id, as events see it
 pub kept-seen : (h : Held) (p : Option ℕ) (digest : List ℕ) (part : Option Name) → part ≡ part_of p digest (in_order h.schema.window h.log) → kept_part (table_at h).window p digest ≡ part
@@ -144,7 +143,7 @@ module _ (h now : Held) (e : h ≡ now) where
   full-old is p found f n q g full x r = limit-answer (allocate_limit now.next now.log p) (limits.ClientEntries, client_count now.log) x
       (old-limit now.next now.log p n (subst (λ (w : Held). AreNexts w.next) e is.sound.nexts) (subst (λ (w : Held). number_among w.next p ≡ Some n) e (sym f ∙ q)) g full) r
 
-module _ (h : Held) (tokens : List (Token Entry)) (counts : Counts) (k : IsTableTree h tokens counts) (now : Held) (e : h ≡ now) (r need : ℕ) (id : BlockId) (here : IsReplica now r) (none : need ≡ 0) (session : Option ℕ) (at-now : session ≡ session_at now r) where
+module _ (h : Held) (tokens : List (Token Entry)) (counts : Counts) (k : IsTableTree h tokens counts) (now : Held) (e : h ≡ now) (r need : ℕ) (id : BlockId) (here : IsReplica now r) (session : Option ℕ) (at-now : session ≡ session_at now r) where
   at : session ≡ session_of h.sessions (r - 1)
   at = at-now ∙ ap (λ (w : Held). session_at w r) (sym e)
 
@@ -158,25 +157,33 @@ module _ (h : Held) (tokens : List (Token Entry)) (counts : Counts) (k : IsTable
   pub no-session : session ≡ None → HasCause allocate.NoSession
   no-session f = λ has. not-opened h.sessions (r - 1) (sym at ∙ f) (subst (λ (w : Held). Has (table_at w).sessions (r - 1 + 1)) (sym e) (subst (Has (table_at now).sessions) (sym back) has))
 
-  module _ (s : ℕ) (begun : session ≡ Some s) (part : Option Name) (kept-is : part ≡ part_of id.partition id.digest (in_order h.schema.window h.log)) where
+  has-session-at : (s : ℕ) → session ≡ Some s → Has (table_at now).sessions r
+  has-session-at s begun = subst (λ (w : Held). Has (table_at w).sessions r) e (opened-has h.sessions 1 r (r - 1) s (let l = here.first in omega (arith, l)) (sym at ∙ begun))
+
+  -- its quorum refuses a block
+  pub no-quorum : (s : ℕ) → session ≡ Some s → (x : QuorumError) → NoQuorum (table_at now) need x → (y : AllocateError) → y ≡ allocate_of x → HasCause y
+  no-quorum s begun (quorum.TooFewLive live needed) q y f = subst HasCause (sym f) (has-session-at s begun, q)
+  no-quorum s begun (quorum.QuorumPending a) q y f = subst HasCause (sym f) (has-session-at s begun, q)
+
+  module _ (s : ℕ) (begun : session ≡ Some s) (free : HasQuorum (table_at now) need) (part : Option Name) (kept-is : part ≡ part_of id.partition id.digest (in_order h.schema.window h.log)) where
     opened : session_of h.sessions (r - 1) ≡ Some s
     opened = sym at ∙ begun
 
     has-session : Has (table_at now).sessions r
-    has-session = subst (λ (w : Held). Has (table_at w).sessions r) e (opened-has h.sessions 1 r (r - 1) s (let l = here.first in omega (arith, l)) opened)
+    has-session = has-session-at s begun
 
     kept-part : (o : Option Name) → part ≡ o → kept_part (table_at now).window id.partition id.digest ≡ o
     kept-part o f = subst (λ (w : Held). kept_part (table_at w).window id.partition id.digest ≡ o) e (kept-seen h id.partition id.digest part kept-is ∙ f)
 
     pub is-kept : (a : Name) → part ≡ Some a → HasCause (allocate.Duplicate a)
-    is-kept a f = (has-session, unasked now need none, kept-part (Some a) f)
+    is-kept a f = (has-session, free, kept-part (Some a) f)
 
     pub session-open : is_open h.tree s ≡ true
     session-open = (k.held.tree.sessions s).1 (r - 1, opened)
 
     module _ (new : part ≡ None) where
       at-limit : (l : Limit × ℕ) → allocate_limit now.next now.log id.partition ≡ Some l → HasCause (allocate.LimitReached l.0 l.1)
-      at-limit l f = (has-session, unasked now need none, kept-part None new, f)
+      at-limit l f = (has-session, free, kept-part None new, f)
 
       pub is-full : (x : AllocateError) → option_map (λ l. allocate.LimitReached l.0 l.1) (allocate_limit now.next now.log id.partition) ≡ Some x → HasCause x
       is-full x f = go (allocate_limit now.next now.log id.partition) refl f

@@ -20,7 +20,7 @@ use Rattle.rmt_table_model.specs.Changes.{after_allocate, after_commit, after_ab
 use Rattle.rmt_table_model.proofs.NumberLemmas.{number-is, next-has, locked-from, unlocked_by-from}
 use Rattle.rmt_table_model.proofs.SoundLemmas.{above-all, meets-merge, meets-mutate, sound-allocate, sound-commit, sound-abandon, sound-mutation, sound-drop, sound-open, sound-close}
 use Rattle.rmt_events.specs.Views.{Lock, Table}
-use Rattle.rmt_events.specs.TableCalls.{with_lock, with_session, IsLocked, holds_number, kept_part, Allocates, Commits, Unlocks, AssignsMerge, AssignsMutate, CreatesMutation, DropsPartition, Closes, Opens, Notes}
+use Rattle.rmt_events.specs.TableCalls.{with_lock, with_session, IsLocked, holds_number, kept_part, Allocates, Commits, Unlocks, AreQuiet, AssignsMerge, AssignsMutate, CreatesMutation, DropsPartition, Closes, Opens, Notes}
 use Rattle.rmt_events.proofs.TableSteps.{lock-from, lock-new, lock-old, session-from, session-new, session-old}
 use Rattle.rmt_table.specs.SeenTable.{locks_in, opened_from, shown, Holds, Precedes}
 use Rattle.rmt_table.proofs.Orders.{same-lists}
@@ -176,13 +176,14 @@ mutation-bridge v sound command m = record {
 
 -- ---- a worker's entries
 
-pub merge-bridge : (v : TableView) → tables.IsSound v → (a b : Name) (rest : List Name) → MayMerge a b rest v
+pub merge-bridge : (v : TableView) → tables.IsSound v → (a b : Name) (rest : List Name) → MayMerge a b rest v → AreQuiet v.quorum.pending (a ∷ b ∷ rest)
     → AssignsMerge (shown v) (merged_name a (b ∷ rest)) (a ∷ b ∷ rest) (block_count v.log (merged_name a (b ∷ rest))) (shown (after_merge a (b ∷ rest) v))
-merge-bridge v sound a b rest m = record {
+merge-bridge v sound a b rest m quiet = record {
   meets = meets-merge v a b rest m;
   free = Each-all (λ k. Spans (merged_name a (b ∷ rest)) k.partition k.number → ⊥) (locks_of v) (λ k i x.
       let w = locks-from v sound k i in
       m.none_in_flight k.number (w.session, ap (λ (q : Option ℕ). v.holders q k.number) (Spans.partition x) ∙ w.held) (Spans.low x) (Spans.high x));
+  quiet = quiet;
   within = worker-within v.log m.worker_entries;
   change = refl;
 }

@@ -1,5 +1,5 @@
 -- What an accepted block makes of a table.
-use Rattle.std.proofs.Common.{◌≡◌, ℕ, ◌+◌, ◌<◌, ◌≤◌, Bool, true, false, cond, nat_le, nat_lt, List, [], ◌∷◌, ◌++◌, length, refl, sym, ap, subst, arith, ◌∙◌}
+use Rattle.std.proofs.Common.{◌≡◌, ◌≢◌, is_some, ℕ, ◌+◌, ◌<◌, ◌≤◌, Bool, true, false, cond, nat_le, nat_lt, List, [], ◌∷◌, ◌++◌, length, refl, sym, ap, subst, arith, ◌∙◌}
 use Rattle.std.proofs.lemmas.Bool.Decides.{nat_tests}
 use Rattle.std.proofs.lemmas.List.{append-nil}
 use Rattle.std.specs.declared.option.Option.{Option}
@@ -17,6 +17,7 @@ use Rattle.rmt_model.specs.EntryLimits.{client_count, worker_count, commit_limit
 use Rattle.rmt_history.specs.Copies.{entries}
 use Rattle.rmt_history.proofs.Copied.{entries-snoc, length-entries}
 use Rattle.rmt_model.specs.Quorum.{Quorum, quorum_after_block}
+use Rattle.rmt_paths.specs.Paths.{Names}
 use Rattle.rmt_tree.specs.Trees.{TreeView}
 use Rattle.rmt_tree.specs.Ops.{after_all, first_refusal}
 use Rattle.rmt_tree.specs.declared.op.Op.{Op}
@@ -34,10 +35,13 @@ use Rattle.rmt_table_model.specs.Steps.{Steps}
 use Rattle.rmt_table_model.specs.Held.{Held, table_of, holders_in}
 use Rattle.rmt_table_model.proofs.TableLemmas.{commit-steps}
 use Rattle.rmt_table_model.proofs.HeldLemmas.{held-table, held-held}
+use Rattle.std.proofs.lemmas.List.Sums.{count_by-le-length}
+use Rattle.rmt_events.specs.TableRefusals.{HasQuorum}
 use Rattle.rmt_events.specs.TableCalls.{Commits}
 use Rattle.rmt_partitions.specs.KeptNumbers.{NumbersOf, numbers_of}
 use Rattle.rmt_table.specs.SeenTable.{shown}
 use Rattle.rmt_table.proofs.NumberLemmas as view
+use Rattle.rmt_table.proofs.SessionLemmas.{opened-count}
 use Rattle.rmt_table.proofs.CallBridge.{commit-bridge}
 use Rattle.rmt_table.specs.declared.lock.Lock.{Lock}
 use Rattle.rmt_table.specs.declared.commit_error.CommitError.{CommitError}
@@ -48,10 +52,6 @@ use Rattle.rmt_table.proofs.Appended.{placed-more, clients-next, workers-next, m
 use Rattle.rmt_table.proofs.HeldNodes.{held-kept}
 use Rattle.rmt_table.proofs.SoundRanges.{commit-range}
 use Rattle.rmt_table.proofs.Allocated.{unkept}
-
-no-case : {A : Type 0} (b : Bool) (xs : List A) → b ≡ false → cond b xs [] ≡ []
-no-case true xs e = absurd (cc)
-no-case false xs e = refl
 
 record FitsLimits (log : List Entry) (held values : ℕ) : Type 0 where
   few_clients : client_count log < 32768
@@ -66,12 +66,12 @@ within-limits log held added e = go (nat_le 32768 (client_count log)) refl (nat_
     go false f true g e = absurd (cc)
     go false f false g e = record { few_clients = grind (arith, nat_tests); few_values = grind (arith, nat_tests) }
 
-module _ (h : Held) (tokens : List (Token Entry)) (counts : Counts) (k : IsTableTree h tokens counts) (now : Held) (e : h ≡ now) (lock : Lock) (need values : ℕ) (id : IsId lock.id) (none : need ≡ 0) (locked : IsLocked (holders_in h.tree) lock.id.partition lock.number) (fine-now : IsAcceptable (table_at now) lock values) where
+module _ (h : Held) (tokens : List (Token Entry)) (counts : Counts) (k : IsTableTree h tokens counts) (now : Held) (e : h ≡ now) (lock : Lock) (need values : ℕ) (id : IsId lock.id) (one : need ≢ 1) (locked : IsLocked (holders_in h.tree) lock.id.partition lock.number) (fine-now : IsAcceptable (table_at now) lock need values) where
   abbrev pub entry : Entry
   entry = Get lock.id.partition lock.number lock.id.digest lock.replica need
 
-  fine : IsAcceptable (table_at h) lock values
-  fine = subst (λ (w : Held). IsAcceptable (table_at w) lock values) (sym e) fine-now
+  fine : IsAcceptable (table_at h) lock need values
+  fine = subst (λ (w : Held). IsAcceptable (table_at w) lock need values) (sym e) fine-now
 
   limits-fit : FitsLimits h.log h.values values
   limits-fit = within-limits h.log h.values values fine.within
@@ -86,7 +86,11 @@ module _ (h : Held) (tokens : List (Token Entry)) (counts : Counts) (k : IsTable
   in-range here =
       let a = here.last in
       let b = subst (λ (w : Held). length w.sessions ≤ 8) e k.held.few in
-      commit-range (table_of h) k.held.sound lock.id.partition lock.number lock.id.digest lock.replica need id locked here.first (omega (arith, a, b)) (omega (arith, none)) (λ q. omega (arith, none, q))
+      let c = HasQuorum.enough fine.quorum in
+      let d = opened-count h.sessions 1 in
+      let f = count_by-le-length is_some h.sessions in
+      let g = k.held.few in
+      commit-range (table_of h) k.held.sound lock.id.partition lock.number lock.id.digest lock.replica need id locked here.first (omega (arith, a, b)) (omega (arith, c, d, f, g)) (λ q. one q)
 
   pub few-clients : counts.clients < 32768
   few-clients = let a = FitsLimits.few_clients limits-fit in let b = k.counted.clients in omega (arith, a, b)
@@ -99,7 +103,7 @@ module _ (h : Held) (tokens : List (Token Entry)) (counts : Counts) (k : IsTable
     id = id;
     not_kept = id-unkept;
     is_locked = locked;
-    none_pending = λ l. absurd (omega (arith, none, l));
+    none_pending = λ l. HasQuorum.quiet fine.quorum l;
     client_entries = FitsLimits.few_clients limits-fit;
     values = FitsLimits.few_values limits-fit;
   }
@@ -107,20 +111,9 @@ module _ (h : Held) (tokens : List (Token Entry)) (counts : Counts) (k : IsTable
   pub steps : Steps entry_bytes h.tree (commit_ops entry_bytes lock.id.partition lock.number lock.id.digest lock.replica need (table_of h)) (after_commit lock.id.partition lock.number lock.id.digest lock.replica need values (table_of h))
   steps = commit-steps entry_bytes h.tree (table_of h) k.held lock.id.partition lock.number lock.id.digest lock.replica need values may
 
-  unasked-test : nat_le 2 need ≡ false
-  unasked-test = grind (arith, nat_tests)
-
-  no-status : status_ops (block_name lock.id.partition lock.number) need ≡ []
-  no-status = no-case (nat_le 2 need) (op.Create (znode_path nodes.Status) (status_text (record { part = block_name lock.id.partition lock.number; need = need; noted = [] })) false None ∷ []) unasked-test
-
-  quorum-same : quorum_after_block (block_name lock.id.partition lock.number) need h.quorum ≡ h.quorum
-  quorum-same = ap (λ (b : Bool). record { pending = cond b (Some (record { part = block_name lock.id.partition lock.number; need = need; noted = [] })) h.quorum.pending; last = h.quorum.last }) unasked-test
-
-  module _ (ops : List Op) (ops-now : ops ≡ op.Delete (znode_path (nodes.Lock lock.id.partition lock.number)) None ∷ op.Create entry_path (entry_bytes entry) true None ∷ keep_ops now.schema.window (in_order now.schema.window now.log) lock.id.partition lock.id.digest (block_name lock.id.partition lock.number)) where
+  module _ (ops : List Op) (ops-now : ops ≡ op.Delete (znode_path (nodes.Lock lock.id.partition lock.number)) None ∷ op.Create entry_path (entry_bytes entry) true None ∷ (keep_ops now.schema.window (in_order now.schema.window now.log) lock.id.partition lock.id.digest (block_name lock.id.partition lock.number) ++ status_ops (block_name lock.id.partition lock.number) need)) where
     pub ops-same : ops ≡ commit_ops entry_bytes lock.id.partition lock.number lock.id.digest lock.replica need (table_of h)
-    ops-same = ops-now ∙ ap (λ (w : Held). op.Delete (znode_path (nodes.Lock lock.id.partition lock.number)) None ∷ op.Create entry_path (entry_bytes entry) true None ∷ keep_ops w.schema.window (in_order w.schema.window w.log) lock.id.partition lock.id.digest (block_name lock.id.partition lock.number)) (sym e)
-        ∙ ap (λ (xs : List Op). op.Delete (znode_path (nodes.Lock lock.id.partition lock.number)) None ∷ op.Create entry_path (entry_bytes entry) true None ∷ xs)
-        (sym (append-nil (keep_ops h.schema.window (in_order h.schema.window h.log) lock.id.partition lock.id.digest (block_name lock.id.partition lock.number))) ∙ ap (λ (xs : List Op). keep_ops h.schema.window (in_order h.schema.window h.log) lock.id.partition lock.id.digest (block_name lock.id.partition lock.number) ++ xs) (sym no-status))
+    ops-same = ops-now ∙ ap (λ (w : Held). op.Delete (znode_path (nodes.Lock lock.id.partition lock.number)) None ∷ op.Create entry_path (entry_bytes entry) true None ∷ (keep_ops w.schema.window (in_order w.schema.window w.log) lock.id.partition lock.id.digest (block_name lock.id.partition lock.number) ++ status_ops (block_name lock.id.partition lock.number) need)) (sym e)
 
     pub ops-seen : ops ≡ commit_ops entry_bytes lock.id.partition lock.number lock.id.digest lock.replica need (table_of now)
     ops-seen = ops-same ∙ ap (λ (w : Held). commit_ops entry_bytes lock.id.partition lock.number lock.id.digest lock.replica need (table_of w)) e
@@ -128,18 +121,18 @@ module _ (h : Held) (tokens : List (Token Entry)) (counts : Counts) (k : IsTable
     pub ops-fine : first_refusal h.tree ops 0 ≡ None
     ops-fine = subst (λ (xs : List Op). first_refusal h.tree xs 0 ≡ None) (sym ops-same) (Makes.none_refused (Steps.makes steps) 0)
 
-    module _ (t : TreeView) (done : t ≡ after_all h.tree ops) (token : Token Entry) (token-is : token ≡ next_token h entry) (more : List (Token Entry)) (more-is : more ≡ tokens ++ token ∷ []) (of : h.log ≡ entries tokens) where
+    module _ (t : TreeView) (done : t ≡ after_all h.tree ops) (token : Token Entry) (token-is : token ≡ next_token h entry) (more : List (Token Entry)) (more-is : more ≡ tokens ++ token ∷ []) (of : h.log ≡ entries tokens) (waits : Quorum) (waits-is : waits ≡ quorum_after_block (block_name lock.id.partition lock.number) need h.quorum) where
       log-is : entries more ≡ entry ∷ h.log
       log-is = ap entries more-is ∙ entries-snoc tokens token ∙ ap (λ (v : Token Entry). v.value ∷ entries tokens) token-is ∙ ap (λ (xs : List Entry). entry ∷ xs) (sym of)
 
       abbrev pub after : Held
-      after = record h { log = entries more; values = h.values + values; tree = t }
+      after = record h { log = entries more; quorum = waits; values = h.values + values; tree = t }
 
       table : IsTable entry_bytes t (after_commit lock.id.partition lock.number lock.id.digest lock.replica need values (table_of h))
       table = subst (λ (u : TreeView). IsTable entry_bytes u (after_commit lock.id.partition lock.number lock.id.digest lock.replica need values (table_of h))) (sym (done ∙ ap (after_all h.tree) ops-same)) (Steps.table steps)
 
       same : ◌≡◌ {A = TableView} (record (after_commit lock.id.partition lock.number lock.id.digest lock.replica need values (table_of h)) { holders = holders_in t }) (table_of after)
-      same = ap (λ (q : Quorum). record (table_of after) { log = entry ∷ h.log; quorum = q }) quorum-same ∙ ap (λ (log : List Entry). record (table_of after) { log = log }) (sym log-is)
+      same = ap (λ (q : Quorum). record (table_of after) { log = entry ∷ h.log; quorum = q }) (sym waits-is) ∙ ap (λ (log : List Entry). record (table_of after) { log = log }) (sym log-is)
 
       pub committed-seen : Commits (table_at now) lock.id.partition lock.number lock.id.digest lock.replica need values (table_at after)
       committed-seen = subst (λ (w : Held). Commits (table_at w) lock.id.partition lock.number lock.id.digest lock.replica need values (table_at after)) e
@@ -187,6 +180,16 @@ ids-of h {tokens} {counts} now q is lock new part part-is window window-is keep 
     (keep-is (in_order h.schema.window h.log) (order_count h.schema.window h.log) (held-kept h is.held) (subst (λ (w : Held). with_id lock.id.partition lock.id.digest (in_order w.schema.window w.log) ≡ None) (sym q) new) is.counted.kept
     (let a = is.counted.kept in let b = window-most h.schema.window h.log in omega (arith, a, b, window-is))
     ∙ ap (λ (w : ℕ). keep_ops w (in_order h.schema.window h.log) lock.id.partition lock.id.digest part) window-is ∙ ap (keep_ops h.schema.window (in_order h.schema.window h.log) lock.id.partition lock.id.digest) part-is)
+
+-- the ops of a commit, put together
+pub ops-of : (lock : Lock) (need : ℕ) (path : Names) → path ≡ znode_path (nodes.Lock lock.id.partition lock.number)
+    → (some : List Op) → some ≡ op.Delete path None ∷ op.Create entry_path (entry_bytes (Get lock.id.partition lock.number lock.id.digest lock.replica need)) true None ∷ [] → (keep kept : List Op) → keep ≡ kept
+    → (part : Name) → part ≡ block_name lock.id.partition lock.number → (status : List Op) → status ≡ status_ops part need → (both : List Op) → both ≡ some ++ keep → (ops : List Op) → ops ≡ both ++ status
+    → ops ≡ op.Delete (znode_path (nodes.Lock lock.id.partition lock.number)) None ∷ op.Create entry_path (entry_bytes (Get lock.id.partition lock.number lock.id.digest lock.replica need)) true None ∷ (kept ++ status_ops (block_name lock.id.partition lock.number) need)
+ops-of lock need path path-is some some-is keep kept keep-is part part-is status status-is both both-are ops ops-are =
+    ops-are ∙ ap (λ (xs : List Op). both ++ xs) (status-is ∙ ap (λ (a : Name). status_ops a need) part-is)
+    ∙ ap (λ (xs : List Op). xs ++ status_ops (block_name lock.id.partition lock.number) need) (both-are ∙ ap (λ (xs : List Op). xs ++ keep) some-is ∙ ap (λ (xs : List Op). op.Delete path None ∷ op.Create entry_path (entry_bytes (Get lock.id.partition lock.number lock.id.digest lock.replica need)) true None ∷ xs) keep-is)
+    ∙ ap (λ (p : Names). op.Delete p None ∷ op.Create entry_path (entry_bytes (Get lock.id.partition lock.number lock.id.digest lock.replica need)) true None ∷ (kept ++ status_ops (block_name lock.id.partition lock.number) need)) path-is
 
 -- the table after a refusal that takes the lock
 pub after-refusal : (old new : Held) (lock : Lock) (x : CommitError) → TakesLock x → IsUnlocked old lock.id.partition lock.number new → AfterNoCommit old lock x new

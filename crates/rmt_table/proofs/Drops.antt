@@ -58,10 +58,13 @@ pub one-behind : (first second both all known : List Op) (o u : Op) → all ≡ 
 one-behind first second both all known o u e f g i =
     e ∙ ap (λ (xs : List Op). xs ++ o ∷ []) f ∙ append_assoc first second (o ∷ []) ∙ ap (λ (xs : List Op). xs ++ (second ++ o ∷ [])) g ∙ ap (λ (x : Op). known ++ (second ++ x ∷ [])) i
 
-abbrev quiet : Quorum
-quiet = record { pending = None; last = None }
+-- the same, and others behind it
+pub rest-behind : (first second both all known gone tail more : List Op) (o u : Op) → all ≡ both ++ o ∷ [] → both ≡ first ++ second → first ≡ known → o ≡ u → gone ≡ tail → more ≡ all ++ gone → more ≡ known ++ (second ++ u ∷ tail)
+rest-behind first second both all known gone tail more o u e f g i j k =
+    k ∙ ap (λ (xs : List Op). all ++ xs) j ∙ ap (λ (xs : List Op). xs ++ tail) (one-behind first second both all known o u e f g i)
+    ∙ append_assoc known (second ++ u ∷ []) tail ∙ ap (λ (xs : List Op). known ++ xs) (append_assoc second (u ∷ []) tail)
 
-module _ (h : Held) (tokens : List (Token Entry)) (counts : Counts) (is : IsTableTree h tokens counts) (still : h.quorum ≡ quiet) (now : Held) (same : h ≡ now) (p : Option ℕ)
+module _ (h : Held) (tokens : List (Token Entry)) (counts : Counts) (is : IsTableTree h tokens counts) (now : Held) (same : h ≡ now) (p : Option ℕ)
     (found : Option ℕ) (found-is : found ≡ number_among h.next p) (number : ℕ) (some : found ≡ Some number)
     (refusal : Option ChangeError) (refusal-is : (q : Option ℕ) → number ≡ next_number now.next q → refusal ≡ limit_error (drop_limit now.next now.log q)) where
   exists : next_of h.next p ≡ Some number
@@ -106,8 +109,8 @@ module _ (h : Held) (tokens : List (Token Entry)) (counts : Counts) (is : IsTabl
 
     -- the ops, and the locks that they take away
     module _ (ops : List Op) (told : (next : Nexts) (holders : Holders) (ks : List Placed) (count : ℕ) → HasNumbers h.tree next holders → HasKeptIds h.tree ks count → next_of next p ≡ Some number
-        → (removals : List Op) × AreDropOps holders ks p number removals × (ops ≡ number_ops p number ++ (removals ++ op.Create entry_path (entry_bytes (DropRange p number)) true None ∷ []))) where
-      abbrev removals : (removals : List Op) × AreDropOps (holders_in h.tree) (in_order h.schema.window h.log) p number removals × (ops ≡ number_ops p number ++ (removals ++ op.Create entry_path (entry_bytes (DropRange p number)) true None ∷ []))
+        → (removals : List Op) × AreDropOps holders ks p number removals × (ops ≡ number_ops p number ++ (removals ++ op.Create entry_path (entry_bytes (DropRange p number)) true None ∷ (pending_drop_ops p number h.quorum.pending ++ last_drop_ops p number h.quorum.last)))) where
+      abbrev removals : (removals : List Op) × AreDropOps (holders_in h.tree) (in_order h.schema.window h.log) p number removals × (ops ≡ number_ops p number ++ (removals ++ op.Create entry_path (entry_bytes (DropRange p number)) true None ∷ (pending_drop_ops p number h.quorum.pending ++ last_drop_ops p number h.quorum.last)))
       removals = told h.next (holders_in h.tree) (in_order h.schema.window h.log) (order_count h.schema.window h.log) (held-numbers h is.held) (held-kept h is.held) exists
 
       abbrev locks : List ℕ
@@ -123,31 +126,31 @@ module _ (h : Held) (tokens : List (Token Entry)) (counts : Counts) (is : IsTabl
       ops-are : ops ≡ drop_ops entry_bytes p locks (table_of h)
       ops-are =
           removals.2
-          ∙ ap (λ (xs : List Op). number_ops p number ++ (xs ++ op.Create entry_path (entry_bytes (DropRange p number)) true None ∷ [])) (AreDropOps.ops_are removals.1)
-          ∙ ap (λ (xs : List Op). number_ops p number ++ xs) (append_assoc (unlock_ops p locks) (forget_ops p number (in_order h.schema.window h.log)) (op.Create entry_path (entry_bytes (DropRange p number)) true None ∷ []))
-          ∙ ap (λ (n : ℕ). ops_with n quiet) number-is
-          ∙ ap (ops_with (next_number h.next p)) (sym still)
+          ∙ ap (λ (xs : List Op). number_ops p number ++ (xs ++ op.Create entry_path (entry_bytes (DropRange p number)) true None ∷ (pending_drop_ops p number h.quorum.pending ++ last_drop_ops p number h.quorum.last))) (AreDropOps.ops_are removals.1)
+          ∙ ap (λ (xs : List Op). number_ops p number ++ xs) (append_assoc (unlock_ops p locks) (forget_ops p number (in_order h.schema.window h.log)) (op.Create entry_path (entry_bytes (DropRange p number)) true None ∷ (pending_drop_ops p number h.quorum.pending ++ last_drop_ops p number h.quorum.last)))
+          ∙ ap (λ (n : ℕ). ops_with n h.quorum) number-is
 
       pub drop-fine : first_refusal h.tree ops 0 ≡ None
       drop-fine = subst (λ (xs : List Op). first_refusal h.tree xs 0 ≡ None) (sym ops-are) (Makes.none_refused (Steps.makes (drop-steps entry_bytes h.tree (table_of h) is.held p locks may are-locks)) 0)
 
-      module _ (t : TreeView) (t-is : t ≡ after_all h.tree ops) (log : List Entry) (log-is : log ≡ DropRange p number ∷ h.log) (next : Nexts) (next-is : next ≡ with_next h.next p (next_number h.next p + 1)) where
+      module _ (t : TreeView) (t-is : t ≡ after_all h.tree ops) (log : List Entry) (log-is : log ≡ DropRange p number ∷ h.log) (next : Nexts) (next-is : next ≡ with_next h.next p (next_number h.next p + 1)) (waits : Quorum) (waits-is : waits ≡ quorum_after_drop p number h.quorum) where
         abbrev new : Held
-        new = record h { log = DropRange p (next_number h.next p) ∷ h.log; next = taken h.next p; tree = t }
+        new = record h { log = DropRange p (next_number h.next p) ∷ h.log; next = taken h.next p; quorum = quorum_after_drop p (next_number h.next p) h.quorum; tree = t }
 
-        new-is : record h { log = log; next = next; tree = t } ≡ new
+        new-is : record h { log = log; next = next; quorum = waits; tree = t } ≡ new
         new-is =
-            ap (λ (l : List Entry). record h { log = l; next = next; tree = t }) (log-is ∙ ap (λ (n : ℕ). DropRange p n ∷ h.log) number-is)
-            ∙ ap (λ (ns : Nexts). record h { log = DropRange p (next_number h.next p) ∷ h.log; next = ns; tree = t }) (next-is ∙ sym (taken-same h.next p (next_number h.next p + 1) is.held.sound.nexts refl))
+            ap (λ (l : List Entry). record h { log = l; next = next; quorum = waits; tree = t }) (log-is ∙ ap (λ (n : ℕ). DropRange p n ∷ h.log) number-is)
+            ∙ ap (λ (ns : Nexts). record h { log = DropRange p (next_number h.next p) ∷ h.log; next = ns; quorum = waits; tree = t }) (next-is ∙ sym (taken-same h.next p (next_number h.next p + 1) is.held.sound.nexts refl))
+            ∙ ap (λ (q : Quorum). record h { log = DropRange p (next_number h.next p) ∷ h.log; next = taken h.next p; quorum = q; tree = t }) (waits-is ∙ ap (λ (n : ℕ). quorum_after_drop p n h.quorum) number-is)
 
         stepped : IsTable entry_bytes t (after_drop p (table_of h))
         stepped = subst (λ (u : TreeView). IsTable entry_bytes u (after_drop p (table_of h))) (sym (t-is ∙ ap (after_all h.tree) ops-are)) (Steps.table (drop-steps entry_bytes h.tree (table_of h) is.held p locks may are-locks))
 
         after-is : ◌≡◌ {A = TableView} (record (after_drop p (table_of h)) { holders = holders_in t }) (table_of new)
-        after-is = ap (λ (q : Quorum). record (table_of new) { quorum = q }) (ap (quorum_after_drop p (next_number h.next p)) still ∙ sym still)
+        after-is = refl
 
         pub drop-kept : (all : List (Token Entry)) → ArePlaced all → (numbers : List NumbersOf) → ((q : Option ℕ) → numbers_of numbers q ≡ order_numbers (DropRange p (next_number h.next p) ∷ h.log) q) → (forgotten : ℕ) → forgotten + length (filter (outlives p (next_number h.next p)) (in_order h.schema.window h.log)) ≡ counts.kept
-            → IsTableTree (record h { log = log; next = next; tree = t }) all (record { clients = counts.clients + 1; workers = counts.workers; mutations = counts.mutations; blocks = counts.blocks; kept = counts.kept - forgotten; numbers = numbers })
+            → IsTableTree (record h { log = log; next = next; quorum = waits; tree = t }) all (record { clients = counts.clients + 1; workers = counts.workers; mutations = counts.mutations; blocks = counts.blocks; kept = counts.kept - forgotten; numbers = numbers })
         drop-kept all placed numbers numbers-are forgotten fewer = subst (λ (k : Held). IsTableTree k all (record { clients = counts.clients + 1; workers = counts.workers; mutations = counts.mutations; blocks = counts.blocks; kept = counts.kept - forgotten; numbers = numbers })) (sym new-is)
             (record {
               held = held-held entry_bytes new (after_drop p (table_of h)) stepped after-is;
@@ -162,8 +165,8 @@ module _ (h : Held) (tokens : List (Token Entry)) (counts : Counts) (is : IsTabl
               places = placed;
             })
 
-        pub drop-done : (token : Token Entry) → token ≡ next_token now (DropRange p number) → Drops now p token (record h { log = log; next = next; tree = t })
-        drop-done token token-is = subst (λ (k : Held). Drops k p token (record h { log = log; next = next; tree = t })) same
+        pub drop-done : (token : Token Entry) → token ≡ next_token now (DropRange p number) → Drops now p token (record h { log = log; next = next; quorum = waits; tree = t })
+        drop-done token token-is = subst (λ (k : Held). Drops k p token (record h { log = log; next = next; quorum = waits; tree = t })) same
             (record {
               token_is = token-is ∙ ap (λ (k : Held). next_token k (DropRange p number)) (sym same) ∙ ap (λ (n : ℕ). next_token h (DropRange p n)) number-is;
               seen = subst (λ (v : TableView). DropsPartition (table_at h) p (next_number h.next p) (shown v)) (sym (ap table_of new-is ∙ held-table entry_bytes new (after_drop p (table_of h)) stepped after-is))

@@ -32,3 +32,6 @@ pub mod Worked
 pub mod Merged
 pub mod Mutated
 pub mod ChoiceLemmas
+pub mod Noted
+pub mod OpenLemmas
+pub mod QuorumLemmas

@@ -8,6 +8,7 @@ use Rattle.rmt_values.specs.Order.{tally}
 use Rattle.rmt_values.specs.declared.limit.Limit.TheVariants as limits
 use Rattle.rmt_names.specs.Names.{Name, Spans, rank, last, highest, merged_name, AreRising, CanMerge, IsMergedOf}
 use Rattle.rmt_row.specs.Token.{Token}
+use Rattle.rmt_model.specs.Quorum.{Pending}
 use Rattle.rmt_entries.specs.declared.entry.Entry.{Entry}
 use Rattle.rmt_entries.specs.declared.entry.Entry.TheVariants.{Merge}
 use Rattle.rmt_entries.specs.EntryBytes.{entry_bytes, EntryInRange}
@@ -31,27 +32,28 @@ use Rattle.rmt_table_model.specs.Steps.{Steps}
 use Rattle.rmt_table_model.specs.Held.{Held, table_of, holders_in}
 use Rattle.rmt_table_model.proofs.CountLemmas.{merged-count}
 use Rattle.rmt_table_model.proofs.TableLemmas.{merge-steps}
-use Rattle.rmt_events.specs.TableRefusals.{AreFirstToDiffer, AreAlike, IsInFlight, NotMerged}
+use Rattle.rmt_events.specs.TableRefusals.{AreFirstToDiffer, AreFirstInQuorum, AreAlike, IsInFlight, NotMerged}
 use Rattle.rmt_events.specs.LogEvents.{AreMergeable}
 use Rattle.rmt_events.specs.Views.{Table}
-use Rattle.rmt_events.specs.TableCalls.{AssignsMerge}
+use Rattle.rmt_events.specs.TableCalls.{AreQuiet, AssignsMerge}
 use Rattle.rmt_table.specs.SeenTable.{shown}
 use Rattle.rmt_table.proofs.CallBridge.{shown-locked, locked-shown, merge-bridge}
 use Rattle.rmt_table.specs.TableTrees.{Counts, order_numbers, IsTableTree, IsMergeOf, table_at, next_token, entry_ops}
 use Rattle.rmt_table.specs.Causes.{merge_cause}
+use Rattle.rmt_table.specs.Neighbours.{IsPartOf, AreFirstApart}
 use Rattle.rmt_table.specs.declared.merge_error.MergeError.{MergeError}
 use Rattle.rmt_table.specs.declared.merge_error.MergeError.TheVariants as merge
 use Rattle.rmt_table.proofs.LevelLemmas.{level-of-made}
 use Rattle.rmt_table.proofs.CountedLemmas.{blocks-most}
 use Rattle.rmt_table.proofs.SoundRanges.{sound-length, merge-range}
-use Rattle.rmt_table.proofs.Differing.{alike-version}
+use Rattle.rmt_table.proofs.Differing.{alike-version, alike-quiet}
 use Rattle.rmt_table.proofs.Worked.{work-full, worked-token, worked-seen, worked-tree}
 
 -- ---- names that can be merged
 
 -- neighbours of one version, as a merge has them
-merges-of : (log : List Entry) (a b : Name) (rest : List Name) → AreMergeable log (a ∷ b ∷ rest) → AreAlike log (a ∷ b ∷ rest) → Merges log a b rest (merged_name a (b ∷ rest)) (block_count log (merged_name a (b ∷ rest)))
-merges-of log a b rest fit alike = record { neighbours = fit.0; partition = fit.1; version = alike-version log a (b ∷ rest) alike; name = refl; counted = refl }
+merges-of : (log : List Entry) (pending : Option Pending) (a b : Name) (rest : List Name) → AreMergeable log (a ∷ b ∷ rest) → AreAlike log pending (a ∷ b ∷ rest) → Merges log a b rest (merged_name a (b ∷ rest)) (block_count log (merged_name a (b ∷ rest)))
+merges-of log pending a b rest fit alike = record { neighbours = fit.0; partition = fit.1; version = alike-version log pending a (b ∷ rest) alike; name = refl; counted = refl }
 
 rising-from : (a : Name) (rest : List Name) → Pairwise Before (a ∷ rest) → Each (λ c. c.partition ≡ a.partition) rest → AreRising a rest
 rising-from a [] p e = tt
@@ -62,7 +64,7 @@ rising-from a (b ∷ rest) p e = (sym e.0, below p.0.0, rising-from b rest p.1 (
     below (inr l) = l.1
 
 -- they can be merged
-pub can-merge : (v : TableView) → IsSound v → (names : List Name) → AreMergeable v.log names → AreAlike v.log names → CanMerge names
+pub can-merge : (v : TableView) → IsSound v → (names : List Name) → AreMergeable v.log names → AreAlike v.log v.quorum.pending names → CanMerge names
 can-merge v s [] fit alike = absurd fit
 can-merge v s (a ∷ []) fit alike = absurd fit
 can-merge v s (a ∷ b ∷ rest) fit alike = (
@@ -83,22 +85,22 @@ can-merge v s (a ∷ b ∷ rest) fit alike = (
     count = block_count v.log new
 
     m : Merges v.log a b rest new count
-    m = merges-of v.log a b rest fit alike
+    m = merges-of v.log v.quorum.pending a b rest fit alike
 
     top : (c : Name) × Has (a ∷ b ∷ rest) c × (c.level ≡ highest (λ c. c.level) a (b ∷ rest))
     top = highest-reached (λ c. c.level) a (b ∷ rest)
 
 -- each is live, and together they have few blocks
-pub sources-living : (v : TableView) → IsSound v → (names : List Name) → AreMergeable v.log names → AreAlike v.log names → Each (Has (live v.log)) names
+pub sources-living : (v : TableView) → IsSound v → (names : List Name) → AreMergeable v.log names → AreAlike v.log v.quorum.pending names → Each (Has (live v.log)) names
 sources-living v s [] fit alike = tt
 sources-living v s (a ∷ []) fit alike = absurd fit
 sources-living v s (a ∷ b ∷ rest) fit alike =
-    Each-all (Has (live v.log)) (a ∷ b ∷ rest) (λ c h. source-live v.log (tight v.schema v.log s.lawful) a b rest (merged_name a (b ∷ rest)) (block_count v.log (merged_name a (b ∷ rest))) (merges-of v.log a b rest fit alike) c h)
+    Each-all (Has (live v.log)) (a ∷ b ∷ rest) (λ c h. source-live v.log (tight v.schema v.log s.lawful) a b rest (merged_name a (b ∷ rest)) (block_count v.log (merged_name a (b ∷ rest))) (merges-of v.log v.quorum.pending a b rest fit alike) c h)
 
-sum-is : (v : TableView) → IsSound v → (a b : Name) (rest : List Name) → AreMergeable v.log (a ∷ b ∷ rest) → AreAlike v.log (a ∷ b ∷ rest) → tally (block_count v.log) (a ∷ b ∷ rest) ≡ block_count v.log (merged_name a (b ∷ rest))
-sum-is v s a b rest fit alike = merged-count v.schema v.log a b rest (merged_name a (b ∷ rest)) (block_count v.log (merged_name a (b ∷ rest))) s.lawful (merges-of v.log a b rest fit alike)
+sum-is : (v : TableView) → IsSound v → (a b : Name) (rest : List Name) → AreMergeable v.log (a ∷ b ∷ rest) → AreAlike v.log v.quorum.pending (a ∷ b ∷ rest) → tally (block_count v.log) (a ∷ b ∷ rest) ≡ block_count v.log (merged_name a (b ∷ rest))
+sum-is v s a b rest fit alike = merged-count v.schema v.log a b rest (merged_name a (b ∷ rest)) (block_count v.log (merged_name a (b ∷ rest))) s.lawful (merges-of v.log v.quorum.pending a b rest fit alike)
 
-pub sources-few : (v : TableView) → IsSound v → (names : List Name) → AreMergeable v.log names → AreAlike v.log names → tally (block_count v.log) names < 2 ^ 32
+pub sources-few : (v : TableView) → IsSound v → (names : List Name) → AreMergeable v.log names → AreAlike v.log v.quorum.pending names → tally (block_count v.log) names < 2 ^ 32
 sources-few v s [] fit alike = absurd fit
 sources-few v s (a ∷ []) fit alike = absurd fit
 sources-few v s (a ∷ b ∷ rest) fit alike =
@@ -149,10 +151,11 @@ record IsReady (v : TableView) (names : List Name) (new : Name) : Type 0 where
   rest : List Name
   names_are : names ≡ first ∷ second ∷ rest
   may : MayMerge first second rest v
+  quiet : AreQuiet v.quorum.pending (first ∷ second ∷ rest)
   new_is : new ≡ merged_name first (second ∷ rest)
   sum : tally (block_count v.log) names ≡ block_count v.log (merged_name first (second ∷ rest))
 
-ready : (v : TableView) → IsSound v → (names : List Name) → AreMergeable v.log names → AreAlike v.log names → (new : Name) → IsMergedOf names new → IsLeastLocked v.holders new.partition new.min new.max None → worker_count v.log < 32768 → IsReady v names new
+ready : (v : TableView) → IsSound v → (names : List Name) → AreMergeable v.log names → AreAlike v.log v.quorum.pending names → (new : Name) → IsMergedOf names new → IsLeastLocked v.holders new.partition new.min new.max None → worker_count v.log < 32768 → IsReady v names new
 ready v s [] fit alike new e free few = absurd fit
 ready v s (a ∷ []) fit alike new e free few = absurd fit
 ready v s (a ∷ b ∷ rest) fit alike new e free few = record {
@@ -160,7 +163,8 @@ ready v s (a ∷ b ∷ rest) fit alike new e free few = record {
   second = b;
   rest = rest;
   names_are = refl;
-  may = record { neighbours = fit.0; partition = fit.1; version = alike-version v.log a (b ∷ rest) alike; none_in_flight = λ n k low high. at n low high k; worker_entries = few };
+  may = record { neighbours = fit.0; partition = fit.1; version = alike-version v.log v.quorum.pending a (b ∷ rest) alike; none_in_flight = λ n k low high. at n low high k; worker_entries = few };
+  quiet = alike-quiet v.log v.quorum.pending a b rest alike;
   new_is = e.1;
   sum = sum-is v s a b rest fit alike;
 }
@@ -189,7 +193,7 @@ seen-of v s names new count r c =
         subst (λ (y : Name). AssignsMerge (shown v) y xs n (shown (record v { log = Merge y xs n ∷ v.log }))) (sym e)
         (subst (λ (ys : List Name). AssignsMerge (shown v) whole ys n (shown (record v { log = Merge whole ys n ∷ v.log }))) (sym f)
         (subst (λ (m : ℕ). AssignsMerge (shown v) whole (r.first ∷ r.second ∷ r.rest) m (shown (record v { log = Merge whole (r.first ∷ r.second ∷ r.rest) m ∷ v.log }))) (sym g)
-        (merge-bridge v s r.first r.second r.rest r.may)))
+        (merge-bridge v s r.first r.second r.rest r.may r.quiet)))
 
 -- ---- the call
 
@@ -211,12 +215,23 @@ module _ (h : Held) (tokens : List (Token Entry)) (logged : h.log ≡ entries to
   long : length copy.log ≡ length h.log
   long = ap (λ (l : List Entry). length l) whole
 
-  pub merge-differs : (l r : Name) → AreFirstToDiffer copy.log names l r → HasCause now (merge.Differ l r)
-  merge-differs l r d = no-merge (merge.Differ l r) (long, subst (λ (k : List Entry). AreFirstToDiffer k names l r) whole d)
+  merge-differs : (l r : Name) → AreFirstToDiffer copy.log h.quorum.pending names l r → HasCause now (merge.Differ l r)
+  merge-differs l r d = no-merge (merge.Differ l r) (long, subst (λ (k : List Entry). AreFirstToDiffer k h.quorum.pending names l r) whole d)
 
-  module _ (alike-there : AreAlike copy.log names) where
-    alike : AreAlike h.log names
-    alike = subst (λ (l : List Entry). AreAlike l names) whole alike-there
+  merge-held : (l r part : Name) → AreFirstInQuorum copy.log h.quorum.pending names l r part → HasCause now (merge.InQuorum l r part)
+  merge-held l r part d = no-merge (merge.InQuorum l r part) (long, subst (λ (k : List Entry). AreFirstInQuorum k h.quorum.pending names l r part) whole d)
+
+  pub merge-apart : (part : Option Name) → IsPartOf h.quorum.pending part → (e : MergeError) → AreFirstApart copy.log part names e → HasCause now e
+  merge-apart part is-of (merge.Differ l r) d = merge-differs l r (d h.quorum.pending is-of)
+  merge-apart part is-of (merge.InQuorum l r a) d = merge-held l r a (d h.quorum.pending is-of)
+  merge-apart part is-of (merge.LogMoved seen found) d = absurd d
+  merge-apart part is-of (merge.InFlight n) d = absurd d
+  merge-apart part is-of (merge.LimitReached limit value) d = absurd d
+  merge-apart part is-of merge.Memory d = absurd d
+
+  module _ (alike-there : AreAlike copy.log h.quorum.pending names) where
+    alike : AreAlike h.log h.quorum.pending names
+    alike = subst (λ (l : List Entry). AreAlike l h.quorum.pending names) whole alike-there
 
     pub merge-can : CanMerge names
     merge-can = can-merge (table_of h) sound names fit-here alike

@@ -5,6 +5,7 @@ use Rattle.std.specs.declared.option.Option.{Option}
 use Rattle.std.specs.declared.option.Option.TheVariants.{None}
 use Rattle.rmt_values.specs.Rows.{Shape}
 use Rattle.rmt_row.specs.Token.{Token}
+use Rattle.rmt_model.specs.Quorum.{Quorum}
 use Rattle.rmt_entries.specs.declared.entry.Entry.{Entry}
 use Rattle.rmt_entries.specs.EntryBytes.{entry_bytes}
 use Rattle.rmt_history.specs.Copies.{entries}
@@ -71,12 +72,13 @@ module _ (schema : Shape) (count : ℕ) (few : count ≤ 8) (t : TreeView) (ops 
       places = λ i x e. absurd (cc);
     }
 
-    pub new-kept : (numbers : List NumbersOf) → numbers ≡ [] → IsTableTree (record { schema = schema; log = entries tokens; next = next; sessions = sessions; pulled = pulled; quorum = record { pending = None; last = None }; values = 0; tree = t }) tokens (no_counts numbers)
-    new-kept numbers no-numbers = subst (λ (ns : List NumbersOf). IsTableTree (record { schema = schema; log = entries tokens; next = next; sessions = sessions; pulled = pulled; quorum = record { pending = None; last = None }; values = 0; tree = t }) tokens (no_counts ns)) (sym no-numbers)
-        (subst (λ (h : Held). IsTableTree h tokens (no_counts [])) new-same (subst (λ (xs : List (Token Entry)). IsTableTree (new_held schema count t) xs (no_counts [])) (sym no-tokens) new-none))
+    pub new-kept : (quorum : Quorum) → quorum ≡ record { pending = None; last = None } → (numbers : List NumbersOf) → numbers ≡ [] → IsTableTree (record { schema = schema; log = entries tokens; next = next; sessions = sessions; pulled = pulled; quorum = quorum; values = 0; tree = t }) tokens (no_counts numbers)
+    new-kept quorum no-quorum numbers no-numbers = subst (λ (q : Quorum). IsTableTree (record { schema = schema; log = entries tokens; next = next; sessions = sessions; pulled = pulled; quorum = q; values = 0; tree = t }) tokens (no_counts numbers)) (sym no-quorum) (subst (λ (ns : List NumbersOf). IsTableTree (record { schema = schema; log = entries tokens; next = next; sessions = sessions; pulled = pulled; quorum = record { pending = None; last = None }; values = 0; tree = t }) tokens (no_counts ns)) (sym no-numbers)
+        (subst (λ (h : Held). IsTableTree h tokens (no_counts [])) new-same (subst (λ (xs : List (Token Entry)). IsTableTree (new_held schema count t) xs (no_counts [])) (sym no-tokens) new-none)))
 
-    pub new-shown : table_at (record { schema = schema; log = entries tokens; next = next; sessions = sessions; pulled = pulled; quorum = record { pending = None; last = None }; values = 0; tree = t }) ≡ starts.new_table schema []
-    new-shown =
-        ap table_at (sym new-same)
+    pub new-shown : (quorum : Quorum) → quorum ≡ record { pending = None; last = None } → table_at (record { schema = schema; log = entries tokens; next = next; sessions = sessions; pulled = pulled; quorum = quorum; values = 0; tree = t }) ≡ starts.new_table schema []
+    new-shown quorum no-quorum =
+        ap (λ (q : Quorum). table_at (record { schema = schema; log = entries tokens; next = next; sessions = sessions; pulled = pulled; quorum = q; values = 0; tree = t })) no-quorum
+        ∙ ap table_at (sym new-same)
         ∙ ap shown (held-table entry_bytes (new_held schema count t) (new_table schema count) new-stepped refl)
         ∙ ap (λ (xs : List ℕ). starts.new_table schema xs) (none-opened count 1)

@@ -37,6 +37,7 @@ commit_cause commit.Memory = None
 abbrev pub merge_cause : MergeError → Option StepRefused
 merge_cause (merge.LogMoved seen found) = Some (rf.LogMoved seen found)
 merge_cause (merge.Differ left right) = Some (rf.Differ left right)
+merge_cause (merge.InQuorum left right part) = Some (rf.InQuorum left right part)
 merge_cause (merge.InFlight number) = Some (rf.InFlight number)
 merge_cause (merge.LimitReached limit value) = Some (rf.LimitReached limit value)
 merge_cause merge.Memory = None

@@ -7,5 +7,7 @@ pub mod SeenTable
 pub mod TableTrees
 pub mod Causes
 pub mod Refusals
+pub mod Quorums
+pub mod Neighbours
 pub mod MutateEntries
 pub mod MutationOps

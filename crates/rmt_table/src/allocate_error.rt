@@ -1,8 +1,9 @@
 ghost use Rattle.std.specs.Prelude.{◌≡◌};
 ghost use Rattle.rmt_table.specs.Causes.{allocate_cause};
-ghost use Rattle.rmt_table.specs.Refusals.{IsSameLimit};
+ghost use Rattle.rmt_table.specs.Refusals.{IsSameLimit, allocate_of};
 ghost use Rattle.rmt_table.specs.declared.allocate_error.AllocateError.TheVariants.{Memory};
 
+use crate::quorum_error::QuorumError;
 use rmt_events::StepRefused;
 use rmt_inserts::NumberError;
 use rmt_names::PartName;
@@ -52,6 +53,16 @@ impl AllocateError {
                 value: *value,
             }),
             AllocateError::Memory => None,
+        }
+    }
+
+    /// The answer on a block, where this was that on its quorum.
+    pub(crate) fn of_quorum(error: QuorumError) -> AllocateError
+        ensures { result ≡ allocate_of error }
+    {
+        match error {
+            QuorumError::TooFewLive { live, need } => AllocateError::TooFewLive { live, need },
+            QuorumError::QuorumPending(part) => AllocateError::QuorumPending(part),
         }
     }
 

@@ -1,7 +1,9 @@
 ghost use Rattle.std.specs.Prelude.{◌≡◌};
 ghost use Rattle.rmt_table.specs.Causes.{commit_cause};
+ghost use Rattle.rmt_table.specs.Refusals.{commit_of};
 ghost use Rattle.rmt_table.specs.declared.commit_error.CommitError.TheVariants.{Memory};
 
+use crate::quorum_error::QuorumError;
 use rmt_events::StepRefused;
 use rmt_names::PartName;
 use rmt_values::Limit;
@@ -50,6 +52,16 @@ impl CommitError {
                 value: *value,
             }),
             CommitError::Memory => None,
+        }
+    }
+
+    /// The answer on a block, where this was that on its quorum.
+    pub(crate) fn of_quorum(error: QuorumError) -> CommitError
+        ensures { result ≡ commit_of error }
+    {
+        match error {
+            QuorumError::TooFewLive { live, need } => CommitError::TooFewLive { live, need },
+            QuorumError::QuorumPending(part) => CommitError::QuorumPending(part),
         }
     }
 }

@@ -25,7 +25,8 @@ pub fn each_call_is_seen_by_events()
     ensures abandon { (v : TableView) (p : Option ℕ) (n : ℕ) → IsSound v → seen.Unlocks (shown v) p n (shown (after_abandon p n v)) }
     ensures drop { (v : TableView) (p : Option ℕ) → IsSound v → MayDrop p v → seen.DropsPartition (shown v) p (next_number v.next p) (shown (after_drop p v)) }
     ensures mutation { (v : TableView) (command : CheckedMutation) → IsSound v → MayMutate command v → seen.CreatesMutation (shown v) command (shown (after_mutation command v)) }
-    ensures merge { (v : TableView) (a b : Name) (rest : List Name) → IsSound v → MayMerge a b rest v → seen.AssignsMerge (shown v) (merged_name a (b ∷ rest)) (a ∷ b ∷ rest) (block_count v.log (merged_name a (b ∷ rest))) (shown (after_merge a (b ∷ rest) v)) }
+    // The names may be merged where none of them covers the part that waits for its quorum.
+    ensures merge { (v : TableView) (a b : Name) (rest : List Name) → IsSound v → MayMerge a b rest v → seen.AreQuiet v.quorum.pending (a ∷ b ∷ rest) → seen.AssignsMerge (shown v) (merged_name a (b ∷ rest)) (a ∷ b ∷ rest) (block_count v.log (merged_name a (b ∷ rest))) (shown (after_merge a (b ∷ rest) v)) }
     ensures mutate { (v : TableView) (old : Name) (number upto : ℕ) → MayMutateOne old number upto v → seen.AssignsMutate (shown v) old (record old { mutation = number }) upto (block_count v.log old) (mutations_through v.log upto) (shown (after_mutate old number upto v)) }
     // How much of the log a replica has pulled isn't seen.
     ensures pull { (v : TableView) (r : ℕ) → shown (after_pull r v) ≡ shown v }

@@ -12,6 +12,8 @@ mod lock;
 mod merge_error;
 mod mutate_error;
 mod ops;
+mod quorum;
+mod quorum_error;
 mod table_tree;
 
 pub use allocate_error::AllocateError;
@@ -22,4 +24,5 @@ pub use laws::{a_table_is_seen_as_it_is, each_call_is_seen_by_events};
 pub use lock::Lock;
 pub use merge_error::MergeError;
 pub use mutate_error::MutateError;
+pub use quorum::Quorum;
 pub use table_tree::TableTree;

@@ -11,13 +11,28 @@ use std::alloc::AllocError;
 #[derive(Clone, Copy, Debug, PartialEq, Eq)]
 pub enum MergeError {
     /// The log has more entries than the copy that the merge was chosen from.
-    LogMoved { seen: u32, found: u32 },
+    LogMoved {
+        seen: u32,
+        found: u32,
+    },
     /// The first neighbours that are of different versions.
-    Differ { left: PartName, right: PartName },
+    Differ {
+        left: PartName,
+        right: PartName,
+    },
+    /// The first neighbours of one version of which one covers the part that waits for its quorum, and that part.
+    InQuorum {
+        left: PartName,
+        right: PartName,
+        part: PartName,
+    },
     /// The least number in the merged range that an insert holds.
     InFlight(u32),
     /// The entry would pass a limit, whose count is this.
-    LimitReached { limit: Limit, value: u64 },
+    LimitReached {
+        limit: Limit,
+        value: u64,
+    },
     /// Out of memory.
     Memory,
 }
@@ -43,6 +58,11 @@ impl MergeError {
             MergeError::Differ { left, right } => Some(StepRefused::Differ {
                 left: *left,
                 right: *right,
+            }),
+            MergeError::InQuorum { left, right, part } => Some(StepRefused::InQuorum {
+                left: *left,
+                right: *right,
+                part: *part,
             }),
             MergeError::InFlight(number) => Some(StepRefused::InFlight(*number)),
             MergeError::LimitReached { limit, value } => Some(StepRefused::LimitReached {

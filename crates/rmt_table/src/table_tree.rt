@@ -18,12 +18,14 @@ mod merge;
 mod mutate;
 mod mutation;
 mod pull;
+mod quorum;
 mod sessions;
 
 use crate::layout::new_ops;
 use crate::ops::multi;
 use rmt_history::TableLog;
 use rmt_partitions::{KeptNumbers, Partitions};
+use rmt_quorum::QuorumState;
 use rmt_tree::Tree;
 use rmt_values::{ReplicaId, Schema};
 use std::alloc::{AllocError, Global};
@@ -40,6 +42,8 @@ pub struct TableTree {
     sessions: Vec<Option<u64>>,
     /// The length of the log that each replica has pulled.
     pulled: Vec<u32>,
+    /// The part that waits for its quorum, and the last one whose quorum was met.
+    quorum: QuorumState,
     /// How many values the accepted blocks have.
     values: u64,
     /// How many entries of clients the log has.
@@ -59,7 +63,6 @@ pub struct TableTree {
 
 impl Model for TableTree {
     ghost use Rattle.std.specs.Arc.{arc_value};
-    ghost use Rattle.std.specs.Prelude.{None};
     ghost use Rattle.rmt_history.specs.Copies.{entries};
     ghost use Rattle.rmt_table_model.specs.Held.{Held};
     ghost use Rattle.rmt_table.specs.TableTrees.{IsTableTree};
@@ -71,9 +74,9 @@ impl Model for TableTree {
 
     ghost coded = { Prim.hlevel (codes, filter.the_row.coded, tree_code) };
 
-    ghost view = { λ t. record { schema = arc_value t.schema; log = entries t.log; next = t.partitions.numbers; sessions = t.sessions.items; pulled = t.pulled.items; quorum = record { pending = None; last = None }; values = t.values; tree = t.tree } };
+    ghost view = { λ t. record { schema = arc_value t.schema; log = entries t.log; next = t.partitions.numbers; sessions = t.sessions.items; pulled = t.pulled.items; quorum = t.quorum; values = t.values; tree = t.tree } };
 
-    ghost invariant = { λ t. IsTableTree (record { schema = arc_value t.schema; log = entries t.log; next = t.partitions.numbers; sessions = t.sessions.items; pulled = t.pulled.items; quorum = record { pending = None; last = None }; values = t.values; tree = t.tree }) t.log (record { clients = t.clients; workers = t.workers; mutations = t.mutations; blocks = t.blocks; kept = t.kept; numbers = t.numbers }) };
+    ghost invariant = { λ t. IsTableTree (record { schema = arc_value t.schema; log = entries t.log; next = t.partitions.numbers; sessions = t.sessions.items; pulled = t.pulled.items; quorum = t.quorum; values = t.values; tree = t.tree }) t.log (record { clients = t.clients; workers = t.workers; mutations = t.mutations; blocks = t.blocks; kept = t.kept; numbers = t.numbers }) };
 }
 
 impl TableTree {
@@ -103,6 +106,7 @@ impl TableTree {
             partitions: Partitions::new(alloc),
             sessions,
             pulled,
+            quorum: QuorumState::new(),
             values: 0,
             clients: 0,
             workers: 0,

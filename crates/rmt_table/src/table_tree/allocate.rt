@@ -1,4 +1,4 @@
-ghost use Rattle.std.specs.Prelude.{◌≡◌, ◌≤◌, IfOk, IfErr, IfSome, OnErr, length};
+ghost use Rattle.std.specs.Prelude.{◌≡◌, ◌≤◌, IfOk, IfErr, IfSome, OnOk, OnErr, length};
 ghost use Rattle.std.specs.Option.{option_map};
 ghost use Rattle.std.specs.declared.option.Option.TheVariants.{Some};
 ghost use Rattle.rmt_model.specs.BlockNumbers.{next_number};
@@ -7,7 +7,7 @@ ghost use Rattle.rmt_values.specs.declared.limit.Limit.TheVariants.{ClientEntrie
 ghost use Rattle.rmt_table.specs.declared.allocate_error.AllocateError.TheVariants.{LimitReached};
 ghost use Rattle.rmt_tree.specs.Ops.{after_all};
 ghost use Rattle.rmt_events.specs.TableCalls.{Allocates};
-ghost use Rattle.rmt_events.specs.TableRefusals.{NoNumber};
+ghost use Rattle.rmt_events.specs.TableRefusals.{HasQuorum, NoNumber};
 ghost use Rattle.rmt_table_model.specs.Held.{table_of};
 ghost use Rattle.rmt_table_model.specs.Nodes.{allocate_ops};
 ghost use Rattle.rmt_table.specs.TableTrees.{table_at, IsReplica};
@@ -70,8 +70,8 @@ impl TableTree {
         need: u32,
     ) -> Result<Lock, AllocateError>
         requires here { IsReplica self.old replica }
-        requires unasked { need ≡ 0 }
         ensures lock { IfOk result (λ lock. lock ≡ record { replica = replica; session = lock.session; number = next_number self.old.next id.now.partition; id = id.now }) }
+        ensures has_quorum { OnOk result (HasQuorum (table_at self.old) need) }
         ensures allocates { IfOk result (λ lock. Allocates (table_at self.old) replica id.now.partition id.now.digest lock.number (table_at self.new)) }
         ensures ops { IfOk result (λ lock. self.new.tree ≡ after_all self.old.tree (allocate_ops id.now.partition lock.session (table_of self.old))) }
         ensures refused { IfErr result (λ e. IfSome (allocate_cause e)
@@ -82,6 +82,9 @@ impl TableTree {
         let Some(number) = self.session(replica) else {
             return Err(AllocateError::NoSession);
         };
+        if let Some(error) = self.quorum_refusal(need) {
+            return Err(AllocateError::of_quorum(error));
+        }
         if let Some(part) = kept(&self.tree, alloc, id)? {
             return Err(AllocateError::Duplicate(part));
         }

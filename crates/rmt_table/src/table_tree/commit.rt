@@ -1,4 +1,4 @@
-ghost use Rattle.std.specs.Prelude.{◌≡◌, ◌∷◌, true, None, length, [], IfOk, IfErr, IfSome, OnOk, OnErr};
+ghost use Rattle.std.specs.Prelude.{◌≡◌, ◌≢◌, ◌∷◌, ◌++◌, true, None, length, [], IfOk, IfErr, IfSome, OnOk, OnErr};
 ghost use Rattle.rmt_tree.specs.Ops.{after_all};
 ghost use Rattle.rmt_tree.specs.declared.op.Op.TheVariants as op;
 ghost use Rattle.rmt_znodes.specs.declared.znode.Znode.TheVariants as ZnodeOf;
@@ -8,9 +8,10 @@ ghost use Rattle.rmt_table_model.specs.Kept.{in_order, with_id};
 ghost use Rattle.rmt_entries.specs.EntryBytes.{entry_bytes, EntryInRange};
 ghost use Rattle.rmt_entries.specs.declared.entry.Entry.TheVariants.{Get};
 ghost use Rattle.rmt_events.specs.TableCalls.{Commits, IsLocked};
+ghost use Rattle.rmt_events.specs.TableRefusals.{HasQuorum};
 ghost use Rattle.rmt_table_model.specs.Held.{table_of, holders_in};
 ghost use Rattle.rmt_table_model.specs.Numbers.{IsLocked as IsHeldBy};
-ghost use Rattle.rmt_table_model.specs.Nodes.{commit_ops as commit_ops_of, keep_ops as keep_ops_of};
+ghost use Rattle.rmt_table_model.specs.Nodes.{commit_ops as commit_ops_of, keep_ops as keep_ops_of, status_ops};
 ghost use Rattle.rmt_table.specs.TableTrees.{table_at, IsReplica, AfterNoCommit, kept_after as kept_after_of};
 ghost use Rattle.rmt_table.specs.Causes.{commit_cause};
 ghost use Rattle.rmt_table.specs.Refusals.{NoCommit, IsAcceptable, TakesLock};
@@ -22,6 +23,7 @@ use crate::table_tree::TableTree;
 use rmt_entries::Entry;
 use rmt_inserts::{keep_ops, kept};
 use rmt_names::block_name;
+use rmt_quorum::open_ops;
 use rmt_row::Seen;
 use rmt_tree::{Op, Path};
 use rmt_values::Limit;
@@ -68,14 +70,18 @@ impl TableTree {
         &self,
         alloc: Global,
         lock: &Lock,
+        need: u32,
         values: u64,
     ) -> Result<Option<CommitError>, AllocError>
         requires locked { IsLocked (table_at self.now).locks lock.now.id.partition lock.now.number }
-        ensures none { IfOk result (λ refused. refused ≡ None → IsAcceptable (table_at self.now) lock.now values) }
+        ensures none { IfOk result (λ refused. refused ≡ None → IsAcceptable (table_at self.now) lock.now need values) }
         ensures some { IfOk result (λ refused. IfSome refused (λ e. IfSome (commit_cause e)
-            (NoCommit (table_at self.now) lock.now 0 values))) }
+            (NoCommit (table_at self.now) lock.now need values))) }
         ensures takes { IfOk result (λ refused. IfSome refused TakesLock) }
     {
+        if let Some(error) = self.quorum_refusal(need) {
+            return Ok(Some(CommitError::of_quorum(error)));
+        }
         if let Some(part) = kept(&self.tree, alloc, &lock.id)? {
             return Ok(Some(CommitError::Duplicate(part)));
         }
@@ -105,11 +111,13 @@ impl TableTree {
         requires path { path ≡ znode_path (ZnodeOf.Lock lock.now.id.partition lock.now.number) }
         requires in_range { EntryInRange (Get lock.now.id.partition lock.now.number lock.now.id.digest lock.now.replica need) }
         requires unkept { with_id lock.now.id.partition lock.now.id.digest (in_order self.now.schema.window self.now.log) ≡ None }
-        ensures { IfOk result (λ ops. ops.items ≡ op.Delete (znode_path (ZnodeOf.Lock lock.now.id.partition lock.now.number)) None ∷ op.Create entry_path (entry_bytes (Get lock.now.id.partition lock.now.number lock.now.id.digest lock.now.replica need)) true None ∷ keep_ops_of self.now.schema.window (in_order self.now.schema.window self.now.log) lock.now.id.partition lock.now.id.digest (block_name_of lock.now.id.partition lock.now.number)) }
+        ensures { IfOk result (λ ops. ops.items ≡ op.Delete (znode_path (ZnodeOf.Lock lock.now.id.partition lock.now.number)) None ∷ op.Create entry_path (entry_bytes (Get lock.now.id.partition lock.now.number lock.now.id.digest lock.now.replica need)) true None ∷ (keep_ops_of self.now.schema.window (in_order self.now.schema.window self.now.log) lock.now.id.partition lock.now.id.digest (block_name_of lock.now.id.partition lock.now.number) ++ status_ops (block_name_of lock.now.id.partition lock.now.number) need)) }
     {
         let mut ops = block_ops(alloc, lock, path, need)?;
         let mut keep = self.id_ops(alloc, lock)?;
         ops.append(&mut keep)?;
+        let mut open = open_ops(alloc, &block_name(lock.id.partition, lock.number), need)?;
+        ops.append(&mut open)?;
         Ok(ops)
     }
 
@@ -130,8 +138,9 @@ impl TableTree {
         Ok(keep)
     }
 
-    /// Accepts the block of a lock: its entry and its id are written, and the lock goes. The entry's token comes back.
-    /// `values` is the number of the block's rows times the number of its columns.
+    /// Accepts the block of a lock: its entry and its id are written, and the lock goes. Where the block asks for a quorum,
+    /// its part waits for it then. The entry's token comes back. `need` is how many replicas have to note the part, 0 for no
+    /// quorum. `values` is the number of the block's rows times the number of its columns.
     ///
     /// At `LockGone` and `Memory` the table is as it was, and at each other error the lock is gone.
     pub fn commit_insert(
@@ -142,7 +151,8 @@ impl TableTree {
         values: u64,
     ) -> Result<Seen<Entry>, CommitError>
         requires here { IsReplica self.old lock.now.replica }
-        requires unasked { need ≡ 0 }
+        requires quorum { need ≢ 1 }
+        ensures has_quorum { OnOk result (HasQuorum (table_at self.old) need) }
         ensures token { IfOk result (λ token. token ≡ record { place = length self.old.log; value = Get lock.now.id.partition lock.now.number lock.now.id.digest lock.now.replica need; cell = length self.old.log }) }
         ensures commits { OnOk result (Commits (table_at self.old) lock.now.id.partition lock.now.number lock.now.id.digest lock.now.replica need values (table_at self.new)) }
         ensures ops { OnOk result (self.new.tree ≡ after_all self.old.tree (commit_ops_of entry_bytes lock.now.id.partition lock.now.number lock.now.id.digest lock.now.replica need (table_of self.old))) }
@@ -161,7 +171,7 @@ impl TableTree {
                 number: lock.number,
             });
         }
-        if let Some(refused) = self.commit_refusal(alloc, lock, values)? {
+        if let Some(refused) = self.commit_refusal(alloc, lock, need, values)? {
             delete(&mut self.tree, alloc, path)?;
             return Err(refused);
         }
@@ -181,10 +191,10 @@ impl TableTree {
         values: u64,
     ) -> Result<Seen<Entry>, AllocError>
         requires here { IsReplica self.old lock.now.replica }
-        requires unasked { need ≡ 0 }
+        requires quorum { need ≢ 1 }
         requires path { path ≡ znode_path (ZnodeOf.Lock lock.now.id.partition lock.now.number) }
         requires locked { IsHeldBy (holders_in self.old.tree) lock.now.id.partition lock.now.number }
-        requires acceptable { IsAcceptable (table_at self.old) lock.now values }
+        requires acceptable { IsAcceptable (table_at self.old) lock.now need values }
         ensures token { IfOk result (λ token. token ≡ record { place = length self.old.log; value = Get lock.now.id.partition lock.now.number lock.now.id.digest lock.now.replica need; cell = length self.old.log }) }
         ensures commits { OnOk result (Commits (table_at self.old) lock.now.id.partition lock.now.number lock.now.id.digest lock.now.replica need values (table_at self.new)) }
         ensures ops { OnOk result (self.new.tree ≡ after_all self.old.tree (commit_ops_of entry_bytes lock.now.id.partition lock.now.number lock.now.id.digest lock.now.replica need (table_of self.old))) }
@@ -197,6 +207,8 @@ impl TableTree {
         let entry = entry_of(lock, need);
         let token = append(&mut self.tree, &mut self.log, alloc, &ops, entry)?;
         self.numbers.push(lock.id.partition, self.blocks);
+        let part = block_name(lock.id.partition, lock.number);
+        self.quorum.open(alloc, part, need);
         self.clients += 1;
         self.blocks += 1;
         self.values += values;

@@ -11,7 +11,7 @@ ghost use Rattle.rmt_inserts.specs.OrderNumbers.{IncludeKept};
 ghost use Rattle.rmt_table_model.specs.Numbers.{Nexts, Holders, next_of};
 ghost use Rattle.rmt_table_model.specs.Kept.{Placed, outlives};
 ghost use Rattle.rmt_table_model.specs.Inserts.{HasNumbers, HasKeptIds, AreDropOps};
-ghost use Rattle.rmt_table_model.specs.Nodes.{number_ops as ops_of_number};
+ghost use Rattle.rmt_table_model.specs.Nodes.{number_ops as ops_of_number, pending_drop_ops, last_drop_ops};
 ghost use Rattle.rmt_model.specs.BlockNumbers.{next_number};
 ghost use Rattle.rmt_model.specs.EntryLimits.{drop_limit};
 ghost use Rattle.rmt_events.specs.TableRefusals.{NoDrop};
@@ -25,16 +25,18 @@ use crate::table_tree::TableTree;
 use rmt_entries::Entry;
 use rmt_inserts::{DropOps, drop_ops, number_ops};
 use rmt_names::PartitionId;
+use rmt_quorum::QuorumState;
 use rmt_row::Seen;
 use rmt_tree::Tree;
 use rmt_values::Limit;
 use std::alloc::{AllocError, Global};
 
-/// The operations that drop the numbers of a partition below its next one, which is this, and write the entry of the drop,
-/// and how many kept ids go. `numbers` are the partition's numbers in the order of acceptance. At an error no memory was
-/// left.
+/// The operations that drop the numbers of a partition below its next one, which is this, write the entry of the drop, and
+/// take away what it takes of the quorum; and how many kept ids go. `numbers` are the partition's numbers in the order of
+/// acceptance. At an error no memory was left.
 fn ops_of_drop(
     tree: &Tree,
+    quorum: &QuorumState,
     alloc: Global,
     partition: PartitionId,
     number: u32,
@@ -45,7 +47,7 @@ fn ops_of_drop(
     requires kept { (ks : List Placed) × (count : ℕ) × HasKeptIds tree.now ks count × IncludeKept ks partition numbers.now }
     ensures ops { (next : Nexts) (holders : Holders) (ks : List Placed) (count : ℕ) → HasNumbers tree.now next holders → HasKeptIds tree.now ks count → next_of next partition ≡ Some number
         → IfOk result (λ d. (removals : List Op) × AreDropOps holders ks partition number removals
-        × (d.ops.items ≡ ops_of_number partition number ++ (removals ++ op.Create entry_path (entry_bytes (DropRange partition number)) true None ∷ []))) }
+        × (d.ops.items ≡ ops_of_number partition number ++ (removals ++ op.Create entry_path (entry_bytes (DropRange partition number)) true None ∷ (pending_drop_ops partition number quorum.now.pending ++ last_drop_ops partition number quorum.now.last)))) }
     ensures forgotten { (ks : List Placed) (count : ℕ) → HasKeptIds tree.now ks count
         → IfOk result (λ d. d.forgotten + length (filter (outlives partition number) ks) ≡ length ks) }
 {
@@ -54,6 +56,8 @@ fn ops_of_drop(
     ops.append(&mut dropped.ops)?;
     let write = write_op(alloc, Entry::DropRange { partition, number })?;
     ops.push(write)?;
+    let mut gone = quorum.drop_ops(alloc, partition, number)?;
+    ops.append(&mut gone)?;
     Ok(DropOps {
         ops,
         forgotten: dropped.forgotten,
@@ -62,8 +66,8 @@ fn ops_of_drop(
 
 impl TableTree {
     /// Drops all parts of a partition: a drop of the numbers below its next one is appended, and takes that number. The
-    /// locks of inserts in flight and the kept ids of the partition's blocks go. The entry's token comes back; `None` where
-    /// the partition doesn't exist.
+    /// locks of inserts in flight and the kept ids of the partition's blocks go, and its part that waits for its quorum, or
+    /// whose quorum was met last. The entry's token comes back; `None` where the partition doesn't exist.
     ///
     /// At an error the table is as it was.
     pub fn drop_partition(
@@ -85,11 +89,13 @@ impl TableTree {
         }
         self.partitions.reserve()?;
         let numbers = self.numbers.of(partition);
-        let drop = ops_of_drop(&self.tree, alloc, partition, number, numbers)?;
+        let quorum = &self.quorum;
+        let drop = ops_of_drop(&self.tree, quorum, alloc, partition, number, numbers)?;
         let entry = Entry::DropRange { partition, number };
         let token = append(&mut self.tree, &mut self.log, alloc, &drop.ops, entry)?;
         self.partitions.take(partition);
         self.numbers.clear(partition);
+        self.quorum.drop_below(partition, number);
         self.clients += 1;
         self.kept -= drop.forgotten;
         Ok(Some(token))

@@ -1,6 +1,7 @@
 ghost use Rattle.std.specs.Prelude.{◌≡◌, length, MatchOption, IfOk, IfErr, IfSome, OnOk, OnErr};
 ghost use Rattle.rmt_events.specs.LogEvents.{AreMergeable};
-ghost use Rattle.rmt_events.specs.TableRefusals.{AreFirstToDiffer, AreAlike, NotMerged};
+ghost use Rattle.rmt_events.specs.TableRefusals.{NotMerged};
+ghost use Rattle.rmt_table.specs.Neighbours.{HoldNone, HoldPart, AreJoined, AreFirstApart};
 ghost use Rattle.rmt_table.specs.TableTrees.{table_at, IsCopyOf, IsMergeOf};
 ghost use Rattle.rmt_table.specs.Causes.{merge_cause};
 
@@ -12,15 +13,27 @@ use rmt_entries::Entry;
 use rmt_history::LogCopy;
 use rmt_inserts::in_flight;
 use rmt_list::List;
-use rmt_names::{PartName, merged};
+use rmt_names::{PartName, covers, merged};
 use rmt_row::Seen;
 use rmt_values::Limit;
 use std::alloc::Global;
 
-/// The first neighbours among these names that are of different versions.
-fn first_to_differ(copy: &LogCopy, names: &[PartName]) -> Option<(PartName, PartName)>
-    ensures { MatchOption result (AreAlike copy.now.log names.now)
-        (λ pair. AreFirstToDiffer copy.now.log names.now pair.0 pair.1) }
+/// The part that waits for its quorum, where one of two names covers it.
+fn held(pending: &Option<PartName>, left: &PartName, right: &PartName) -> Option<PartName>
+    ensures { MatchOption result (HoldNone pending.now left.now right.now) (HoldPart pending.now left.now right.now) }
+{
+    let Some(part) = pending else {
+        return None;
+    };
+    if covers(left, part) || covers(right, part) {
+        return Some(*part);
+    }
+    None
+}
+
+/// Why these names may not be merged: the first neighbours that may not.
+fn first_apart(copy: &LogCopy, pending: &Option<PartName>, names: &[PartName]) -> Option<MergeError>
+    ensures { MatchOption result (AreJoined copy.now.log pending.now names.now) (AreFirstApart copy.now.log pending.now names.now) }
 {
     let [first, rest @ ..] = names else {
         return None;
@@ -28,7 +41,17 @@ fn first_to_differ(copy: &LogCopy, names: &[PartName]) -> Option<(PartName, Part
     let mut left = *first;
     'names: for right in rest {
         if copy.ver(&left) != copy.ver(right) {
-            return Some((left, *right));
+            return Some(MergeError::Differ {
+                left,
+                right: *right,
+            });
+        }
+        if let Some(part) = held(pending, &left, right) {
+            return Some(MergeError::InQuorum {
+                left,
+                right: *right,
+                part,
+            });
         }
         left = *right;
     }
@@ -62,8 +85,9 @@ impl TableTree {
                 found: self.log_len(),
             });
         }
-        if let Some((left, right)) = first_to_differ(copy, sources) {
-            return Err(MergeError::Differ { left, right });
+        let pending = self.pending_part();
+        if let Some(error) = first_apart(copy, &pending, sources) {
+            return Err(error);
         }
         let Some(new) = merged(sources) else {
             unreachable!()

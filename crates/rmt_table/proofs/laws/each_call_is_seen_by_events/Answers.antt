@@ -17,7 +17,7 @@ pub returns-clause-mutation : goal.returns-clause-mutation
 returns-clause-mutation c = λ v command sound m. mutation-bridge v sound command m
 
 pub returns-clause-merge : goal.returns-clause-merge
-returns-clause-merge c = λ v a b rest sound m. merge-bridge v sound a b rest m
+returns-clause-merge c = λ v a b rest sound m quiet. merge-bridge v sound a b rest m quiet
 
 pub returns-clause-mutate : goal.returns-clause-mutate
 returns-clause-mutate c = λ v old number upto m. mutate-bridge v old number upto m

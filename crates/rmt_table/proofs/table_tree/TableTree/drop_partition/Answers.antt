@@ -25,48 +25,48 @@ returns-in_default-clause-done c = (
 
 pub returns-in-Some-drop_refusal-clause-refused : goal.returns-in-Some-drop_refusal-clause-refused
 returns-in-Some-drop_refusal-clause-refused c =
-    drop-refused (the_view c.self.inside) c.self.inside.log _ c.self.invariant refl c.args.self.now c.self.view_is c.args.partition c.number.result c.number.ensures c.in-Some.number c.in-Some.is c.drop_refusal.result c.drop_refusal.ensures
+    drop-refused (the_view c.self.inside) c.self.inside.log _ c.self.invariant c.args.self.now c.self.view_is c.args.partition c.number.result c.number.ensures c.in-Some.number c.in-Some.is c.drop_refusal.result c.drop_refusal.ensures
     c.in-Some-drop_refusal.error c.in-Some-drop_refusal.is
 
 pub take-requires-clause-small : goal.take-requires-clause-small
 take-requires-clause-small c =
-    drop-small (the_view c.self.inside) c.self.inside.log _ c.self.invariant refl c.args.self.now c.self.view_is c.args.partition c.number.result c.number.ensures c.in-Some.number c.in-Some.is c.drop_refusal.result c.drop_refusal.ensures c.in_default-drop_refusal.is
+    drop-small (the_view c.self.inside) c.self.inside.log _ c.self.invariant c.args.self.now c.self.view_is c.args.partition c.number.result c.number.ensures c.in-Some.number c.in-Some.is c.drop_refusal.result c.drop_refusal.ensures c.in_default-drop_refusal.is
     c.reserve.new.self.numbers c.in_ok-reserve.ensures.numbers
 
 pub overflow_sub-self : goal.overflow_sub-self
 overflow_sub-self c =
-    drop-fewer (the_view c.self.inside) c.self.inside.log _ c.self.invariant refl c.args.self.now c.self.view_is c.args.partition c.number.result c.number.ensures c.in-Some.number c.in-Some.is c.drop_refusal.result c.drop_refusal.ensures c.in_default-drop_refusal.is
+    drop-fewer (the_view c.self.inside) c.self.inside.log _ c.self.invariant c.args.self.now c.self.view_is c.args.partition c.number.result c.number.ensures c.in-Some.number c.in-Some.is c.drop_refusal.result c.drop_refusal.ensures c.in_default-drop_refusal.is
     c.in_ok-drop.drop.forgotten c.in_ok-drop.ensures.forgotten
 
 pub invariant_of-self-2 : goal.invariant_of-self-2
 invariant_of-self-2 c =
-    drop-kept (the_view c.self.inside) c.self.inside.log _ c.self.invariant refl c.args.self.now c.self.view_is c.args.partition c.number.result c.number.ensures c.in-Some.number c.in-Some.is c.drop_refusal.result c.drop_refusal.ensures c.in_default-drop_refusal.is
+    drop-kept (the_view c.self.inside) c.self.inside.log _ c.self.invariant c.args.self.now c.self.view_is c.args.partition c.number.result c.number.ensures c.in-Some.number c.in-Some.is c.drop_refusal.result c.drop_refusal.ensures c.in_default-drop_refusal.is
     c.in_ok-drop.drop.ops.items c.in_ok-drop.ensures.ops c.append.new.tree (c.in_ok-token.ensures.tree ∙ ap (after_all c.self.inside.tree) c.deref.ensures.value)
     (entries c.append.new.log)
     (entries-more c.self.inside.log c.append.new.log c.in_ok-token.token (DropRange c.args.partition c.in-Some.number) c.in_ok-token.ensures.log (ap (λ (t : Token Entry). t.value) c.in_ok-token.ensures.token))
     c.take.new.self.numbers
     (c.take.ensures ∙ ap (λ (ns : Nexts). with_next ns c.args.partition (next_number ns c.args.partition + 1)) c.in_ok-reserve.ensures.numbers)
-    c.append.new.log
+    c.drop_below.new.self c.drop_below.ensures c.append.new.log
     (placed-snoc c.self.inside.log c.append.new.log c.in_ok-token.token c.in_ok-token.ensures.log (ap (λ (t : Token Entry). t.place) c.in_ok-token.ensures.token) c.self.invariant.places)
     c.clear.new.self (numbers-dropped (the_view c.self.inside).log c.args.partition (next_number (the_view c.self.inside).next c.args.partition) c.self.inside.numbers c.clear.new.self c.self.invariant.counted.numbers c.clear.ensures.numbers c.clear.ensures.others)
     c.in_ok-drop.drop.forgotten
-    (drop-forgets (the_view c.self.inside) c.self.inside.log _ c.self.invariant refl c.args.self.now c.self.view_is c.args.partition c.number.result c.number.ensures c.in-Some.number c.in-Some.is c.drop_refusal.result c.drop_refusal.ensures c.in_default-drop_refusal.is
+    (drop-forgets (the_view c.self.inside) c.self.inside.log _ c.self.invariant c.args.self.now c.self.view_is c.args.partition c.number.result c.number.ensures c.in-Some.number c.in-Some.is c.drop_refusal.result c.drop_refusal.ensures c.in_default-drop_refusal.is
     c.in_ok-drop.drop.forgotten c.in_ok-drop.ensures.forgotten)
 
 pub returns-clause-done : goal.returns-clause-done
 returns-clause-done c =
-    drop-done (the_view c.self.inside) c.self.inside.log _ c.self.invariant refl c.args.self.now c.self.view_is c.args.partition c.number.result c.number.ensures c.in-Some.number c.in-Some.is c.drop_refusal.result c.drop_refusal.ensures c.in_default-drop_refusal.is
+    drop-done (the_view c.self.inside) c.self.inside.log _ c.self.invariant c.args.self.now c.self.view_is c.args.partition c.number.result c.number.ensures c.in-Some.number c.in-Some.is c.drop_refusal.result c.drop_refusal.ensures c.in_default-drop_refusal.is
     c.in_ok-drop.drop.ops.items c.in_ok-drop.ensures.ops c.append.new.tree (c.in_ok-token.ensures.tree ∙ ap (after_all c.self.inside.tree) c.deref.ensures.value)
     (entries c.append.new.log)
     (entries-more c.self.inside.log c.append.new.log c.in_ok-token.token (DropRange c.args.partition c.in-Some.number) c.in_ok-token.ensures.log (ap (λ (t : Token Entry). t.value) c.in_ok-token.ensures.token))
     c.take.new.self.numbers
     (c.take.ensures ∙ ap (λ (ns : Nexts). with_next ns c.args.partition (next_number ns c.args.partition + 1)) c.in_ok-reserve.ensures.numbers)
-    c.in_ok-token.token
+    c.drop_below.new.self c.drop_below.ensures c.in_ok-token.token
     (token-next (the_view c.self.inside) c.args.self.now c.self.view_is c.self.inside.log refl (DropRange c.args.partition c.in-Some.number) c.in_ok-token.token c.in_ok-token.ensures.token)
 
 pub append-requires : goal.append-requires
 append-requires c = record {
-  fine = subst (λ (xs : List Op). first_refusal c.self.inside.tree xs 0 ≡ None) (sym c.deref.ensures.value) (drop-fine (the_view c.self.inside) c.self.inside.log _ c.self.invariant refl c.args.self.now c.self.view_is c.args.partition c.number.result c.number.ensures c.in-Some.number c.in-Some.is c.drop_refusal.result c.drop_refusal.ensures c.in_default-drop_refusal.is
+  fine = subst (λ (xs : List Op). first_refusal c.self.inside.tree xs 0 ≡ None) (sym c.deref.ensures.value) (drop-fine (the_view c.self.inside) c.self.inside.log _ c.self.invariant c.args.self.now c.self.view_is c.args.partition c.number.result c.number.ensures c.in-Some.number c.in-Some.is c.drop_refusal.result c.drop_refusal.ensures c.in_default-drop_refusal.is
       c.in_ok-drop.drop.ops.items c.in_ok-drop.ensures.ops);
 }
 

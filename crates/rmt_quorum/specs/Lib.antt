@@ -1,0 +1,2 @@
+pub use Rattle.rmt_model.specs.Quorum
+pub mod QuorumNodes
