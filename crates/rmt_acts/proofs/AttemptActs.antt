@@ -108,6 +108,7 @@ gets-by s m u r place reply (rp.Applied comes) x w k l t h = gets s m u r place 
 gets-by s m u r place reply (rp.Attempt _ _) x w k l t h = elim x [ ]
 gets-by s m u r place reply (rp.Entry _) x w k l t h = elim x [ ]
 gets-by s m u r place reply (rp.Pulled _) x w k l t h = elim x [ ]
+gets-by s m u r place reply (rp.Noted _) x w k l t h = elim x [ ]
 gets-by s m u r place reply rp.Done x w k l t h = elim x [ ]
 gets-by s m u r place reply (rp.Refused _) x w k l t h = elim x [ ]
 

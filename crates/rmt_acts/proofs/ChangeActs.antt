@@ -9,6 +9,7 @@ use Rattle.rmt_entries.specs.declared.entry.Entry.{Entry}
 use Rattle.rmt_entries.specs.declared.entry.Entry.TheVariants.{DropRange}
 use Rattle.rmt_model.specs.Lawful.{entry_at}
 use Rattle.rmt_model.proofs.Drops.{some-same}
+use Rattle.rmt_model.specs.Quorum.{quorum_after_drop}
 use Rattle.rmt_model.specs.BlockNumbers.{next_number, with_next}
 use Rattle.rmt_model.specs.EntryLimits.{drop_limit}
 use Rattle.rmt_events.specs.Views.{Replica}
@@ -86,7 +87,7 @@ pub drops : (s a u : Cluster) (r : ℕ) (p : Option ℕ) (place below : ℕ) →
 drops s a u r p place below w k d t h =
     let n = newest s a p place k in
     let x = dropped-at s a p place k in
-    let state = record t { log = DropRange p (next_number t.next p) ∷ t.log; next = with_next t.next p (next_number t.next p + 1) } in
+    let state = record t { log = DropRange p (next_number t.next p) ∷ t.log; next = with_next t.next p (next_number t.next p + 1); quorum = quorum_after_drop p (next_number t.next p) t.quorum } in
     let last = d.does state (drop-shows s a p place w k n t h) in
     let at : place ≡ length t.log = newest-place s k.after p place n ∙ ap (λ (l : List Entry). length l) (sym h.log) in
     record {

@@ -57,6 +57,7 @@ reaches-followed s u r (rp.Entry place) f = reaches-synced s u r f.syncs
 reaches-followed s u r (rp.Attempt id n) f = subst (Reaches s) (sym f) (reaches-itself s)
 reaches-followed s u r (rp.Applied applied) f = subst (Reaches s) (sym f) (reaches-itself s)
 reaches-followed s u r (rp.Pulled n) f = subst (Reaches s) (sym f) (reaches-itself s)
+reaches-followed s u r (rp.Noted noted) f = subst (Reaches s) (sym f) (reaches-itself s)
 reaches-followed s u r rp.Done f = subst (Reaches s) (sym f) (reaches-itself s)
 reaches-followed s u r (rp.Refused why) f = subst (Reaches s) (sym f) (reaches-itself s)
 

@@ -26,7 +26,7 @@ use Rattle.rmt_statement_model.specs.Shows.{Shows, Leads, IsIdle, IsUpToDate, up
 use Rattle.rmt_statement_model.proofs.UpLaws.{ups-step}
 use Rattle.rmt_statement_model.proofs.LockSteps.{none-held}
 use Rattle.rmt_statement_model.proofs.MergeReplies.{IsMergeReply, merge-reply}
-use Rattle.rmt_statement_model.proofs.OptimizeRows.{merged-row, one-row, differ-row, no-entry-row}
+use Rattle.rmt_statement_model.proofs.OptimizeRows.{merged-row, one-row, differ-row, in-quorum-row, no-entry-row}
 use Rattle.rmt_acts.specs.Optimizing.{OptimizesOne, IsMergeAt, IsToldAs}
 use Rattle.rmt_acts.specs.Syncing.{HasDoneGets}
 use Rattle.rmt_acts.proofs.SyncActs.{gets-done, gets-done-still}
@@ -93,7 +93,7 @@ module _ (s : Cluster) (r : ℕ) (p : Option ℕ) (names : List Name) (reply : R
   told-step : Step s (ev.Merge r (m.are.first ∷ m.are.second ∷ m.are.rest)) reply u
   told-step = subst (λ (ns : List Name). Step s (ev.Merge r ns) reply u) m.are.are m.step
 
-  -- it is merged, or refused for one of two causes
+  -- it is merged, or refused for one of three causes
   pub answers : IsMergeReply reply
   answers = merge-reply s u r p m.are.first m.are.second m.are.rest reply m.whole m.idle m.up_to_date told-live told-step
 
@@ -115,13 +115,16 @@ no-other reply a f g = absurd a
 
 -- the cause is one that a statement's reply tells
 pub cause-told : (why : StepRefused) → IsMergeReply (rp.Refused why) → (x : Refusal) × IsToldAs why x
-cause-told (rf.Differ left right) a = (Unmergeable left right, refl)
+cause-told (rf.Differ left right) a = (Unmergeable left right, inl refl)
+cause-told (rf.InQuorum left right part) a = (Unmergeable left right, inr (part, refl))
 cause-told (rf.LimitReached limit value) a = (LimitReached limit value, refl)
 cause-told why a = absurd a
 
 -- the names can't be merged for it
 pub refused-merge : (s u : Cluster) (r : ℕ) (p : Option ℕ) (names : List Name) (why : StepRefused) (x : Refusal) → IsToldAs why x → MergesAll s r p names (rp.Refused why) u → (t : TableState) → Shows s t → Leads u (λ v. CantOptimize t p x × (v ≡ t))
-refused-merge s u r p names why (Unmergeable left right) e m t h =
+refused-merge s u r p names why (Unmergeable left right) (inr e) m t h =
+    in-quorum-row s u r p names left right e.0 m.whole (sym m.live) (subst (λ (y : StepRefused). Step s (ev.Merge r names) (rp.Refused y) u) e.1 m.step) t h
+refused-merge s u r p names why (Unmergeable left right) (inl e) m t h =
     differ-row s u r p names left right m.whole (sym m.live) (subst (λ (y : StepRefused). Step s (ev.Merge r names) (rp.Refused y) u) e m.step) t h
 refused-merge s u r p names why (LimitReached limit value) e m t h =
     no-entry-row s u r p names limit value m.whole (subst (λ (ns : List Name). 2 ≤ length ns) (sym m.are.are) (omega arith)) (sym m.live) (subst (λ (y : StepRefused). Step s (ev.Merge r names) (rp.Refused y) u) e m.step) t h

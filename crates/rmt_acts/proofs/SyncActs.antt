@@ -58,6 +58,7 @@ are-quiet p k below ((ev.CreateMutation command, q) ∷ xs) f = absurd f
 are-quiet p k below ((ev.DropPartition n, q) ∷ xs) f = absurd f
 are-quiet p k below ((ev.Kill r, q) ∷ xs) f = absurd f
 are-quiet p k below ((ev.Restart r, q) ∷ xs) f = absurd f
+are-quiet p k below ((ev.Note r, q) ∷ xs) f = absurd f
 are-quiet p k below ((ev.Fetches r allowed, q) ∷ xs) f = absurd f
 
 -- the events of one sync
@@ -123,6 +124,7 @@ is-lacking s u k a source w up e t h = record {
     schema = v.schema;
     log = v.log;
     next = v.next;
+    quorum = v.quorum;
     blocks = v.blocks;
     knows = subst (λ j. EachKnows u (learned_to t.known j l.place)) l.before.is.at.number
         (done-known u l.before.replica t.known l.place whole l.before.is.at.is_in (let b = entry-below l.before.replica.log l.place _ l.waits.at in omega (arith, b)) l.before.done v.knows);

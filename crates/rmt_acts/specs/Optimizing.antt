@@ -35,7 +35,7 @@ MergesSome s r u = (u ≡ s) ⊎ MergesOnce r s u
 
 -- why names weren't merged, as a statement's reply says it
 abbrev pub IsToldAs : StepRefused → Refusal → Type 0
-IsToldAs why (Unmergeable left right) = why ≡ rf.Differ left right
+IsToldAs why (Unmergeable left right) = (why ≡ rf.Differ left right) ⊎ ((part : Name) × (why ≡ rf.InQuorum left right part))
 IsToldAs why (LimitReached limit value) = why ≡ rf.LimitReached limit value
 IsToldAs why refusal = ⊥
 

@@ -2,6 +2,7 @@
 ghost use Rattle.std.specs.Prelude.{◌≡◌, ℕ, List as Names, length, IfOk, OnErr};
 ghost use Rattle.std.specs.declared.option.Option.TheVariants.{Some};
 ghost use Rattle.rmt_reply.specs.declared.refusal.Refusal.{Refusal as Why};
+ghost use Rattle.rmt_reply.specs.declared.refusal.Refusal.TheVariants.{Unmergeable as UnmergeableOf};
 ghost use Rattle.rmt_names.specs.Names.{Name};
 ghost use Rattle.rmt_entries.specs.declared.entry.Entry.TheVariants.{Merge as MergeOf};
 ghost use Rattle.rmt_model.specs.Words.{Has};
@@ -27,16 +28,24 @@ use rmt_reply::Refusal;
 use rmt_values::ReplicaId;
 use std::alloc::{AllocError, Global};
 
+/// Two neighbours may not be merged.
+fn unmergeable(left: &PartName, right: &PartName) -> Refusal
+    ensures { result ≡ UnmergeableOf left.now right.now }
+{
+    Refusal::Unmergeable {
+        left: *left,
+        right: *right,
+    }
+}
+
 /// Why names that could be merged otherwise weren't.
 fn refusal_of(why: &StepRefused) -> Refusal
     requires says { (r : Why) × IsToldAs why.now r }
     ensures { IsToldAs why.now result }
 {
     match why {
-        StepRefused::Differ { left, right } => Refusal::Unmergeable {
-            left: *left,
-            right: *right,
-        },
+        StepRefused::Differ { left, right } => unmergeable(left, right),
+        StepRefused::InQuorum { left, right, .. } => unmergeable(left, right),
         StepRefused::LimitReached { limit, value } => Refusal::LimitReached {
             limit: *limit,
             value: *value,

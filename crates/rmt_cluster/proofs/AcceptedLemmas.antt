@@ -52,6 +52,7 @@ tried schema count ((ev.Allocate k x need, rp.Attempt id n) ∷ rest) a b t e = 
 tried schema count ((ev.Allocate k x need, rp.Entry j) ∷ rest) a b t e = tried schema count rest a b t.1 e
 tried schema count ((ev.Allocate k x need, rp.Applied j) ∷ rest) a b t e = tried schema count rest a b t.1 e
 tried schema count ((ev.Allocate k x need, rp.Pulled j) ∷ rest) a b t e = tried schema count rest a b t.1 e
+tried schema count ((ev.Allocate k x need, rp.Noted j) ∷ rest) a b t e = tried schema count rest a b t.1 e
 tried schema count ((ev.Allocate k x need, rp.Done) ∷ rest) a b t e = tried schema count rest a b t.1 e
 tried schema count ((ev.Allocate k x need, rp.Refused j) ∷ rest) a b t e = tried schema count rest a b t.1 e
 tried schema count ((ev.Again id, r) ∷ rest) a b t e = tried schema count rest a b t.1 e
@@ -66,6 +67,7 @@ tried schema count ((ev.CreateMutation command, r) ∷ rest) a b t e = tried sch
 tried schema count ((ev.DropPartition p, r) ∷ rest) a b t e = tried schema count rest a b t.1 e
 tried schema count ((ev.Kill k, r) ∷ rest) a b t e = tried schema count rest a b t.1 e
 tried schema count ((ev.Restart k, r) ∷ rest) a b t e = tried schema count rest a b t.1 e
+tried schema count ((ev.Note k, r) ∷ rest) a b t e = tried schema count rest a b t.1 e
 tried schema count ((ev.Fetches k allowed, r) ∷ rest) a b t e = tried schema count rest a b t.1 e
 
 -- the block that was committed at a place
@@ -79,6 +81,7 @@ committed schema count ((ev.Commit a, rp.Entry j) ∷ rest) i b t e = go (nat_eq
 committed schema count ((ev.Commit a, rp.Attempt id n) ∷ rest) i b t e = committed schema count rest i b t.1 e
 committed schema count ((ev.Commit a, rp.Applied j) ∷ rest) i b t e = committed schema count rest i b t.1 e
 committed schema count ((ev.Commit a, rp.Pulled j) ∷ rest) i b t e = committed schema count rest i b t.1 e
+committed schema count ((ev.Commit a, rp.Noted j) ∷ rest) i b t e = committed schema count rest i b t.1 e
 committed schema count ((ev.Commit a, rp.Done) ∷ rest) i b t e = committed schema count rest i b t.1 e
 committed schema count ((ev.Commit a, rp.Refused j) ∷ rest) i b t e = committed schema count rest i b t.1 e
 committed schema count ((ev.Allocate k x need, r) ∷ rest) i b t e = committed schema count rest i b t.1 e
@@ -93,6 +96,7 @@ committed schema count ((ev.CreateMutation command, r) ∷ rest) i b t e = commi
 committed schema count ((ev.DropPartition p, r) ∷ rest) i b t e = committed schema count rest i b t.1 e
 committed schema count ((ev.Kill k, r) ∷ rest) i b t e = committed schema count rest i b t.1 e
 committed schema count ((ev.Restart k, r) ∷ rest) i b t e = committed schema count rest i b t.1 e
+committed schema count ((ev.Note k, r) ∷ rest) i b t e = committed schema count rest i b t.1 e
 committed schema count ((ev.Fetches k allowed, r) ∷ rest) i b t e = committed schema count rest i b t.1 e
 
 -- ---- what is staged

@@ -31,15 +31,15 @@ none-cause y e = absurd (cc)
 -- ---- a number
 
 -- why a block gets no number, told by the block's own words
-no-number : (o : Option StepRefused) (why : StepRefused) (t : Table) (k : ℕ) (id : BlockId) (b : Block) → id.partition ≡ b.partition → id.digest ≡ b.digest → IfSome o (NoNumber t k id.partition id.digest 0) → o ≡ Some why → NoNumber t k b.partition b.digest 0 why
-no-number o why t k id b p d n q =
-    subst (λ (x : List ℕ). NoNumber t k b.partition x 0 why) d
-    (subst (λ (x : Option ℕ). NoNumber t k x id.digest 0 why) p (subst (λ (x : Option StepRefused). IfSome x (NoNumber t k id.partition id.digest 0)) q n))
+no-number : (o : Option StepRefused) (why : StepRefused) (t : Table) (k : ℕ) (id : BlockId) (b : Block) (need : ℕ) → id.partition ≡ b.partition → id.digest ≡ b.digest → IfSome o (NoNumber t k id.partition id.digest need) → o ≡ Some why → NoNumber t k b.partition b.digest need why
+no-number o why t k id b need p d n q =
+    subst (λ (x : List ℕ). NoNumber t k b.partition x need why) d
+    (subst (λ (x : Option ℕ). NoNumber t k x id.digest need why) p (subst (λ (x : Option StepRefused). IfSome x (NoNumber t k id.partition id.digest need)) q n))
 
 -- the same, for an attempt that goes on
-pub no-other : (o : Option StepRefused) (why : StepRefused) (s : Cluster) (id : ℕ) (a : Attempt) (k : BlockId) → IsAttempt s id a → a.need ≡ 0 → (IsLocked s.table.locks a.block.partition a.number → ⊥) → k.partition ≡ a.block.partition → k.digest ≡ a.block.digest → IfSome o (NoNumber s.table a.replica k.partition k.digest 0) → o ≡ Some why → insert.NoOther s id why
-no-other o why s id a k is z g p d n q =
-    go why (subst (λ m. NoNumber s.table a.replica a.block.partition a.block.digest m why) (sym z) (no-number o why s.table a.replica k a.block p d n q))
+pub no-other : (o : Option StepRefused) (why : StepRefused) (s : Cluster) (id : ℕ) (a : Attempt) (k : BlockId) → IsAttempt s id a → (IsLocked s.table.locks a.block.partition a.number → ⊥) → k.partition ≡ a.block.partition → k.digest ≡ a.block.digest → IfSome o (NoNumber s.table a.replica k.partition k.digest a.need) → o ≡ Some why → insert.NoOther s id why
+no-other o why s id a k is g p d n q =
+    go why (no-number o why s.table a.replica k a.block a.need p d n q)
   where
     go : (w : StepRefused) → NoNumber s.table a.replica a.block.partition a.block.digest a.need w → insert.NoOther s id w
     go rf.NoAttempt c = absurd c
@@ -62,32 +62,31 @@ pub record IsLostFor (s : Cluster) (a : Attempt) (k : Lock) (old new : Held) (wh
   pub unlocks : Unlocks (table_at old) k.id.partition k.number (table_at new)
 
 -- why the block of a lock isn't accepted, told by the attempt's own words
-accepted-same : (why : StepRefused) (s : Cluster) (a : Attempt) (k : Lock) (values : ℕ) → a.need ≡ 0 → HoldsBlock k a.block → values ≡ values_of s.table.schema a.block.rows → NotAccepted s.table k.id.partition k.id.digest 0 values why → insert.LostFor s a why
-accepted-same why s a k values z h v c =
+accepted-same : (why : StepRefused) (s : Cluster) (a : Attempt) (k : Lock) (values : ℕ) → HoldsBlock k a.block → values ≡ values_of s.table.schema a.block.rows → NotAccepted s.table k.id.partition k.id.digest a.need values why → insert.LostFor s a why
+accepted-same why s a k values h v c =
     subst (λ m. NotAccepted s.table a.block.partition a.block.digest a.need m why) v
-    (subst (λ m. NotAccepted s.table a.block.partition a.block.digest m values why) (sym z)
-    (subst (λ (x : List ℕ). NotAccepted s.table a.block.partition x 0 values why) h.digest
-    (subst (λ (x : Option ℕ). NotAccepted s.table x k.id.digest 0 values why) h.partition c)))
+    (subst (λ (x : List ℕ). NotAccepted s.table a.block.partition x a.need values why) h.digest
+    (subst (λ (x : Option ℕ). NotAccepted s.table x k.id.digest a.need values why) h.partition c))
 
-lost : (w why : StepRefused) (s : Cluster) (a : Attempt) (k : Lock) (values : ℕ) (old new : Held) → a.need ≡ 0 → HoldsBlock k a.block → k.number ≡ a.number → values ≡ values_of s.table.schema a.block.rows
-    → IsLocked s.table.locks k.id.partition k.number × NotAccepted s.table k.id.partition k.id.digest 0 values w → Unlocks (table_at old) k.id.partition k.number (table_at new) → w ≡ why → IsLostFor s a k old new why
-lost w why s a k values old new z h n v c u q = record {
-  cause = subst (insert.LostFor s a) q (accepted-same w s a k values z h v c.1);
+lost : (w why : StepRefused) (s : Cluster) (a : Attempt) (k : Lock) (values : ℕ) (old new : Held) → HoldsBlock k a.block → k.number ≡ a.number → values ≡ values_of s.table.schema a.block.rows
+    → IsLocked s.table.locks k.id.partition k.number × NotAccepted s.table k.id.partition k.id.digest a.need values w → Unlocks (table_at old) k.id.partition k.number (table_at new) → w ≡ why → IsLostFor s a k old new why
+lost w why s a k values old new h n v c u q = record {
+  cause = subst (insert.LostFor s a) q (accepted-same w s a k values h v c.1);
   locked = locked-same s.table k a h n c.0;
   unlocks = u;
 }
 
-pub lost-for : (e : CommitError) (why : StepRefused) (s : Cluster) (a : Attempt) (k : Lock) (values : ℕ) (old new : Held) → a.need ≡ 0 → HoldsBlock k a.block → k.number ≡ a.number → values ≡ values_of s.table.schema a.block.rows → IfSome (commit_cause e) (NoCommit s.table k 0 values) → AfterNoCommit old k e new → is_final e ≡ true → commit_cause e ≡ Some why → IsLostFor s a k old new why
-lost-for (commit.LockGone m) why s a k values old new z h n v c u f q = absurd (cc)
-lost-for commit.Memory why s a k values old new z h n v c u f q = absurd (cc)
-lost-for (commit.TooFewLive live needed) why s a k values old new z h n v c u f q =
-    lost (rf.TooFewLive live needed) why s a k values old new z h n v c (IsUnlocked.seen u) (same-cause _ why q)
-lost-for (commit.QuorumPending x) why s a k values old new z h n v c u f q =
-    lost (rf.QuorumPending x) why s a k values old new z h n v c (IsUnlocked.seen u) (same-cause _ why q)
-lost-for (commit.Duplicate x) why s a k values old new z h n v c u f q =
-    lost (rf.Duplicate x) why s a k values old new z h n v c (IsUnlocked.seen u) (same-cause _ why q)
-lost-for (commit.LimitReached limit value) why s a k values old new z h n v c u f q =
-    lost (rf.LimitReached limit value) why s a k values old new z h n v c (IsUnlocked.seen u) (same-cause _ why q)
+pub lost-for : (e : CommitError) (why : StepRefused) (s : Cluster) (a : Attempt) (k : Lock) (values : ℕ) (old new : Held) → HoldsBlock k a.block → k.number ≡ a.number → values ≡ values_of s.table.schema a.block.rows → IfSome (commit_cause e) (NoCommit s.table k a.need values) → AfterNoCommit old k e new → is_final e ≡ true → commit_cause e ≡ Some why → IsLostFor s a k old new why
+lost-for (commit.LockGone m) why s a k values old new h n v c u f q = absurd (cc)
+lost-for commit.Memory why s a k values old new h n v c u f q = absurd (cc)
+lost-for (commit.TooFewLive live needed) why s a k values old new h n v c u f q =
+    lost (rf.TooFewLive live needed) why s a k values old new h n v c (IsUnlocked.seen u) (same-cause _ why q)
+lost-for (commit.QuorumPending x) why s a k values old new h n v c u f q =
+    lost (rf.QuorumPending x) why s a k values old new h n v c (IsUnlocked.seen u) (same-cause _ why q)
+lost-for (commit.Duplicate x) why s a k values old new h n v c u f q =
+    lost (rf.Duplicate x) why s a k values old new h n v c (IsUnlocked.seen u) (same-cause _ why q)
+lost-for (commit.LimitReached limit value) why s a k values old new h n v c u f q =
+    lost (rf.LimitReached limit value) why s a k values old new h n v c (IsUnlocked.seen u) (same-cause _ why q)
 
 -- the lock of an attempt is gone
 pub record IsGone (s : Cluster) (a : Attempt) (old new : Held) (why : StepRefused) : Type 0 where
@@ -95,7 +94,7 @@ pub record IsGone (s : Cluster) (a : Attempt) (old new : Held) (why : StepRefuse
   pub gone : IsLocked s.table.locks a.block.partition a.number → ⊥
   pub same : new ≡ old
 
-pub gone-for : (e : CommitError) (why : StepRefused) (s : Cluster) (a : Attempt) (k : Lock) (values : ℕ) (old new : Held) → HoldsBlock k a.block → k.number ≡ a.number → IfSome (commit_cause e) (NoCommit s.table k 0 values) → AfterNoCommit old k e new → is_final e ≡ false → commit_cause e ≡ Some why → IsGone s a old new why
+pub gone-for : (e : CommitError) (why : StepRefused) (s : Cluster) (a : Attempt) (k : Lock) (values : ℕ) (old new : Held) → HoldsBlock k a.block → k.number ≡ a.number → IfSome (commit_cause e) (NoCommit s.table k a.need values) → AfterNoCommit old k e new → is_final e ≡ false → commit_cause e ≡ Some why → IsGone s a old new why
 gone-for (commit.LockGone m) why s a k values old new h n c u f q = record {
   cause = sym (same-cause _ why q) ∙ ap rf.LockGone (c.0 ∙ n);
   gone = λ l. c.1 (locked-back s.table k a h n l);

@@ -34,10 +34,6 @@ same-cluster s t table rs made attempts b events q r m o =
     ∙ (ap (λ n. record { table = table; replicas = rs; attempts_made = n; attempts = b.open_ones; events = events }) m
     ∙ ap (λ (v : List Attempt). record { table = table; replicas = rs; attempts_made = made; attempts = v; events = events }) o))
 
--- no replica is asked for
-unasked : (t : Table) (need : ℕ) → need ≡ 0 → HasQuorum t need
-unasked t need e = record { enough = omega (arith, e); quiet = λ l. absurd (omega (arith, e, l)) }
-
 -- the open attempt that was found
 found-is : (s : StateView) (a : OpenAttempts) (id : ℕ) (x : Attempt) (events : List (Event × Reply)) → Has a.open_ones x → x.id ≡ id → IsAttempt (cluster_of s a.made a.open_ones events) id x
 found-is s a id x events h i = record { is_in = h; id_is = i }
@@ -54,7 +50,7 @@ stages-acts s t a id k n b x h i r m e at events = inl (record {
   answer = refl;
 })
 
-pub renews-acts : (s t : StateView) (a b : OpenAttempts) (id n k : ℕ) (p : Option ℕ) (digest : List ℕ) (x : Attempt) → Has a.open_ones x → x.id ≡ id → x.need ≡ 0 → (IsLocked (table_at s.tree).locks x.block.partition x.number → ⊥) → k ≡ x.replica → p ≡ x.block.partition → digest ≡ x.block.digest
+pub renews-acts : (s t : StateView) (a b : OpenAttempts) (id n k : ℕ) (p : Option ℕ) (digest : List ℕ) (x : Attempt) → Has a.open_ones x → x.id ≡ id → HasQuorum (table_at s.tree) x.need → (IsLocked (table_at s.tree).locks x.block.partition x.number → ⊥) → k ≡ x.replica → p ≡ x.block.partition → digest ≡ x.block.digest
     → Allocates (table_at s.tree) k p digest n (table_at t.tree) → t.replicas ≡ s.replicas → b.made ≡ a.made → b.open_ones ≡ renumbered a.open_ones id n → ActsWith s a (ev.Again id) (rp.Attempt id n) t b
 renews-acts s t a b id n k p digest x h i z g r q d c w m o events = inl (record {
   attempt = x;
@@ -62,7 +58,7 @@ renews-acts s t a b id n k p digest x h i z g r q d c w m o events = inl (record
   gone = g;
   number = n;
   table = table_at t.tree;
-  quorum = unasked (table_at s.tree) x.need z;
+  quorum = z;
   call = subst (λ (v : List ℕ). Allocates (table_at s.tree) x.replica x.block.partition v n (table_at t.tree)) d
       (subst (λ (v : Option ℕ). Allocates (table_at s.tree) x.replica v digest n (table_at t.tree)) q (subst (λ v. Allocates (table_at s.tree) v p digest n (table_at t.tree)) r c));
   answer = refl;
@@ -124,8 +120,8 @@ not-staged s a id x lock h i own n r none events = inr (inr (record {
   unchanged = refl;
 }))
 
-pub accepts-acts : (s t : StateView) (a b : OpenAttempts) (id place values : ℕ) (x : Attempt) (lock : Lock) → SuitAttempts s a → Has a.open_ones x → x.id ≡ id → x.need ≡ 0 → HoldsBlock lock x.block → lock.number ≡ x.number → lock.replica ≡ x.replica → HasSomeBlockAt s lock.replica lock.id.partition lock.number
-    → values ≡ values_of s.tree.schema x.block.rows → place ≡ length s.tree.log → Commits (table_at s.tree) lock.id.partition lock.number lock.id.digest lock.replica 0 values (table_at t.tree) → t.replicas ≡ s.replicas → b.made ≡ a.made → b.open_ones ≡ attempts_without a.open_ones id
+pub accepts-acts : (s t : StateView) (a b : OpenAttempts) (id place values : ℕ) (x : Attempt) (lock : Lock) → SuitAttempts s a → Has a.open_ones x → x.id ≡ id → HasQuorum (table_at s.tree) x.need → HoldsBlock lock x.block → lock.number ≡ x.number → lock.replica ≡ x.replica → HasSomeBlockAt s lock.replica lock.id.partition lock.number
+    → values ≡ values_of s.tree.schema x.block.rows → place ≡ length s.tree.log → Commits (table_at s.tree) lock.id.partition lock.number lock.id.digest lock.replica x.need values (table_at t.tree) → t.replicas ≡ s.replicas → b.made ≡ a.made → b.open_ones ≡ attempts_without a.open_ones id
     → ActsWith s a (ev.Commit id) (rp.Entry place) t b
 accepts-acts s t a b id place values x lock suit h i z own n r some v l c w m o events =
     let f = staged-of s a x lock events suit h own n r some in
@@ -136,14 +132,13 @@ accepts-acts s t a b id place values x lock suit h i z own n r some v l c w m o 
       at = record { is_in = f.at.is_in; number = f.at.number };
       staged = record { is_in = f.staged.is_in; partition = f.staged.partition };
       table = table_at t.tree;
-      quorum = unasked (table_at s.tree) x.need z;
+      quorum = z;
       call =
-          subst (λ q. Commits (table_at s.tree) x.block.partition x.number x.block.digest x.replica q (values_of s.tree.schema x.block.rows) (table_at t.tree)) (sym z)
-          (subst (λ q. Commits (table_at s.tree) x.block.partition x.number x.block.digest x.replica 0 q (table_at t.tree)) v
-          (subst (λ q. Commits (table_at s.tree) x.block.partition x.number x.block.digest q 0 values (table_at t.tree)) r
-          (subst (λ (q : List ℕ). Commits (table_at s.tree) x.block.partition x.number q lock.replica 0 values (table_at t.tree)) own.digest
-          (subst (λ q. Commits (table_at s.tree) x.block.partition q lock.id.digest lock.replica 0 values (table_at t.tree)) n
-          (subst (λ (q : Option ℕ). Commits (table_at s.tree) q lock.number lock.id.digest lock.replica 0 values (table_at t.tree)) own.partition c)))));
+          subst (λ q. Commits (table_at s.tree) x.block.partition x.number x.block.digest x.replica x.need q (table_at t.tree)) v
+          (subst (λ q. Commits (table_at s.tree) x.block.partition x.number x.block.digest q x.need values (table_at t.tree)) r
+          (subst (λ (q : List ℕ). Commits (table_at s.tree) x.block.partition x.number q lock.replica x.need values (table_at t.tree)) own.digest
+          (subst (λ q. Commits (table_at s.tree) x.block.partition q lock.id.digest lock.replica x.need values (table_at t.tree)) n
+          (subst (λ (q : Option ℕ). Commits (table_at s.tree) q lock.number lock.id.digest lock.replica x.need values (table_at t.tree)) own.partition c))));
       answer = ap rp.Entry l;
       change = same-cluster s t (table_at t.tree) (map shown s.replicas) a.made (attempts_without a.open_ones id) b events refl (ap (map shown) w) m o;
     })

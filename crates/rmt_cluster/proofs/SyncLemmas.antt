@@ -68,6 +68,7 @@ pull-cause s k (rf.LimitReached limit value) c = absurd c
 pull-cause s k (rf.LockGone n) c = absurd c
 pull-cause s k (rf.LogMoved seen found) c = absurd c
 pull-cause s k (rf.Differ left right) c = absurd c
+pull-cause s k (rf.InQuorum left right part) c = absurd c
 pull-cause s k (rf.InFlight n) c = absurd c
 pull-cause s k rf.Down c = c
 pull-cause s k rf.FetchesStopped c = absurd c
@@ -86,6 +87,7 @@ pull-why s k (rf.LimitReached limit value) c = absurd c
 pull-why s k (rf.LockGone n) c = absurd c
 pull-why s k (rf.LogMoved seen found) c = absurd c
 pull-why s k (rf.Differ left right) c = absurd c
+pull-why s k (rf.InQuorum left right part) c = absurd c
 pull-why s k (rf.InFlight n) c = absurd c
 pull-why s k rf.Down c = refl
 pull-why s k rf.FetchesStopped c = absurd c
@@ -171,6 +173,7 @@ apply-cause s k i x (rf.LimitReached limit value) w u l f c = absurd c
 apply-cause s k i x (rf.LockGone n) w u l f c = absurd c
 apply-cause s k i x (rf.LogMoved seen found) w u l f c = absurd c
 apply-cause s k i x (rf.Differ left right) w u l f c = absurd c
+apply-cause s k i x (rf.InQuorum left right part) w u l f c = absurd c
 apply-cause s k i x (rf.InFlight n) w u l f c = absurd c
 apply-cause s k i x rf.Down w u l f c = absurd (up-not-down s k x w u c)
 apply-cause s k i x rf.FetchesStopped w u l f c = let q = ap (λ (z : Replica). z.fetches) (one-up s k x c.0 w u.at (IsUp.at (WaitsAt.is c.2))) in let m = c.3 in absurd (cc)
@@ -422,6 +425,7 @@ applied-below s k a b ((ev.CreateMutation command, q) ∷ xs) l f = absurd f
 applied-below s k a b ((ev.DropPartition p, q) ∷ xs) l f = absurd f
 applied-below s k a b ((ev.Kill r, q) ∷ xs) l f = absurd f
 applied-below s k a b ((ev.Restart r, q) ∷ xs) l f = absurd f
+applied-below s k a b ((ev.Note r, q) ∷ xs) l f = absurd f
 applied-below s k a b ((ev.Fetches r allowed, q) ∷ xs) l f = absurd f
 
 pub syncing-begins : (s t : Cluster) (k : ℕ) → IsWhole s → PullsAll s k t → t.table.schema ≡ s.table.schema → length t.replicas ≡ length s.replicas → IsSyncing s k 0 t
@@ -547,6 +551,7 @@ after-applied s u k below m ((ev.CreateMutation command, q) ∷ xs) p a f = absu
 after-applied s u k below m ((ev.DropPartition n, q) ∷ xs) p a f = absurd f
 after-applied s u k below m ((ev.Kill r, q) ∷ xs) p a f = absurd f
 after-applied s u k below m ((ev.Restart r, q) ∷ xs) p a f = absurd f
+after-applied s u k below m ((ev.Note r, q) ∷ xs) p a f = absurd f
 after-applied s u k below m ((ev.Fetches r allowed, q) ∷ xs) p a f = absurd f
 
 pulled-log : (s u : Cluster) (k : ℕ) (reply : Reply) → Step s (ev.Pull k) reply u → u.table.log ≡ s.table.log

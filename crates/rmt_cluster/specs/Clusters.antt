@@ -1,6 +1,6 @@
 -- A cluster: what always holds of it, and which events it takes.
 -- No public source: this program's own.
-use Rattle.std.specs.Prelude.{◌≡◌, ◌⊎◌, ℕ, ◌+◌, ◌≤◌, true, List, [], ◌∷◌, length}
+use Rattle.std.specs.Prelude.{◌≡◌, ◌≢◌, ◌⊎◌, ℕ, ◌+◌, ◌≤◌, true, List, [], ◌∷◌, length}
 use Rattle.std.specs.List.{All}
 use Rattle.std.specs.Arc.{arc_value}
 use Rattle.std.specs.declared.option.Option.{Option}
@@ -24,9 +24,10 @@ use Rattle.rmt_cluster.specs.Attempts.{OpenAttempts}
 use Rattle.rmt_cluster.specs.Acting.{AreSame}
 
 -- the event is one that a table of this schema with so many replicas takes: its replica is there, its block's rows fit the
--- table's columns, its command is one of the schema. No replica is asked for, and no event that stops fetches is among them yet
+-- table's columns, it asks for no quorum or for one of two replicas and more, its command is one of the schema. A note, and an
+-- event that stops fetches, aren't among them yet
 abbrev pub IsTaken : Shape → ℕ → Event → Type 0
-IsTaken schema count (ev.Allocate k b need) = IsNumber k count × (need ≡ 0) × All (λ row. fits schema.columns row ≡ true) (arc_value b).rows
+IsTaken schema count (ev.Allocate k b need) = IsNumber k count × (need ≢ 1) × All (λ row. fits schema.columns row ≡ true) (arc_value b).rows
 IsTaken schema count (ev.Again id) = Unit {0}
 IsTaken schema count (ev.Stage id) = Unit {0}
 IsTaken schema count (ev.Commit id) = Unit {0}
@@ -39,6 +40,7 @@ IsTaken schema count (ev.CreateMutation command) = CommandFits schema command ×
 IsTaken schema count (ev.DropPartition p) = Unit {0}
 IsTaken schema count (ev.Kill k) = IsNumber k count
 IsTaken schema count (ev.Restart k) = IsNumber k count
+IsTaken schema count (ev.Note k) = ⊥
 IsTaken schema count (ev.Fetches k allowed) = ⊥
 
 -- the cluster takes the event

@@ -27,9 +27,11 @@ pub(crate) fn act(
     ensures err { OnErr result (AfterError state.old attempts.old event.now state.new attempts.new) }
 {
     match event {
-        Event::Allocate { replica, block, .. } => {
-            inserts::allocate(alloc, state, attempts, *replica, block)
-        }
+        Event::Allocate {
+            replica,
+            block,
+            need,
+        } => inserts::allocate(alloc, state, attempts, *replica, block, *need),
         Event::Again { attempt } => inserts::again(alloc, state, attempts, *attempt),
         Event::Stage { attempt } => inserts::stage(state, attempts, *attempt),
         Event::Commit { attempt } => inserts::commit(alloc, state, attempts, *attempt),
@@ -50,6 +52,6 @@ pub(crate) fn act(
             state.restart(alloc, *replica)?;
             Ok(Reply::Done)
         }
-        Event::Fetches { .. } => unreachable!(),
+        Event::Note { .. } | Event::Fetches { .. } => unreachable!(),
     }
 }

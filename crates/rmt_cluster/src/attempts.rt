@@ -1,4 +1,4 @@
-ghost use Rattle.std.specs.Prelude.{◌≡◌, ◌∷◌, ◌+◌, ◌<◌, ◌^◌, [], OnOk};
+ghost use Rattle.std.specs.Prelude.{◌≡◌, ◌≢◌, ◌∷◌, ◌+◌, ◌<◌, ◌^◌, [], OnOk};
 ghost use Rattle.std.specs.Arc.{arc_value};
 ghost use Rattle.std.specs.Option.{option_copied};
 ghost use Rattle.rmt_block.specs.Blocks.{id_of};
@@ -77,17 +77,21 @@ impl Attempts {
         Ok(())
     }
 
-    /// An attempt begins, under a number that was taken for its block. Its id comes back. It takes no memory.
-    pub(crate) fn begin(&mut self, block: Arc<Block, Global>, lock: Lock) -> u32
+    /// An attempt begins, under a number that was taken for its block, which asks for so many replicas. Its id comes back. It
+    /// takes no memory.
+    pub(crate) fn begin(&mut self, block: Arc<Block, Global>, lock: Lock, need: u32) -> u32
         requires room { 0 < self.old.room }
         requires few { self.old.made + 1 < 2 ^ 32 }
         requires holds { lock.id ≡ id_of (arc_value block) }
+        requires need { need ≢ 1 }
         ensures id { result ≡ self.old.made }
         ensures made { self.new.made ≡ self.old.made + 1 }
-        ensures begins { self.new.open_ones ≡ record { id = self.old.made; replica = lock.replica; block = without_kinds (arc_value block); number = lock.number; need = 0 } ∷ self.old.open_ones }
+        ensures begins { self.new.open_ones ≡ record { id = self.old.made; replica = lock.replica; block = without_kinds (arc_value block); number = lock.number; need = need } ∷ self.old.open_ones }
     {
         let id = self.made;
-        self.attempts.push(Attempt::new(id, block, lock)).unwrap();
+        self.attempts
+            .push(Attempt::new(id, block, lock, need))
+            .unwrap();
         self.made += 1;
         id
     }

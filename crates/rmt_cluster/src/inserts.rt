@@ -1,5 +1,5 @@
 //! The events of an insert: its block gets a number, is staged at its replica, and is accepted, or the attempt ends.
-ghost use Rattle.std.specs.Prelude.{◌≡◌, ◌+◌, ◌<◌, ◌^◌, IfOk, OnErr};
+ghost use Rattle.std.specs.Prelude.{◌≡◌, ◌≢◌, ◌+◌, ◌<◌, ◌^◌, IfOk, OnErr};
 ghost use Rattle.rmt_events.specs.declared.event.Event.TheVariants as ev;
 ghost use Rattle.rmt_table.specs.TableTrees.{IsReplica};
 ghost use Rattle.rmt_cluster.specs.Acting.{ActsWith, AreSame, SuitAttempts, EndsAt};
@@ -15,25 +15,28 @@ use rmt_values::ReplicaId;
 use std::alloc::{AllocError, Global};
 use std::sync::Arc;
 
-/// An attempt begins: its block gets a number. At an error no memory was left, and nothing changed.
+/// An attempt begins: its block, which asks for so many replicas, gets a number. At an error no memory was left, and nothing
+/// changed.
 pub(crate) fn allocate(
     alloc: Global,
     state: &mut State,
     attempts: &mut Attempts,
     replica: ReplicaId,
     block: &Arc<Block, Global>,
+    need: u32,
 ) -> Result<Reply, AllocError>
     requires here { IsReplica state.old.tree replica }
+    requires need { need ≢ 1 }
     requires few { attempts.old.made + 1 < 2 ^ 32 }
-    ensures ok { IfOk result (λ reply. ActsWith state.old attempts.old (ev.Allocate replica block.now 0) reply state.new attempts.new) }
+    ensures ok { IfOk result (λ reply. ActsWith state.old attempts.old (ev.Allocate replica block.now need) reply state.new attempts.new) }
     ensures err { OnErr result (state.new ≡ state.old) }
     ensures same { OnErr result (AreSame attempts.old attempts.new) }
 {
     attempts.reserve()?;
     let kept = Arc::try_clone(block)?;
-    match state.allocate(alloc, replica, &id(block)) {
+    match state.allocate(alloc, replica, &id(block), need) {
         Ok(lock) => {
-            let attempt = attempts.begin(kept, lock);
+            let attempt = attempts.begin(kept, lock, need);
             Ok(Reply::Attempt {
                 attempt,
                 number: lock.number,
@@ -62,10 +65,11 @@ pub(crate) fn again(
         return Ok(Reply::Refused(StepRefused::NoAttempt));
     };
     let lock = *found.lock();
+    let need = found.need();
     if state.has_lock(alloc, &lock)? {
         return Ok(Reply::Refused(StepRefused::LockHeld));
     }
-    match state.allocate(alloc, lock.replica, &lock.id) {
+    match state.allocate(alloc, lock.replica, &lock.id, need) {
         Ok(lock) => {
             attempts.renew(attempt, lock);
             Ok(Reply::Attempt {
@@ -132,7 +136,8 @@ pub(crate) fn commit(
         return Ok(Reply::Refused(StepRefused::NotStaged));
     }
     let values = state.values_of(found.block());
-    match state.commit(alloc, &lock, values) {
+    let need = found.need();
+    match state.commit(alloc, &lock, need, values) {
         Ok(place) => {
             attempts.end(attempt);
             Ok(Reply::Entry(place))

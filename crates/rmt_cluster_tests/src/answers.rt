@@ -60,6 +60,7 @@ impl Answer {
             Reply::Entry(place) => Ok(Answer::Entry(place)),
             Reply::Applied(came) => Ok(Answer::Applied(came)),
             Reply::Pulled(len) => Ok(Answer::Pulled(len)),
+            Reply::Noted(_) => Err("a note, which no script makes".into()),
             Reply::Done => Ok(Answer::Done),
             Reply::Refused(why) => Ok(Answer::Refused(Refusal::of(why)?)),
         }
@@ -88,9 +89,9 @@ impl Refusal {
             StepRefused::NotStaged => Ok(Refusal::NotStaged),
             StepRefused::LockHeld => Ok(Refusal::LockHeld),
             StepRefused::NotLive => Ok(Refusal::NotLive),
-            StepRefused::TooFewLive { .. } | StepRefused::QuorumPending(_) => {
-                Err("refused for a quorum".into())
-            }
+            StepRefused::TooFewLive { .. }
+            | StepRefused::QuorumPending(_)
+            | StepRefused::InQuorum { .. } => Err("refused for a quorum".into()),
             StepRefused::FetchesStopped => Err("refused for fetches that are stopped".into()),
         }
     }

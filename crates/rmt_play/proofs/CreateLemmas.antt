@@ -197,6 +197,7 @@ new-table schema count up c k n = record {
     schema = sym (ap (λ (d : Cluster). d.table.schema) k.is_new);
     log = sym (ap (λ (d : Cluster). d.table.log) k.is_new);
     next = sym (ap (λ (d : Cluster). d.table.next) k.is_new);
+    quorum = sym (ap (λ (d : Cluster). d.table.quorum) k.is_new);
     blocks = sym (ap accepted k.is_new);
     knows = λ x h. subst (λ (y : Replica). Knows y (λ i. false)) (sym (k.replicas.each x h).0) (nothing-known x.number x.up);
   };

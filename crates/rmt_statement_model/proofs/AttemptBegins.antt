@@ -106,7 +106,7 @@ begins s u e r id n b w k d f t h =
       unkept = kept-shown s t b w h ∙ d.call.unkept;
       number = number-shown s t b h ∙ d.call.within;
       given = is-number ∙ (d.call.number ∙ ap (λ (x : List (Option ℕ × ℕ)). next_number x b.partition) (sym h.next));
-      shows = shows-next s u e (rp.Attempt id n) t (with_next t.next b.partition (number_for t b + 1)) w k (keeps-stored s u e (rp.Attempt id n) k (ap (λ (x : Table). x.schema) table-is) (ap (λ (x : Table). x.log) table-is) (ap (λ (x : Cluster). x.events) d.change) f)
+      shows = shows-next s u e (rp.Attempt id n) t (with_next t.next b.partition (number_for t b + 1)) w k (keeps-stored s u e (rp.Attempt id n) k (ap (λ (x : Table). x.schema) table-is) (ap (λ (x : Table). x.log) table-is) (ap (λ (x : Table). x.quorum) table-is) (ap (λ (x : Cluster). x.events) d.change) f)
           (numbers d.number d.call.number ∙ sym (ap (λ (x : Cluster). x.table.next) k.stored ∙ ap (λ (x : Table). x.next) table-is)) h;
     }
   where

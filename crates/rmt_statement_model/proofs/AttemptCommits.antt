@@ -149,6 +149,7 @@ takes s u id r b n place w o k c t h =
         schema = h.schema ∙ sym (ap (λ (x : Cluster). x.table.schema) c.change ∙ ap (λ (x : Table). x.schema) c.call.change);
         log = ap (λ (l : List Entry). Get b.partition n b.digest r 0 ∷ l) h.log ∙ sym (log-after s u id r b n place c);
         next = h.next ∙ sym (ap (λ (x : Cluster). x.table.next) c.change ∙ ap (λ (x : Table). x.next) c.call.change);
+        quorum = h.quorum ∙ sym (ap (λ (x : Cluster). x.table.quorum) c.change ∙ ap (λ (x : Table). x.quorum) c.call.change);
         blocks = ap (λ (bs : List Accepted). record { partition = b.partition; number = n; rows = b.rows } ∷ bs) h.blocks ∙ sym (blocks-after s u id r b n place w o c);
         knows = knows-step s u (ev.Commit id) (rp.Entry place) t.known w k h.knows;
       };
@@ -174,7 +175,7 @@ no-room s u id r b n limit value w o k t h = go k.does
         let q = ap (λ (x : Cluster). x.table) d.ends.change ∙ d.ends.unlocks in (
           room-shown s t b w h ∙ c.2,
           shows-next s u (ev.Commit id) (rp.Refused (rf.LimitReached limit value)) t t.next w k
-              (keeps-stored s u (ev.Commit id) (rp.Refused (rf.LimitReached limit value)) k (ap (λ (x : Table). x.schema) q) (ap (λ (x : Table). x.log) q) (ap (λ (x : Cluster). x.events) d.ends.change) (λ xs i. refl))
+              (keeps-stored s u (ev.Commit id) (rp.Refused (rf.LimitReached limit value)) k (ap (λ (x : Table). x.schema) q) (ap (λ (x : Table). x.log) q) (ap (λ (x : Table). x.quorum) q) (ap (λ (x : Cluster). x.events) d.ends.change) (λ xs i. refl))
               (h.next ∙ sym (ap (λ (x : Cluster). x.table.next) k.stored ∙ ap (λ (x : Table). x.next) q)) h,
         )
     go (inr (inr d)) = absurd (refused-commit s id r b n d.why w o d.cause)

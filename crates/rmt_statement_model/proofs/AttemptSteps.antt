@@ -184,4 +184,4 @@ apply-reply s u place r b n reply w up a l st = go st.does
 pub applied-shows : (s u : Cluster) (k i : ℕ) (comes : Applied) → IsWhole s → Step s (ev.Apply k i) (rp.Applied comes) u → (t : TableState) → Shows s t → Shows u (record t { known = learned t.known k i })
 applied-shows s u k i comes w st t h =
     let v = quiet-shows s u (ev.Apply k i) (rp.Applied comes) w tt st t h in
-    record { schema = v.schema; log = v.log; next = v.next; blocks = v.blocks; knows = learns-step s u k i comes t.known w st h.knows }
+    record { schema = v.schema; log = v.log; next = v.next; quorum = v.quorum; blocks = v.blocks; knows = learns-step s u k i comes t.known w st h.knows }

@@ -3,6 +3,7 @@ use Rattle.std.proofs.Common.{◌≡◌, ℕ, ◌+◌, inl, inr, List, ◌∷◌
 use Rattle.std.specs.declared.option.Option.{Option}
 use Rattle.rmt_entries.specs.declared.entry.Entry.TheVariants.{DropRange}
 use Rattle.rmt_model.specs.BlockNumbers.{next_number, with_next}
+use Rattle.rmt_model.specs.Quorum.{Quorum, quorum_after_drop}
 use Rattle.rmt_events.specs.Views.{Table}
 use Rattle.rmt_events.specs.TableCalls.{DropsPartition}
 use Rattle.rmt_events.specs.Clusters.{Cluster}
@@ -42,9 +43,9 @@ pub newest-log : (s u : Cluster) (p : Option ℕ) (place : ℕ) → (d : DropsNe
 newest-log s u p place d = ap (λ (x : Cluster). x.table.log) d.appends.at.change ∙ ap (λ (x : Table). x.log) d.appends.at.does.change
 
 -- the cluster shows the table with the drop
-pub drop-shows : (s u : Cluster) (p : Option ℕ) (place : ℕ) → IsWhole s → (k : Step s (ev.DropPartition p) (rp.Entry place) u) → DropsNewest s p place k.after → (t : TableState) → Shows s t → Shows u (record t { log = DropRange p (next_number t.next p) ∷ t.log; next = with_next t.next p (next_number t.next p + 1) })
+pub drop-shows : (s u : Cluster) (p : Option ℕ) (place : ℕ) → IsWhole s → (k : Step s (ev.DropPartition p) (rp.Entry place) u) → DropsNewest s p place k.after → (t : TableState) → Shows s t → Shows u (record t { log = DropRange p (next_number t.next p) ∷ t.log; next = with_next t.next p (next_number t.next p + 1); quorum = quorum_after_drop p (next_number t.next p) t.quorum })
 drop-shows s u p place w k d t h =
-    gained-shows s u (ev.DropPartition p) (rp.Entry place) (DropRange p (next_number t.next p)) t (with_next t.next p (next_number t.next p + 1)) w k
+    gained-shows s u (ev.DropPartition p) (rp.Entry place) (DropRange p (next_number t.next p)) t (with_next t.next p (next_number t.next p + 1)) (quorum_after_drop p (next_number t.next p) t.quorum) w k
     (gains-stored s u (ev.DropPartition p) (rp.Entry place) (DropRange p (next_number t.next p)) k
     (ap (λ (x : Cluster). x.table.schema) d.appends.at.change ∙ ap (λ (x : Table). x.schema) d.appends.at.does.change)
     (newest-log s k.after p place d ∙ ap (λ i. DropRange p i ∷ s.table.log) given)
@@ -54,6 +55,10 @@ drop-shows s u p place w k d t h =
     ∙ (ap (λ (x : Cluster). x.table.next) d.appends.at.change
     ∙ (ap (λ (x : Table). x.next) d.appends.at.does.change
     ∙ (ap (λ i. with_next s.table.next p (i + 1)) given ∙ ap (λ (x : List (Option ℕ × ℕ)). with_next x p (next_number t.next p + 1)) (sym h.next))))))
+    (sym (ap (λ (x : Cluster). x.table.quorum) k.stored
+    ∙ (ap (λ (x : Cluster). x.table.quorum) d.appends.at.change
+    ∙ (ap (λ (x : Table). x.quorum) d.appends.at.does.change
+    ∙ (ap (λ i. quorum_after_drop p i s.table.quorum) given ∙ ap (λ (q : Quorum). quorum_after_drop p (next_number t.next p) q) (sym h.quorum))))))
     h
   where
     given : d.n ≡ next_number t.next p

@@ -8,6 +8,7 @@ use Rattle.rmt_entries.specs.declared.entry.Entry.{Entry}
 use Rattle.rmt_entries.specs.declared.entry.Entry.TheVariants.{DropRange}
 use Rattle.rmt_model.specs.Lawful.{entry_at}
 use Rattle.rmt_model.proofs.Drops.{some-same, entry-below}
+use Rattle.rmt_model.specs.Quorum.{quorum_after_drop}
 use Rattle.rmt_model.specs.BlockNumbers.{next_number, with_next}
 use Rattle.rmt_model.specs.EntryLimits.{drop_limit}
 use Rattle.rmt_events.specs.Views.{Replica}
@@ -124,7 +125,7 @@ drop-row s a b u r p place reply comes w drop pull apply t h =
     let d = newest s a p place drop in
     let wa = whole-step s a (ev.DropPartition p) (rp.Entry place) w drop in
     let wb = whole-step a b (ev.Pull r) reply wa pull in
-    let state = record t { log = DropRange p (next_number t.next p) ∷ t.log; next = with_next t.next p (next_number t.next p + 1) } in
+    let state = record t { log = DropRange p (next_number t.next p) ∷ t.log; next = with_next t.next p (next_number t.next p + 1); quorum = quorum_after_drop p (next_number t.next p) t.quorum } in
     let last = applied-shows b u r place comes wb apply state (quiet-shows a b (ev.Pull r) reply wa tt pull state (drop-shows s a p place w drop d t h)) in
     let at : place ≡ length t.log = newest-place s drop.after p place d ∙ ap (λ (l : List Entry). length l) (sym h.log) in
     record {

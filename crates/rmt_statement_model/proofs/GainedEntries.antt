@@ -2,6 +2,7 @@
 use Rattle.std.proofs.Common.{◌≡◌, ℕ, List, ◌∷◌, refl, sym, ap, ◌∙◌}
 use Rattle.std.specs.declared.option.Option.{Option}
 use Rattle.rmt_entries.specs.declared.entry.Entry.{Entry}
+use Rattle.rmt_model.specs.Quorum.{Quorum}
 use Rattle.rmt_entries.specs.declared.entry.Entry.TheVariants.{Get, Merge, Mutate, Mutation, DropRange}
 use Rattle.rmt_events.specs.Clusters.{Cluster, committed_at, blocks_in}
 use Rattle.rmt_events.specs.Whole.{IsWhole}
@@ -45,13 +46,14 @@ gains-stored s u event reply e k p q v f =
       commits = λ i. ap (λ (x : Cluster). committed_at x.events i) k.stored ∙ (f k.after.events i ∙ ap (λ (xs : List (Event × Reply)). committed_at xs i) v);
     }
 
--- the state is shown with the entry, and with the next numbers of the table
-pub gained-shows : (s u : Cluster) (event : Event) (reply : Reply) (e : Entry) (t : TableState) (next : List (Option ℕ × ℕ)) → IsWhole s → Step s event reply u → GainsEntry s u e → IsOfNoBlock e → next ≡ u.table.next → Shows s t → Shows u (record t { log = e ∷ t.log; next = next })
-gained-shows s u event reply e t next w k g q n h =
+-- the state is shown with the entry, and with the next numbers and the quorum of the table
+pub gained-shows : (s u : Cluster) (event : Event) (reply : Reply) (e : Entry) (t : TableState) (next : List (Option ℕ × ℕ)) (quorum : Quorum) → IsWhole s → Step s event reply u → GainsEntry s u e → IsOfNoBlock e → next ≡ u.table.next → quorum ≡ u.table.quorum → Shows s t → Shows u (record t { log = e ∷ t.log; next = next; quorum = quorum })
+gained-shows s u event reply e t next quorum w k g q n m h =
     record {
       schema = h.schema ∙ sym g.schema;
       log = ap (λ (l : List Entry). e ∷ l) h.log ∙ sym g.log;
       next = n;
+      quorum = m;
       blocks = h.blocks ∙ sym (ap (λ (l : List Entry). blocks_in l u.events) g.log ∙ (blocks-behind e s.table.log u.events q ∙ blocks-same s.table.log s.events u.events (λ i l. g.commits i)));
       knows = knows-step s u event reply t.known w k h.knows;
     }

@@ -109,6 +109,11 @@ knows-does s t (ev.Kill k) r known w d f =
     subst (λ (u : Cluster). EachKnows u known) (sym d.change) (quiet s k d.old d.new known w d.at (ap (λ (z : Replica). z.number) d.dies) (ap (λ (z : Replica). z.log) d.dies) (ap (λ (z : Replica). z.parts) d.dies) f)
 knows-does s t (ev.Restart k) r known w d f =
     subst (λ (u : Cluster). EachKnows u known) (sym d.change) (quiet s k d.old d.new known w d.at (ap (λ (z : Replica). z.number) d.wakes) (ap (λ (z : Replica). z.log) d.wakes) (ap (λ (z : Replica). z.parts) d.wakes) f)
+knows-does s t (ev.Note k) r known w (inl d) f =
+    subst (λ (u : Cluster). EachKnows u known) (sym d.change)
+    (quiet s k d.old d.new known w d.is.at (ap (λ (z : Replica). z.number) d.notes.change) (ap (λ (z : Replica). z.log) d.notes.change) (ap (λ (z : Replica). z.parts) d.notes.change) f)
+knows-does s t (ev.Note k) r known w (inr (inl d)) f = subst (λ (u : Cluster). EachKnows u known) (sym d.unchanged) f
+knows-does s t (ev.Note k) r known w (inr (inr d)) f = subst (λ (u : Cluster). EachKnows u known) (sym d.unchanged) f
 knows-does s t (ev.Fetches k allowed) r known w d f =
     subst (λ (u : Cluster). EachKnows u known) (sym d.change) (quiet s k d.old (record d.old { fetches = allowed }) known w d.at refl refl refl f)
 

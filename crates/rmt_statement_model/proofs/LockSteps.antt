@@ -64,6 +64,9 @@ none-does s u (ev.DropPartition p) r q (inr (inl d)) h = ap (λ (x : Cluster). x
 none-does s u (ev.DropPartition p) r q (inr (inr d)) h = ap (λ (x : Cluster). x.table.locks) d.unchanged ∙ h
 none-does s u (ev.Kill k) r q d h = ap (λ (x : Cluster). x.table.locks) d.change ∙ none-left s d.table _ (ap (λ (x : Table). x.locks) d.closes) h
 none-does s u (ev.Restart k) r q d h = ap (λ (x : Cluster). x.table.locks) d.change ∙ (ap (λ (x : Table). x.locks) d.opens ∙ none-left s d.closed _ (ap (λ (x : Table). x.locks) d.closes) h)
+none-does s u (ev.Note k) r q (inl d) h = ap (λ (x : Cluster). x.table.locks) d.change ∙ (ap (λ (x : Table). x.locks) d.call ∙ h)
+none-does s u (ev.Note k) r q (inr (inl d)) h = ap (λ (x : Cluster). x.table.locks) d.unchanged ∙ h
+none-does s u (ev.Note k) r q (inr (inr d)) h = ap (λ (x : Cluster). x.table.locks) d.unchanged ∙ h
 none-does s u (ev.Fetches k allowed) r q d h = ap (λ (x : Cluster). x.table.locks) d.change ∙ h
 
 -- where no lock is held, none is held after an event that takes none

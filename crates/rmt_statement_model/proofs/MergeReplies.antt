@@ -23,10 +23,11 @@ use Rattle.rmt_events.specs.declared.reply.Reply.TheVariants as rp
 use Rattle.rmt_events.specs.declared.step_refused.StepRefused.{StepRefused}
 use Rattle.rmt_events.specs.declared.step_refused.StepRefused.TheVariants as rf
 
--- the names are merged, or two of them differ, or a limit would be passed
+-- the names are merged, or two of them differ or are in a quorum, or a limit would be passed
 abbrev pub IsMergeReply : Reply → Type 0
 IsMergeReply (rp.Entry i) = Unit {0}
 IsMergeReply (rp.Refused (rf.Differ a b)) = Unit {0}
+IsMergeReply (rp.Refused (rf.InQuorum a b part)) = Unit {0}
 IsMergeReply (rp.Refused (rf.LimitReached limit value)) = Unit {0}
 IsMergeReply reply = ⊥
 
@@ -53,6 +54,7 @@ refused-merge s k first second rest (rf.LogMoved seen found) w i d m c =
     let e : length c.0.log ≡ length s.table.log = ap (λ (l : List Entry). length l) (whole-copy s k c.0 w d c.1) in
     let f = c.3.0 in let g = c.3.1 in let h = c.3.2 in absurd (omega (arith, e, f, g, h))
 refused-merge s k first second rest (rf.Differ left right) w i d m c = tt
+refused-merge s k first second rest (rf.InQuorum left right part) w i d m c = tt
 refused-merge s k first second rest (rf.InFlight n) w i d m c = let l = c.3.2.0 in absurd (subst (λ (xs : List Lock). Has xs l.lock) i.free l.is_in)
 refused-merge s k first second rest (rf.LimitReached limit value) w i d m c = tt
 refused-merge s k first second rest why w i d m c = absurd c.3

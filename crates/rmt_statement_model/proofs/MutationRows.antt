@@ -63,7 +63,7 @@ mutation-row s u command place w k t h = go k.does
             numbered = ap (λ (l : List Entry). mutation_count l) (sym h.log);
             change = refl;
           };
-          shows = gained-shows s u (ev.CreateMutation command) (rp.Entry place) (Mutation (mutation_count t.log) t.next command) t (next_numbers_after t.next) w k
+          shows = gained-shows s u (ev.CreateMutation command) (rp.Entry place) (Mutation (mutation_count t.log) t.next command) t (next_numbers_after t.next) t.quorum w k
               (gains-stored s u (ev.CreateMutation command) (rp.Entry place) (Mutation (mutation_count t.log) t.next command) k
               (ap (λ (x : Table). x.schema) q ∙ ap (λ (x : Table). x.schema) d.at.does.change)
               (ap (λ (x : Table). x.log) q
@@ -72,6 +72,7 @@ mutation-row s u command place w k t h = go k.does
               (ap (λ (x : Cluster). x.events) d.at.change) (λ xs i. refl))
               tt
               (ap (λ (x : List (Option ℕ × ℕ)). next_numbers_after x) h.next ∙ sym (ap (λ (x : Cluster). x.table.next) k.stored ∙ (ap (λ (x : Table). x.next) q ∙ ap (λ (x : Table). x.next) d.at.does.change)))
+              (h.quorum ∙ sym (ap (λ (x : Cluster). x.table.quorum) k.stored ∙ (ap (λ (x : Table). x.quorum) q ∙ ap (λ (x : Table). x.quorum) d.at.does.change)))
               h;
         }
 

@@ -9,6 +9,7 @@ use Rattle.rmt_entries.specs.declared.entry.Entry.{Entry}
 use Rattle.rmt_entries.specs.declared.entry.Entry.TheVariants.{Merge}
 use Rattle.rmt_model.specs.Words.{Has}
 use Rattle.rmt_model.specs.Lawful.{Merges, Lawful}
+use Rattle.rmt_model.specs.Quorum.{Pending, Quorum}
 use Rattle.rmt_model.proofs.Lists.{Each-at}
 use Rattle.rmt_model.specs.EntryLimits.{worker_limit}
 use Rattle.rmt_reply.specs.declared.refusal.Refusal.{Refusal}
@@ -17,13 +18,14 @@ use Rattle.rmt_events.specs.Views.{Table}
 use Rattle.rmt_events.specs.Sound.{IsSoundTable}
 use Rattle.rmt_events.specs.Clusters.{Cluster, committed_at, blocks_in}
 use Rattle.rmt_events.specs.Whole.{IsWhole}
-use Rattle.rmt_events.specs.TableRefusals.{AreFirstToDiffer, AreAlike}
+use Rattle.rmt_events.specs.TableCalls.{AreQuiet}
+use Rattle.rmt_events.specs.TableRefusals.{AreAlike}
 use Rattle.rmt_events.specs.LogEvents.{NoMerge}
 use Rattle.rmt_events.specs.Steps.{Does, Step}
 use Rattle.rmt_events.proofs.Moves.{blocks-same}
 use Rattle.rmt_events.proofs.WholeSteps.{whole-step}
 use Rattle.rmt_statement_model.specs.TableStates.{TableState, synced}
-use Rattle.rmt_statement_model.specs.Optimizes.{live_of, MergesLive, Optimizes, CantOptimize, OptimizesAll}
+use Rattle.rmt_statement_model.specs.Optimizes.{live_of, MergesLive, Optimizes, AreFirstUnmergeable, CantOptimize, OptimizesAll}
 use Rattle.rmt_statement_model.specs.Shows.{Shows, Leads}
 use Rattle.rmt_statement_model.proofs.KnowsLaws.{knows-step}
 use Rattle.rmt_statement_model.proofs.ShownSteps.{shows-quiet}
@@ -86,6 +88,8 @@ record MergesInto (s : Cluster) (k : ℕ) (sources : List Name) (reply : Reply) 
   log : table.log ≡ Merge name sources count ∷ s.table.log
   schema : table.schema ≡ s.table.schema
   next : table.next ≡ s.table.next
+  quorum : table.quorum ≡ s.table.quorum
+  quiet : AreQuiet s.table.quorum.pending sources
   within : worker_limit s.table.log ≡ None
   change : u ≡ record s { table = table; events = (ev.Merge k sources, reply) ∷ s.events }
 
@@ -103,6 +107,8 @@ merges-into s u k sources place step = go step.does
           log = ap (λ (x : Table). x.log) c;
           schema = ap (λ (x : Table). x.schema) c;
           next = ap (λ (x : Table). x.next) c;
+          quorum = ap (λ (x : Table). x.quorum) c;
+          quiet = a.appends.at.does.quiet;
           within = a.appends.at.does.within;
           change = step.stored ∙ ap (λ (x : Cluster). record x { events = (ev.Merge k sources, rp.Entry place) ∷ x.events }) a.appends.at.change;
         }
@@ -123,6 +129,7 @@ merged-shows s u k sources place w step m t h =
       schema = h.schema ∙ sym (ap (λ (x : Cluster). x.table.schema) m.change ∙ m.schema);
       log = ap (λ (l : List Entry). Merge m.name sources m.count ∷ l) h.log ∙ sym log-is;
       next = h.next ∙ sym (ap (λ (x : Cluster). x.table.next) m.change ∙ m.next);
+      quorum = h.quorum ∙ sym (ap (λ (x : Cluster). x.table.quorum) m.change ∙ m.quorum);
       blocks = h.blocks ∙ (sym (blocks-same s.table.log s.events u.events (λ i l. ap (λ (x : Cluster). committed_at x.events i) m.change)) ∙ ap (λ (l : List Entry). blocks_in l u.events) (sym log-is));
       knows = knows-step s u (ev.Merge k sources) (rp.Entry place) t.known w step h.knows;
     }
@@ -141,6 +148,7 @@ merged-row s u k p first second rest place w e step t h =
         rest = rest;
         sources = ap (λ (x : List Entry). live_of x p) h.log ∙ e;
         count = m.count;
+        quiet = subst (λ (q : Quorum). AreQuiet q.pending (first ∷ second ∷ rest)) (sym h.quorum) m.quiet;
         room = ap worker_limit h.log ∙ m.within;
         lawful = subst (λ (c : Shape). Lawful c (Merge m.name (first ∷ second ∷ rest) m.count ∷ t.log)) (sym h.schema) (subst (λ (x : List Entry). Lawful s.table.schema (Merge m.name (first ∷ second ∷ rest) m.count ∷ x)) (sym h.log) l);
         change = refl;
@@ -178,13 +186,30 @@ refuses s u k names why w step = go step.does
           shows = λ t h. shows-quiet s u (ev.Merge k names) (rp.Refused why) t w step (ap (λ (x : Cluster). x.table) a.unchanged) (ap (λ (x : Cluster). x.events) a.unchanged) (λ xs i. refl) h;
         }
 
+-- what is said of the log, the part that waits for its quorum and the partition's live names is said of the table's
+names-shown : (C : List Entry → Option Pending → List Name → Type 0) (s : Cluster) (p : Option ℕ) (names : List Name) (t : TableState) → live_of s.table.log p ≡ names → Shows s t → C s.table.log s.table.quorum.pending names → C t.log t.quorum.pending (live_of t.log p)
+names-shown C s p names t e h c =
+    subst (λ (q : Quorum). C t.log q.pending (live_of t.log p)) (sym h.quorum)
+    (subst (λ (l : List Entry). C l s.table.quorum.pending (live_of l p)) (sym h.log)
+    (subst (λ (xs : List Name). C s.table.log s.table.quorum.pending xs) (sym e) c))
+
 -- the first two neighbours of different versions are named
 pub differ-row : (s u : Cluster) (k : ℕ) (p : Option ℕ) (names : List Name) (left right : Name) → IsWhole s → live_of s.table.log p ≡ names → Step s (ev.Merge k names) (rp.Refused (rf.Differ left right)) u → (t : TableState) → Shows s t → Leads u (λ v. CantOptimize t p (Unmergeable left right) × (v ≡ t))
 differ-row s u k p names left right w e step t h =
     let r = refuses s u k names (rf.Differ left right) w step in
     record {
       state = t;
-      holds = (subst (λ (l : List Entry). AreFirstToDiffer l (live_of l p) left right) (sym h.log) (subst (λ (xs : List Name). AreFirstToDiffer s.table.log xs left right) (sym e) r.cause.3.1), refl);
+      holds = (names-shown (λ log pending xs. AreFirstUnmergeable log pending xs left right) s p names t e h (inl r.cause.3.1), refl);
+      shows = r.shows t h;
+    }
+
+-- the first two neighbours of one version of which one covers the part that waits for its quorum
+pub in-quorum-row : (s u : Cluster) (k : ℕ) (p : Option ℕ) (names : List Name) (left right part : Name) → IsWhole s → live_of s.table.log p ≡ names → Step s (ev.Merge k names) (rp.Refused (rf.InQuorum left right part)) u → (t : TableState) → Shows s t → Leads u (λ v. CantOptimize t p (Unmergeable left right) × (v ≡ t))
+in-quorum-row s u k p names left right part w e step t h =
+    let r = refuses s u k names (rf.InQuorum left right part) w step in
+    record {
+      state = t;
+      holds = (names-shown (λ log pending xs. AreFirstUnmergeable log pending xs left right) s p names t e h (inr (part, r.cause.3.1)), refl);
       shows = r.shows t h;
     }
 
@@ -195,8 +220,7 @@ no-entry-row s u k p names limit value w n e step t h =
     record {
       state = t;
       holds = (
-        subst (λ (l : List Entry). (2 ≤ length (live_of l p)) × AreAlike l (live_of l p) × (worker_limit l ≡ Some (limit, value))) (sym h.log)
-            (subst (λ (xs : List Name). 2 ≤ length xs) (sym e) n, subst (λ (xs : List Name). AreAlike s.table.log xs) (sym e) r.cause.3.1, r.cause.3.3),
+        names-shown (λ log pending xs. (2 ≤ length xs) × AreAlike log pending xs × (worker_limit log ≡ Some (limit, value))) s p names t e h (n, r.cause.3.1, r.cause.3.3),
         refl,
       );
       shows = r.shows t h;

@@ -23,7 +23,7 @@ killed-shows s u k r w st t h =
     let d : Kills s k r st.after = st.does in
     let q = ap (λ (x : Cluster). x.table) d.change ∙ d.closes in
     shows-next s u (ev.Kill k) r t t.next w st
-    (keeps-stored s u (ev.Kill k) r st (ap (λ (x : Table). x.schema) q) (ap (λ (x : Table). x.log) q) (ap (λ (x : Cluster). x.events) d.change) (λ xs i. refl))
+    (keeps-stored s u (ev.Kill k) r st (ap (λ (x : Table). x.schema) q) (ap (λ (x : Table). x.log) q) (ap (λ (x : Table). x.quorum) q) (ap (λ (x : Cluster). x.events) d.change) (λ xs i. refl))
     (h.next ∙ sym (ap (λ (x : Cluster). x.table.next) st.stored ∙ ap (λ (x : Table). x.next) q)) h
 
 -- so does the begin of another one
@@ -35,6 +35,7 @@ restarted-shows s u k r w st t h =
     (keeps-stored s u (ev.Restart k) r st
     (ap (λ (x : Table). x.schema) q ∙ (ap (λ (x : Table). x.schema) d.opens ∙ ap (λ (x : Table). x.schema) d.closes))
     (ap (λ (x : Table). x.log) q ∙ (ap (λ (x : Table). x.log) d.opens ∙ ap (λ (x : Table). x.log) d.closes))
+    (ap (λ (x : Table). x.quorum) q ∙ (ap (λ (x : Table). x.quorum) d.opens ∙ ap (λ (x : Table). x.quorum) d.closes))
     (ap (λ (x : Cluster). x.events) d.change) (λ xs i. refl))
     (h.next ∙ sym (ap (λ (x : Cluster). x.table.next) st.stored ∙ (ap (λ (x : Table). x.next) q ∙ (ap (λ (x : Table). x.next) d.opens ∙ ap (λ (x : Table). x.next) d.closes)))) h
 

@@ -93,9 +93,10 @@ worker-no-block (Mutation id numbers command) q = absurd q
 worker-no-block (DropRange p n) q = absurd q
 
 -- an entry of a worker enters the log
-gained-move : (s u : Cluster) (e : Event) (reply : Reply) (x : Entry) → IsWhole s → Step s e reply u → GainsEntry s u x → IsOfWorker x → worker_limit s.table.log ≡ None → u.table.next ≡ s.table.next → (t : TableState) → Shows s t → Leads u (Works 1 t)
-gained-move s u e reply x w k g q b n t h =
-    let shows : Shows u (record t { log = x ∷ t.log; next = t.next }) = gained-shows s u e reply x t t.next w k g (worker-no-block x q) (h.next ∙ sym n) h in
+gained-move : (s u : Cluster) (e : Event) (reply : Reply) (x : Entry) → IsWhole s → Step s e reply u → GainsEntry s u x → IsOfWorker x → worker_limit s.table.log ≡ None → u.table.next ≡ s.table.next → u.table.quorum ≡ s.table.quorum → (t : TableState) → Shows s t → Leads u (Works 1 t)
+gained-move s u e reply x w k g q b n m t h =
+    let shows : Shows u (record t { log = x ∷ t.log; next = t.next; quorum = t.quorum }) =
+    gained-shows s u e reply x t t.next t.quorum w k g (worker-no-block x q) (h.next ∙ sym n) (h.quorum ∙ sym m) h in
     record {
       state = record t { log = x ∷ t.log };
       holds = record { gained = x ∷ []; workers = (q, tt); within = omega arith; room = (ap worker_limit h.log ∙ b, tt); lawful = shown-lawful u (record t { log = x ∷ t.log }) (whole-step s u e reply w k) shows; change = refl };
@@ -115,7 +116,8 @@ merge-move s u k names reply w st t h = go st.does
         (ap (λ (x : Table). x.log) q ∙ ap (λ (x : Table). x.log) d.appends.at.does.change)
         (ap (λ (x : Cluster). x.events) d.appends.at.change) (λ xs i. refl))
         tt d.appends.at.does.within
-        (ap (λ (x : Cluster). x.table.next) st.stored ∙ (ap (λ (x : Table). x.next) q ∙ ap (λ (x : Table). x.next) d.appends.at.does.change)) t h
+        (ap (λ (x : Cluster). x.table.next) st.stored ∙ (ap (λ (x : Table). x.next) q ∙ ap (λ (x : Table). x.next) d.appends.at.does.change))
+        (ap (λ (x : Cluster). x.table.quorum) st.stored ∙ (ap (λ (x : Table). x.quorum) q ∙ ap (λ (x : Table). x.quorum) d.appends.at.does.change)) t h
     go (inr d) = declined-move s u (ev.Merge k names) reply _ w st d (λ xs i. refl) t h
 
 -- a mutate
@@ -131,7 +133,8 @@ mutate-move s u k part upto reply w st t h = go st.does
         (ap (λ (x : Table). x.log) q ∙ ap (λ (x : Table). x.log) d.appends.at.does.change)
         (ap (λ (x : Cluster). x.events) d.appends.at.change) (λ xs i. refl))
         tt d.appends.at.does.within
-        (ap (λ (x : Cluster). x.table.next) st.stored ∙ (ap (λ (x : Table). x.next) q ∙ ap (λ (x : Table). x.next) d.appends.at.does.change)) t h
+        (ap (λ (x : Cluster). x.table.next) st.stored ∙ (ap (λ (x : Table). x.next) q ∙ ap (λ (x : Table). x.next) d.appends.at.does.change))
+        (ap (λ (x : Cluster). x.table.quorum) st.stored ∙ (ap (λ (x : Table). x.quorum) q ∙ ap (λ (x : Table). x.quorum) d.appends.at.does.change)) t h
     go (inr d) = declined-move s u (ev.Mutate k part upto) reply _ w st d (λ xs i. refl) t h
 
 -- what such an event does to the table

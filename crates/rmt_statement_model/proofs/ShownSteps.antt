@@ -46,18 +46,20 @@ room-shown s t b w h =
 abbrev pub TellsNoCommit : Event → Reply → Type 0
 TellsNoCommit e reply = (xs : List (Event × Reply)) (i : ℕ) → committed_at ((e, reply) ∷ xs) i ≡ committed_at xs i
 
--- the second cluster has the schema and the log of the first, and the same commits
+-- the second cluster has the schema, the log and the quorum of the first, and the same commits
 pub record KeepsLog (s u : Cluster) : Type 0 where
   pub schema : u.table.schema ≡ s.table.schema
   pub log : u.table.log ≡ s.table.log
+  pub quorum : u.table.quorum ≡ s.table.quorum
   pub commits : (i : ℕ) → committed_at u.events i ≡ committed_at s.events i
 
 -- the step does so where what it stores tells of no commit
-pub keeps-stored : (s u : Cluster) (e : Event) (reply : Reply) → (k : Step s e reply u) → k.after.table.schema ≡ s.table.schema → k.after.table.log ≡ s.table.log → k.after.events ≡ s.events → TellsNoCommit e reply → KeepsLog s u
-keeps-stored s u e reply k p q v f =
+pub keeps-stored : (s u : Cluster) (e : Event) (reply : Reply) → (k : Step s e reply u) → k.after.table.schema ≡ s.table.schema → k.after.table.log ≡ s.table.log → k.after.table.quorum ≡ s.table.quorum → k.after.events ≡ s.events → TellsNoCommit e reply → KeepsLog s u
+keeps-stored s u e reply k p q m v f =
     record {
       schema = ap (λ (x : Cluster). x.table.schema) k.stored ∙ p;
       log = ap (λ (x : Cluster). x.table.log) k.stored ∙ q;
+      quorum = ap (λ (x : Cluster). x.table.quorum) k.stored ∙ m;
       commits = λ i. ap (λ (x : Cluster). committed_at x.events i) k.stored ∙ (f k.after.events i ∙ ap (λ (xs : List (Event × Reply)). committed_at xs i) v);
     }
 
@@ -68,6 +70,7 @@ shows-next s u e reply t next w k q n h =
       schema = h.schema ∙ sym q.schema;
       log = h.log ∙ sym q.log;
       next = n;
+      quorum = h.quorum ∙ sym q.quorum;
       blocks = h.blocks ∙ (sym (blocks-same s.table.log s.events u.events (λ i l. q.commits i)) ∙ ap (λ (l : List Entry). blocks_in l u.events) (sym q.log));
       knows = knows-step s u e reply t.known w k h.knows;
     }
@@ -75,4 +78,4 @@ shows-next s u e reply t next w k q n h =
 -- an event that leaves the table
 pub shows-quiet : (s u : Cluster) (e : Event) (reply : Reply) (t : TableState) → IsWhole s → (k : Step s e reply u) → k.after.table ≡ s.table → k.after.events ≡ s.events → TellsNoCommit e reply → Shows s t → Shows u t
 shows-quiet s u e reply t w k p q f h =
-    shows-next s u e reply t t.next w k (keeps-stored s u e reply k (ap (λ (x : Table). x.schema) p) (ap (λ (x : Table). x.log) p) q f) (h.next ∙ sym (ap (λ (x : Cluster). x.table.next) k.stored ∙ ap (λ (x : Table). x.next) p)) h
+    shows-next s u e reply t t.next w k (keeps-stored s u e reply k (ap (λ (x : Table). x.schema) p) (ap (λ (x : Table). x.log) p) (ap (λ (x : Table). x.quorum) p) q f) (h.next ∙ sym (ap (λ (x : Cluster). x.table.next) k.stored ∙ ap (λ (x : Table). x.next) p)) h

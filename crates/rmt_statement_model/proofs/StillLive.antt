@@ -32,8 +32,8 @@ knows-nothing s x w h =
 -- a whole cluster shows the state in which nothing is known
 pub some-shown : (s : Cluster) → IsWhole s → (t : TableState) × Shows s t
 some-shown s w = (
-  record { schema = s.table.schema; log = s.table.log; blocks = accepted s; next = s.table.next; known = λ r i. false },
-  record { schema = refl; log = refl; next = refl; blocks = refl; knows = λ x h. knows-nothing s x w h },
+  record { schema = s.table.schema; log = s.table.log; blocks = accepted s; next = s.table.next; quorum = s.table.quorum; known = λ r i. false },
+  record { schema = refl; log = refl; next = refl; quorum = refl; blocks = refl; knows = λ x h. knows-nothing s x w h },
 )
 
 -- what is live of a partition is so still behind those that were optimized, where it is none of these

@@ -38,6 +38,7 @@ synced-shows u k t w d h =
       schema = h.schema;
       log = h.log;
       next = h.next;
+      quorum = h.quorum;
       blocks = h.blocks;
       knows = subst (λ n. EachKnows u (learned_to t.known k n)) (ap (λ (l : List Entry). length l) (sym h.log))
           (subst (λ j. EachKnows u (learned_to t.known j (length u.table.log))) d.at.number (drained-known u d.replica t.known w d.at.is_in d.whole d.drained h.knows));

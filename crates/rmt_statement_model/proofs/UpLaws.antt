@@ -133,6 +133,10 @@ ups-does s u (ev.Kill k) r w q d = absurd q
 ups-does s u (ev.Restart k) r w q d =
     let is : up_at s.replicas k ≡ d.old.up = subst (λ i. up_at s.replicas i ≡ d.old.up) d.at.number (up-of s.replicas d.old w.rising d.at.is_in) in
     ups-replaced s u k d.old d.new w (ap (λ (x : Cluster). x.replicas) d.change) d.at (ap (λ (z : Replica). z.number) d.wakes) (ap (λ (z : Replica). z.up) d.wakes ∙ (sym q ∙ is))
+ups-does s u (ev.Note k) r w q (inl d) =
+    ups-replaced s u k d.old d.new w (ap (λ (x : Cluster). x.replicas) d.change) d.is.at (ap (λ (z : Replica). z.number) d.notes.change) (ap (λ (z : Replica). z.up) d.notes.change)
+ups-does s u (ev.Note k) r w q (inr (inl d)) = ups-same s u (ap (λ (x : Cluster). x.replicas) d.unchanged)
+ups-does s u (ev.Note k) r w q (inr (inr d)) = ups-same s u (ap (λ (x : Cluster). x.replicas) d.unchanged)
 ups-does s u (ev.Fetches k allowed) r w q d = ups-replaced s u k d.old (record d.old { fetches = allowed }) w (ap (λ (x : Cluster). x.replicas) d.change) d.at refl refl
 
 -- the same replicas are up after such an event

@@ -103,6 +103,7 @@ mutate-shows s u k old upto place w st m t h = go st.does
       schema = h.schema ∙ sym m.schema;
       log = ap (λ (l : List Entry). Mutate old m.name upto m.count m.mcount ∷ l) h.log ∙ sym m.log;
       next = h.next ∙ sym (ap (λ (x : Cluster). x.table.next) st.stored ∙ (ap (λ (x : Cluster). x.table.next) a.appends.at.change ∙ ap (λ (x : Table). x.next) a.appends.at.does.change));
+      quorum = h.quorum ∙ sym (ap (λ (x : Cluster). x.table.quorum) st.stored ∙ (ap (λ (x : Cluster). x.table.quorum) a.appends.at.change ∙ ap (λ (x : Table). x.quorum) a.appends.at.does.change));
       blocks = h.blocks ∙ (sym (blocks-same s.table.log s.events u.events (λ i l. ap (λ (x : Cluster). committed_at x.events i) st.stored ∙ ap (λ (x : Cluster). committed_at x.events i) a.appends.at.change)) ∙ ap (λ (l : List Entry). blocks_in l u.events) (sym m.log));
       knows = knows-step s u (ev.Mutate k old upto) (rp.Entry place) t.known w st h.knows;
     }

@@ -6,15 +6,16 @@ use Rattle.std.specs.declared.option.Option.{Option}
 use Rattle.std.specs.declared.option.Option.TheVariants.{Some, None}
 use Rattle.rmt_values.specs.declared.limit.Limit.{Limit}
 use Rattle.rmt_entries.specs.declared.entry.Entry.TheVariants.{DropRange}
+use Rattle.rmt_model.specs.Quorum.{quorum_after_drop}
 use Rattle.rmt_model.specs.BlockNumbers.{next_number, with_next}
 use Rattle.rmt_model.specs.EntryLimits.{drop_limit}
 use Rattle.rmt_reply.specs.declared.refusal.Refusal.{Refusal}
 use Rattle.rmt_reply.specs.declared.refusal.Refusal.TheVariants.{LimitReached}
 use Rattle.rmt_statement_model.specs.TableStates.{TableState, gains_at}
 
--- the table with a drop of a partition under its next number, known at the replica
+-- the table with a drop of a partition under its next number, known at the replica; its quorum is without what is dropped
 abbrev pub with_drop : TableState → ℕ → Option ℕ → TableState
-with_drop t r p = gains_at r (DropRange p (next_number t.next p)) (record t { next = with_next t.next p (next_number t.next p + 1) })
+with_drop t r p = gains_at r (DropRange p (next_number t.next p)) (record t { next = with_next t.next p (next_number t.next p + 1); quorum = quorum_after_drop p (next_number t.next p) t.quorum })
 
 -- the blocks of the partition below a number are dropped
 pub record Drops (t : TableState) (r : ℕ) (p : Option ℕ) (below : ℕ) (u : TableState) : Type 0 where

@@ -9,8 +9,10 @@ use Rattle.rmt_entries.specs.declared.entry.Entry.{Entry}
 use Rattle.rmt_entries.specs.declared.entry.Entry.TheVariants.{Merge}
 use Rattle.rmt_model.specs.Live.{live}
 use Rattle.rmt_model.specs.Lawful.{Lawful}
+use Rattle.rmt_model.specs.Quorum.{Pending}
 use Rattle.rmt_model.specs.EntryLimits.{worker_limit}
-use Rattle.rmt_events.specs.TableRefusals.{AreFirstToDiffer, AreAlike}
+use Rattle.rmt_events.specs.TableCalls.{AreQuiet}
+use Rattle.rmt_events.specs.TableRefusals.{AreFirstToDiffer, AreFirstInQuorum, AreAlike}
 use Rattle.rmt_reply.specs.declared.refusal.Refusal.{Refusal}
 use Rattle.rmt_reply.specs.declared.refusal.Refusal.TheVariants.{LimitReached, Unmergeable}
 use Rattle.rmt_statement_model.specs.TableStates.{TableState, synced}
@@ -35,13 +37,15 @@ abbrev pub partitions_asked : Option (Option ℕ) → List Entry → List (Optio
 partitions_asked None log = partitions_of (live log)
 partitions_asked (Some p) log = filter (λ q. nat_eq (rank q) (rank p)) (partitions_of (live log))
 
--- all live names of the partition are merged into one, within the limit of worker entries
+-- all live names of the partition are merged into one, within the limit of worker entries; none of them covers the part that
+-- waits for its quorum
 pub record MergesLive (t : TableState) (p : Option ℕ) (name : Name) (u : TableState) : Type 0 where
   pub first : Name
   pub second : Name
   pub rest : List Name
   pub sources : live_of t.log p ≡ first ∷ second ∷ rest
   pub count : ℕ
+  pub quiet : AreQuiet t.quorum.pending (first ∷ second ∷ rest)
   pub room : worker_limit t.log ≡ None
   pub lawful : Lawful t.schema (Merge name (first ∷ second ∷ rest) count ∷ t.log)
   pub change : u ≡ record t { log = Merge name (first ∷ second ∷ rest) count ∷ t.log }
@@ -50,10 +54,16 @@ pub record MergesLive (t : TableState) (p : Option ℕ) (name : Name) (u : Table
 abbrev pub Optimizes : TableState → Option ℕ → Name → TableState → Type 0
 Optimizes t p name u = ((live_of t.log p ≡ name ∷ []) × (u ≡ t)) ⊎ MergesLive t p name u
 
--- why the partition's live names, two or more, aren't merged: the first neighbours whose versions differ, or a limit
+-- the first neighbours among the names whose versions differ, or of which one covers the part that waits for its quorum
+abbrev pub AreFirstUnmergeable : List Entry → Option Pending → List Name → Name → Name → Type 0
+AreFirstUnmergeable log pending names left right =
+    AreFirstToDiffer log pending names left right ⊎ ((part : Name) × AreFirstInQuorum log pending names left right part)
+
+-- why the partition's live names, two or more, aren't merged: neighbours that may not be, or a limit
 abbrev pub CantOptimize : TableState → Option ℕ → Refusal → Type 0
-CantOptimize t p (Unmergeable left right) = AreFirstToDiffer t.log (live_of t.log p) left right
-CantOptimize t p (LimitReached limit value) = (2 ≤ length (live_of t.log p)) × AreAlike t.log (live_of t.log p) × (worker_limit t.log ≡ Some (limit, value))
+CantOptimize t p (Unmergeable left right) = AreFirstUnmergeable t.log t.quorum.pending (live_of t.log p) left right
+CantOptimize t p (LimitReached limit value) =
+    (2 ≤ length (live_of t.log p)) × AreAlike t.log t.quorum.pending (live_of t.log p) × (worker_limit t.log ≡ Some (limit, value))
 CantOptimize t p refusal = ⊥
 
 -- one partition after the other, the replica brought up to date after each: its one name, or why there is none, after which no

@@ -25,6 +25,7 @@ pub record Shows (s : Cluster) (t : TableState) : Type 0 where
   pub schema : t.schema ≡ s.table.schema
   pub log : t.log ≡ s.table.log
   pub next : t.next ≡ s.table.next
+  pub quorum : t.quorum ≡ s.table.quorum
   pub blocks : t.blocks ≡ accepted s
   pub knows : EachKnows s t.known
 

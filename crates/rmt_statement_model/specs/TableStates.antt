@@ -1,5 +1,5 @@
--- The state of a table that statements change: its log, the blocks that were accepted, the next block numbers, and which
--- entries of the log are known at each replica.
+-- The state of a table that statements change: its log, the blocks that were accepted, the next block numbers, its quorum, and
+-- which entries of the log are known at each replica.
 -- ClickHouse documentation, Data Replication: a block that a replica accepts becomes an entry of the table's log; another
 -- replica has it once it has done that entry.
 use Rattle.std.specs.Prelude.{ℕ, ◌&&◌, ◌||◌, Bool, false, nat_eq, nat_lt, List, [], ◌∷◌, length}
@@ -15,23 +15,26 @@ use Rattle.rmt_granules.specs.Granules.{PartView}
 use Rattle.rmt_granules.specs.MadePart.{data_of}
 use Rattle.rmt_model.specs.Content.{Row, content, rows}
 use Rattle.rmt_model.specs.Lawful.{entry_at}
+use Rattle.rmt_model.specs.Quorum.{Quorum}
 use Rattle.rmt_model.specs.Window.{kept}
 use Rattle.rmt_events.specs.Views.{Block}
 use Rattle.rmt_events.specs.TableCalls.{kept_part}
 use Rattle.rmt_events.specs.Clusters.{Accepted, rows_at}
 
 -- a table: its schema, its log and the accepted blocks, both newest first, the next number of each partition that exists,
--- and for each replica, by its number, the places of the log that are known there
+-- the part that waits for its quorum and the last one whose quorum was met, and for each replica, by its number, the places of
+-- the log that are known there
 pub record TableState : Type 0 where
   pub schema : Shape
   pub log : List Entry
   pub blocks : List Accepted
   pub next : List (Option ℕ × ℕ)
+  pub quorum : Quorum
   pub known : ℕ → ℕ → Bool
 
 -- a table without rows
 abbrev pub empty_table : Shape → TableState
-empty_table schema = record { schema = schema; log = []; blocks = []; next = []; known = λ r i. false }
+empty_table schema = record { schema = schema; log = []; blocks = []; next = []; quorum = record { pending = None; last = None }; known = λ r i. false }
 
 -- with one more place known at a replica
 abbrev pub learned : (ℕ → ℕ → Bool) → ℕ → ℕ → ℕ → ℕ → Bool

@@ -1,8 +1,8 @@
 //! The calls of an insert on the table, and on the replica that it is made at.
-ghost use Rattle.std.specs.Prelude.{◌≡◌, ◌↔◌, IfOk, IfErr, IfSome, IsTrue, OnErr, OnOk, length};
+ghost use Rattle.std.specs.Prelude.{◌≡◌, ◌≢◌, ◌↔◌, IfOk, IfErr, IfSome, IsTrue, OnErr, OnOk, length};
 ghost use Rattle.rmt_model.specs.BlockNumbers.{next_number};
 ghost use Rattle.rmt_events.specs.TableCalls.{IsLocked, Allocates, Commits, Unlocks};
-ghost use Rattle.rmt_events.specs.TableRefusals.{NoNumber};
+ghost use Rattle.rmt_events.specs.TableRefusals.{HasQuorum, NoNumber};
 ghost use Rattle.rmt_events.specs.Clusters.{values_of as values_in};
 ghost use Rattle.rmt_table.specs.TableTrees.{table_at, AfterNoCommit, IsReplica};
 ghost use Rattle.rmt_table.specs.Causes.{allocate_cause, commit_cause};
@@ -29,37 +29,48 @@ impl State {
         self.tree.has_lock(alloc, lock)
     }
 
-    /// Takes the next number of a partition for a block.
+    /// Takes the next number of a partition for a block, which asks for so many replicas.
     pub fn allocate(
         &mut self,
         alloc: Global,
         replica: ReplicaId,
         id: &BlockId,
+        need: u32,
     ) -> Result<Lock, AllocateError>
         requires here { IsReplica self.old.tree replica }
         ensures lock { IfOk result (λ lock. lock ≡ record { replica = replica; session = lock.session; number = next_number self.old.tree.next id.now.partition; id = id.now }) }
+        ensures has_quorum { OnOk result (HasQuorum (table_at self.old.tree) need) }
         ensures allocates { IfOk result (λ lock. Allocates (table_at self.old.tree) replica id.now.partition id.now.digest lock.number (table_at self.new.tree)) }
         ensures refused { IfErr result (λ e. IfSome (allocate_cause e)
-            (NoNumber (table_at self.old.tree) replica id.now.partition id.now.digest 0)) }
+            (NoNumber (table_at self.old.tree) replica id.now.partition id.now.digest need)) }
         ensures err { OnErr result (self.new ≡ self.old) }
         ensures replicas { self.new.replicas ≡ self.old.replicas }
     {
-        self.tree.allocate(alloc, replica, id, 0)
+        self.tree.allocate(alloc, replica, id, need)
     }
 
-    /// Accepts the block of a lock. Its entry's place comes back.
-    pub fn commit(&mut self, alloc: Global, lock: &Lock, values: u64) -> Result<u32, CommitError>
+    /// Accepts the block of a lock, which asks for so many replicas, 0 where it asks for no quorum. Its entry's place comes
+    /// back.
+    pub fn commit(
+        &mut self,
+        alloc: Global,
+        lock: &Lock,
+        need: u32,
+        values: u64,
+    ) -> Result<u32, CommitError>
         requires here { IsReplica self.old.tree lock.now.replica }
+        requires need { need ≢ 1 }
         ensures place { IfOk result (λ place. place ≡ length self.old.tree.log) }
-        ensures commits { OnOk result (Commits (table_at self.old.tree) lock.now.id.partition lock.now.number lock.now.id.digest lock.now.replica 0 values (table_at self.new.tree)) }
+        ensures has_quorum { OnOk result (HasQuorum (table_at self.old.tree) need) }
+        ensures commits { OnOk result (Commits (table_at self.old.tree) lock.now.id.partition lock.now.number lock.now.id.digest lock.now.replica need values (table_at self.new.tree)) }
         ensures refused { IfErr result (λ e. IfSome (commit_cause e)
-            (NoCommit (table_at self.old.tree) lock.now 0 values)) }
+            (NoCommit (table_at self.old.tree) lock.now need values)) }
         ensures err { IfErr result (λ e. AfterNoCommit self.old.tree lock.now e self.new.tree) }
         ensures replicas { self.new.replicas ≡ self.old.replicas }
         ensures sessions { length self.new.tree.sessions ≡ length self.old.tree.sessions }
     {
         let place = self.tree.log_len();
-        self.tree.commit_insert(alloc, lock, 0, values)?;
+        self.tree.commit_insert(alloc, lock, need, values)?;
         Ok(place)
     }
 

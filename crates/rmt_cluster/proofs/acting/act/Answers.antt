@@ -17,6 +17,9 @@ is-here tree k n = record { first = n.first; last = n.last }
 pub allocate-requires-clause-here : goal.allocate-requires-clause-here
 allocate-requires-clause-here c = is-here c.args.state.now.tree c.in-Allocate.replica (subst (MayAct c.args.state.now) c.in-Allocate.is c.requires.may).0
 
+pub allocate-requires-clause-need : goal.allocate-requires-clause-need
+allocate-requires-clause-need c = (subst (MayAct c.args.state.now) c.in-Allocate.is c.requires.may).1
+
 pub pull-requires : goal.pull-requires
 pull-requires c = record { here = is-here c.args.state.now.tree c.in-Pull.replica (subst (MayAct c.args.state.now) c.in-Pull.is c.requires.may) }
 
