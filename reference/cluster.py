@@ -1,7 +1,7 @@
 """A table at its replicas, written from its description and not from the program: the log of what was done to the
-table, and of each replica how much of the log it has copied, which of these entries it has done, and its active parts.
-What a log says is read off it from its start each time, so this is slow. Statements come one after the other, so that
-no INSERT is half done when another statement begins, or when a replica goes down."""
+table, its quorum, and of each replica how much of the log it has copied, which of these entries it has done, its active
+parts, and whether it fetches. What a log says is read off it from its start each time, so this is slow. Statements come
+one after the other, so that no INSERT is half done when another statement begins, or when a replica goes down."""
 import hashlib
 from collections import namedtuple
 
@@ -107,10 +107,13 @@ def merged(names):
     return Name(names[0].partition, names[0].min, names[-1].max, level + 1, mutation)
 
 
-def first_to_differ(log, names):
-    """The first two neighbours among the names that don't have the same mutations, if there are such."""
-    pairs = zip(names, names[1:])
-    return next((pair for pair in pairs if version(log, pair[0]) != version(log, pair[1])), None)
+def first_apart(log, quorum, names):
+    """The first two neighbours among the names that aren't merged, if there are such: they don't have the same
+    mutations, or one of them covers the pending part."""
+    for pair in zip(names, names[1:]):
+        if version(log, pair[0]) != version(log, pair[1]) or quorum.is_pending_in(pair):
+            return pair
+    return None
 
 
 def chosen(log):
@@ -134,6 +137,35 @@ def next_to_mutate(log, below):
         if places:
             return name, places[-1]
     return None
+
+
+# ---- quorums
+
+
+class Quorum:
+    """Of the quorum inserts of a table: the part that is pending until so many replicas as it needs have noted it, and
+    those that have; and the last part whose quorum was met. Each part is None where there is none."""
+
+    def __init__(self):
+        self.pending, self.need, self.noted, self.last = None, 0, set(), None
+
+    def begin(self, name, need):
+        self.pending, self.need, self.noted = name, need, set()
+
+    def is_pending_in(self, names):
+        """Whether one of the names covers the pending part."""
+        return self.pending is not None and any(covers(name, self.pending) for name in names)
+
+    def note(self, at):
+        """Counts a replica among those that have noted the pending part."""
+        self.noted.add(at)
+        if len(self.noted) == self.need:
+            self.pending, self.last = None, self.pending
+
+    def drop(self, drop):
+        """Forgets each of the two parts that a drop takes away."""
+        self.pending = None if self.pending is not None and takes(drop, self.pending) else self.pending
+        self.last = None if self.last is not None and takes(drop, self.last) else self.last
 
 
 # ---- bytes
@@ -179,15 +211,15 @@ class Draws:
 
 
 class Table:
-    """The log; the next number of each partition that there is; how many values are held; the replicas, and the places
-    of those that are down, which all tables share."""
+    """The log; the next number of each partition that there is; how many values are held; the quorum; the replicas, the
+    places of those that have fetches stopped, and of those that are down, which all tables share."""
 
     def __init__(self, columns, rule, key, granularity, window, replicas, down):
         self.columns, self.rule, self.key, self.granularity, self.window = columns, rule, key, granularity, window
         self.kinds = dict(columns)
         self.places = {name: place for place, (name, _) in enumerate(columns)}
-        self.log, self.next, self.values = [], {}, 0
-        self.replicas, self.down = [Replica() for _ in range(replicas)], down
+        self.log, self.next, self.values, self.quorum = [], {}, 0, Quorum()
+        self.replicas, self.stopped, self.down = [Replica() for _ in range(replicas)], set(), down
 
     # ---- rows
 
@@ -266,9 +298,19 @@ class Table:
         self.next[partition] = number + 1
         return number
 
-    def insert(self, at, partition, rows):
-        """What a block is answered that is inserted at a replica. Two blocks have one id where they have the same rows
-        in the same order in the same partition."""
+    def check_quorum(self, need):
+        """Refuses a block that so many replicas should have, where fewer are up or another part is pending."""
+        live = len(self.replicas) - len(self.down)
+        if live < need:
+            raise Refusal(12, "TooFewLive", live, need)
+        if self.quorum.pending is not None:
+            raise Refusal(13, "QuorumPending", self.quorum.pending)
+
+    def insert(self, at, partition, rows, need):
+        """What a block is answered that is inserted at a replica, with a quorum where it needs two replicas or more.
+        Two blocks have one id where they have the same rows in the same order in the same partition."""
+        if need > 1:
+            self.check_quorum(need)
         for block in self.kept():
             if (block.partition, block.rows) == (partition, rows):
                 return b"duplicate " + text(result(block))
@@ -278,9 +320,25 @@ class Table:
         self.values += values
         self.replicas[at].staged[partition, number] = rows
         self.log.append(Get(partition, number, at, rows))
+        name = result(self.log[-1])
         self.pull(at)
         self.apply(at, len(self.log) - 1)
-        return b"part " + text(result(self.log[-1]))
+        if need > 1:
+            self.quorum.begin(name, need)
+            self.meet(at)
+        return b"part " + text(name)
+
+    def meet(self, at):
+        """Has the part of the last entry noted: by the replica that took the block, and then by the other ones that are
+        up and fetch, each of which does that entry, until the quorum is met."""
+        self.note(at)
+        for other in range(len(self.replicas)):
+            if self.quorum.pending is not None and other not in {at} | self.down | self.stopped:
+                self.pull(other)
+                self.apply(other, len(self.log) - 1)
+                self.note(other)
+        if self.quorum.pending is not None:
+            raise Refusal(15, "QuorumUnmet", len(self.quorum.noted), self.quorum.need)
 
     def alter(self, command):
         """The id of a new mutation, which takes a number in each partition."""
@@ -300,6 +358,7 @@ class Table:
             return 0
         number = self.take_number(partition)
         self.log.append(Drop(partition, number))
+        self.quorum.drop(self.log[-1])
         self.pull(at)
         self.apply(at, len(self.log) - 1)
         return number
@@ -349,27 +408,44 @@ class Table:
         return entry.name, Part(place, self.in_key_order(rows))
 
     def block(self, at, place):
-        """That of a block: it is staged at the replica, or comes from the first other one that is up and has it, in a
-        part that was made within the replica's copy of the log, or staged."""
+        """That of a block: it is staged at the replica, or else fetched."""
         replica, entry = self.replicas[at], self.replicas[at].log[place]
         name, staged = result(entry), (entry.partition, entry.number)
         if staged in replica.staged:
             return name, Part(place, self.in_key_order(replica.staged[staged]))
+        held = self.held(at, place)
+        if held is None:
+            raise Refusal(19, "NoSource", name, replica_text(entry.source))
+        if at in self.stopped:
+            raise Refusal(0, "FetchesStopped", replica_text(at))
+        return held
+
+    def held(self, at, place):
+        """What there is of a block to fetch, if anything, at the first other replica that is up and has it, in a part
+        that was made within the fetching replica's copy of the log, or staged."""
+        replica, entry = self.replicas[at], self.replicas[at].log[place]
+        name, staged = result(entry), (entry.partition, entry.number)
         for other in [other for number, other in enumerate(self.replicas) if number not in {at} | self.down]:
             for around, part in other.parts.items():
                 if covers(around, name) and part.place < len(replica.log):
                     return around, part
             if staged in other.staged:
                 return name, Part(place, self.in_key_order(other.staged[staged]))
-        raise Refusal(19, "NoSource", name, replica_text(entry.source))
+        return None
 
     def drain(self, at):
-        """Brings a replica to the whole log, every entry of it done, the earlier ones first. It stops at a block that
-        no replica has which is up; the one that took it is down then."""
+        """Brings a replica to the whole log, every entry of it done, the earlier ones first, and then has the
+        pending part noted. It stops at a block that no replica has which is up; the one that took it is down then."""
         self.pull(at)
         for place, is_done in enumerate(self.replicas[at].done):
             if not is_done:
                 self.apply(at, place)
+        self.note(at)
+
+    def note(self, at):
+        """Has the pending part noted by a replica, where that has it."""
+        if self.quorum.is_pending_in(self.replicas[at].parts):
+            self.quorum.note(at)
 
     def restart(self, at):
         """Ends a replica's session, and begins another one: each entry is looked at again."""
@@ -378,6 +454,14 @@ class Table:
     def read(self, at):
         """The active parts of a replica and their names, in order of partition and number."""
         return sorted(self.replicas[at].parts.items())
+
+    def read_in_quorum(self, at):
+        """What a sequential SELECT reads: the active parts without what covers the pending one. One of them has to
+        cover the last one."""
+        last, parts = self.quorum.last, self.read(at)
+        if last is not None and not any(covers(name, last) for name, _ in parts):
+            raise Refusal(14, "NotInQuorum", last)
+        return [(name, part) for name, part in parts if not self.quorum.is_pending_in([name])]
 
     def synced_rows(self, at):
         """The rows of a replica's active parts, each part's after all mutations that it still has to go through."""
@@ -391,7 +475,7 @@ class Table:
         seen, count = len(self.replicas[at].log), self.count(Merge, Mutate)
         if seen < len(self.log):
             raise Refusal(0, "LogMoved", seen, len(self.log))
-        pair = first_to_differ(self.log, entry.sources) if isinstance(entry, Merge) else None
+        pair = first_apart(self.log, self.quorum, entry.sources) if isinstance(entry, Merge) else None
         if pair is not None:
             raise Refusal(16, "Unmergeable", *pair)
         if count == WORKER_ENTRIES:
@@ -426,9 +510,12 @@ class Table:
 
     def run(self, turns, draws):
         """Makes so many background events, and gives each with what came of it. One that is refused is one of them, as
-        each is that is drawn for a replica which is down."""
+        each is that is drawn for a replica which is down. After one by which a replica has the pending part, that
+        replica is noted."""
         for _ in range(turns):
             event = self.turn(draws)
+            replica = self.replicas[event[1]]
+            had_pending = self.quorum.is_pending_in(replica.parts)
             try:
                 if event[1] in self.down:
                     raise Refusal(0, "Down")
@@ -436,3 +523,5 @@ class Table:
             except Refusal as refusal:
                 came = refusal.line
             yield event, came
+            if not had_pending and self.quorum.is_pending_in(replica.parts):
+                yield ("note", event[1]), self.note(event[1])

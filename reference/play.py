@@ -2,7 +2,8 @@
 """The language of scripts once more, written from its description and not from the program: reads a script from standard
 input, writes its replies and ends with the program's code. It is slow and shares nothing with the program, so that the
 two can be compared (reference/check). Where the description leaves a choice it is that of docs/DECISIONS.md. What
-happens to a table is in cluster.py."""
+happens to a table is in cluster.py. With the word --quorums it plays quorum inserts, sequential SELECTs, STOP FETCHES
+and START FETCHES too, which the program doesn't yet."""
 import hashlib
 import sys
 
@@ -312,8 +313,18 @@ OFFERED = choice(
     says(sequence(keyword("format"), keyword("csv"), data), lambda said: ("csv", said[2])),
 )
 INTO = sequence(keyword("insert"), keyword("into"), maybe(keyword("table")), WORD, maybe(NAMES))
-QUORUM = sequence(keyword("settings"), exactly("insert_quorum"), symbol("="), NUMBER)
 INSERT = says(sequence(INTO, OFFERED), lambda said: ("insert", said[0][3], said[0][4], said[1]))
+
+
+def setting_of(name):
+    """SETTINGS and this one, which says its number."""
+    return only(sequence(keyword("settings"), exactly(name), symbol("="), NUMBER), 3)
+
+
+QUORUM_INSERT = says(
+    sequence(INTO, setting_of("insert_quorum"), OFFERED),
+    lambda said: ("quorum_insert", said[0][3], said[0][4], said[2], said[1]),
+)
 
 
 def aggregate(name):
@@ -336,7 +347,10 @@ PLAIN_SELECT = says(
 SELECT = says(
     sequence(PLAIN_SELECT, maybe(keyword("sync"))), lambda said: ("select", said[0]["table"], said[0], bool(said[1]))
 )
-SEQUENTIAL = sequence(keyword("settings"), exactly("select_sequential_consistency"), symbol("="), NUMBER)
+SEQUENTIAL_SELECT = says(
+    sequence(PLAIN_SELECT, setting_of("select_sequential_consistency")),
+    lambda said: ("sequential_select", said[0]["table"], said[0], said[1]),
+)
 INDEXES = sequence(exactly("indexes"), symbol("="), number_of(1, 1))
 EXPLAIN = says(
     sequence(keyword("explain"), maybe(INDEXES), PLAIN_SELECT), lambda said: ("explain", said[2]["table"], said[2])
@@ -382,12 +396,12 @@ def over_replica(how, word):
 
 PARTITION_FINAL = only(sequence(maybe(only(sequence(keyword("partition"), PARTITION), 1)), keyword("final")), 0)
 ACT = choice(
-    INSERT, unbuilt(INTO, QUORUM, OFFERED), SELECT, unbuilt(PLAIN_SELECT, SEQUENTIAL), EXPLAIN, ALTER,
+    INSERT, QUORUM_INSERT, SELECT, SEQUENTIAL_SELECT, EXPLAIN, ALTER,
     over_table("optimize", "optimize table", PARTITION_FINAL),
     over_table("show", "show parts from"), over_table("wait", "wait mutation", NUMBER),
     over_table("sync", "system sync replica"), over_table("restart", "system restart replica"),
     over_table("check", "check table"),
-    unbuilt(keyword("system"), choice(words("stop fetches"), words("start fetches")), WORD),
+    over_table("stop_fetches", "system stop fetches"), over_table("start_fetches", "system start fetches"),
 )  # fmt: skip
 REPLICA = maybe(only(sequence(symbol("@"), WORD), 1))
 RUN = says(
@@ -396,7 +410,7 @@ RUN = says(
 LANE = sequence(keyword("lane"), END, times(sequence(REPLICA, choice(INSERT, SELECT, ALTER), END)))
 LATER = choice(
     CREATE,
-    says(sequence(REPLICA, ACT), lambda said: said[1] if said[1][0] == "unbuilt" else ("at", said[0], said[1])),
+    says(sequence(REPLICA, ACT), lambda said: ("at",) + said),
     over_replica("kill", "kill"), over_replica("start", "restart"), RUN,
     unbuilt(keyword("lanes"), END, LANE, times(LANE, 7), keyword("end")),
 )  # fmt: skip
@@ -503,9 +517,15 @@ def check_names(known, lists):
             raise Refusal(20, "DoubleColumn", first_double(names))
 
 
-def rows_of(table, columns, offered):
+def check_setting(name, number, highest):
+    if number > highest:
+        raise Refusal(6, "WrongType", name)
+
+
+def rows_of(table, columns, offered, quorum):
     columns = [name for name, _ in table.columns] if columns is None else columns
     check_names(table.kinds, [columns])
+    check_setting("insert_quorum", quorum, 2**32 - 1)
     how, records = offered if offered[0] == "values" else ("csv", records_of(offered[1]))
     rows = []
     for place, record in enumerate(records):
@@ -720,28 +740,54 @@ class World:
         if at in self.down:
             raise Refusal(9, "ReplicaDown", cluster.replica_text(at))
 
+    def check_fetches(self, table, at):
+        """For a statement that brings its replica up to date."""
+        self.check_up(at)
+        if at in table.stopped:
+            raise Refusal(11, "FetchesStopped", cluster.replica_text(at))
+
     # ---- acts, at a replica of a table, which is looked at once what the act says of the table was checked
 
     def insert(self, table, at, columns, offered):
-        rows = rows_of(table, columns, offered)
+        self.quorum_insert(table, at, columns, offered, 0)
+
+    def quorum_insert(self, table, at, columns, offered, quorum):
+        rows = rows_of(table, columns, offered, quorum)
         self.check_up(at)
         if not rows:
             self.lines.append(b"nothing")
         for partition, block in table.split(rows):
-            self.lines.append(table.insert(at, partition, block))
+            self.lines.append(table.insert(at, partition, block, quorum))
 
     def select(self, table, at, said, is_sync):
         query = Query(table, said)
-        self.check_up(at)
         if is_sync:
+            self.check_fetches(table, at)
             table.drain(at)
             rows = table.synced_rows(at)
             assert sorted(rows) == sorted(table.plain_rows()), "the parts hold other rows than the accepted blocks"
+            self.answer(query, rows)
         else:
-            self.show(table, at)
-            rows = [row for _, part in table.read(at) for row in part.rows]
+            self.check_up(at)
+            self.answer_of(query, table.read(at))
+
+    def sequential_select(self, table, at, said, setting):
+        query = Query(table, said)
+        check_setting("select_sequential_consistency", setting, 1)
+        self.check_up(at)
+        self.answer_of(query, table.read_in_quorum(at) if setting == 1 else table.read(at))
+
+    def answer_of(self, query, parts):
+        """The names of parts, and the answer to a query over them."""
+        self.names_of(parts)
+        self.answer(query, [row for _, part in parts for row in part.rows])
+
+    def answer(self, query, rows):
         answer = query.answer(rows)
         self.lines += [b"rows %d" % len(answer)] + [printed_record(row) for row in answer]
+
+    def names_of(self, parts):
+        self.lines.append(b" ".join([b"parts"] + [cluster.text(name) for name, _ in parts]))
 
     def explain(self, table, at, said):
         query, total_chosen, total = Query(table, said), 0, 0
@@ -754,7 +800,7 @@ class World:
 
     def show(self, table, at):
         self.check_up(at)
-        self.lines.append(b" ".join([b"parts"] + [cluster.text(name) for name, _ in table.read(at)]))
+        self.names_of(table.read(at))
 
     def check(self, table, at):
         self.check_up(at)
@@ -777,7 +823,7 @@ class World:
 
     def optimize(self, table, at, word):
         partitions = None if word is None else [partition_of(table, word)]
-        self.check_up(at)
+        self.check_fetches(table, at)
         table.drain(at)
         names = [name for name in cluster.live(table.log) if partitions is None or name.partition in partitions]
         if not names:
@@ -792,7 +838,7 @@ class World:
 
     def wait(self, table, at, id_):
         """Brings each part to the mutation, the first one first."""
-        self.check_up(at)
+        self.check_fetches(table, at)
         mutations = [place for place, entry in enumerate(table.log) if isinstance(entry, cluster.Mutation)]
         if id_ >= len(mutations):
             raise Refusal(17, "UnknownMutation", id_)
@@ -805,13 +851,23 @@ class World:
         self.lines.append(b"done %010d" % id_)
 
     def sync(self, table, at):
-        self.check_up(at)
+        self.check_fetches(table, at)
         table.drain(at)
         self.lines.append(b"ok")
 
     def restart(self, table, at):
         self.check_up(at)
         table.restart(at)
+        self.lines.append(b"ok")
+
+    def stop_fetches(self, table, at):
+        self.check_up(at)
+        table.stopped.add(at)
+        self.lines.append(b"ok")
+
+    def start_fetches(self, table, at):
+        self.check_up(at)
+        table.stopped.discard(at)
         self.lines.append(b"ok")
 
     # ---- what is sent to no replica
@@ -841,7 +897,13 @@ class World:
         self.lines.append(b"ran %d" % turns)
 
 
-def played(script):
+def is_played(statement, quorums):
+    """Whether a form is played at all; those of quorums may be left out."""
+    of_quorums = ("quorum_insert", "sequential_select", "stop_fetches", "start_fetches")
+    return statement[0] != "unbuilt" and (quorums or statement[0] != "at" or statement[2][0] not in of_quorums)
+
+
+def played(script, quorums=False):
     """What is written, and the code."""
     world, at, statements = World(), 0, FIRST_WHOLE
     while True:
@@ -860,7 +922,7 @@ def played(script):
                 at = len(script) if end < 0 else end + 1
                 raise Refusal(1, "Syntax", text.furthest)
             at, (statement, _) = max(ways, key=lambda way: way[0])
-            if statement[0] == "unbuilt":
+            if not is_played(statement, quorums):
                 raise Refusal(1, "Syntax", first.start)
             world.play(statement)
         except Refusal as refusal:
@@ -870,6 +932,6 @@ def played(script):
 
 
 if __name__ == "__main__":
-    output, code = played(sys.stdin.buffer.read())
+    output, code = played(sys.stdin.buffer.read(), "--quorums" in sys.argv[1:])
     sys.stdout.buffer.write(output)
     sys.exit(code)

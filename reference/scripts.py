@@ -1,7 +1,8 @@
 """Random scripts: mostly statements that are played, some that are refused, and some with a token too few, too many or
 out of place. Half of them are INSERTs for the most part, among them some that are sent again, SELECTs and EXPLAINs. The
 other half, the busy ones, change what was inserted, by commands, drops, merges and background work at all replicas.
-Sometimes a replica goes down, and mostly it comes up again a few statements later."""
+Sometimes a replica goes down, and mostly it comes up again a few statements later. Where it is asked for, half of the
+scripts have quorum inserts and sequential SELECTs, and replicas that stop fetches and mostly start them again."""
 import random
 
 COLUMNS = ["a", "b", "c", "d", "k", "day", "page"]
@@ -24,6 +25,10 @@ BUSY = {
     "insert": 26, "many": 1, "reload": 5, "update": 9, "delete": 3, "drop": 4, "optimize": 8, "wait": 8, "work": 12,
     "show": 8, "system": 5, "select": 14, "explain": 4, "create": 2, "other": 2, "check": 6, "kill": 3, "lost": 2,
 }  # fmt: skip
+# the same, where there are quorums
+QUORUMS = {**BUSY, "switch": 8, "unmet": 15, "met": 12, "lacking": 6, "lost": 4, "system": 8}
+NO_QUORUMS = ["4294967295", "4294967296", str(2**64), str(2**128 - 1)]
+NO_CONSISTENCIES = ["2", "4294967295", "4294967296", str(2**128 - 1)]
 NOISE = (
     "( ) , ; = < - @ * ! + WHERE SELECT FROM a t 1 'x' GROUP BY VALUES FORMAT CSV TABLE 'open 'bad\\q' -- and SYNC"
     " indexes SETTINGS count tuple END LANE"
@@ -36,7 +41,7 @@ class Raw(str):
 
 
 class Scripts:
-    def __init__(self, seed):
+    def __init__(self, seed, quorums=False):
         self.random = random.Random(seed)
         self.tables, self.replicas, self.down = {}, 2, set()
         self.keys, self.rules = {}, {}  # of each table the columns that no UPDATE sets, and its rule's divisor or None
@@ -44,6 +49,8 @@ class Scripts:
         self.is_busy, self.next = False, []  # and how the statements are made that come next in a busy script
         self.inserts, self.share = {}, 0.45  # the INSERTs of each table so far, and how many of the statements are one
         self.is_wild = False  # whether a statement may have values that are none of their column
+        self.may_have_quorums, self.has_quorums = quorums, False
+        self.stopped = {}  # of each table the replicas that have fetches stopped
 
     def chance(self, share):
         return self.random.random() < share
@@ -132,7 +139,7 @@ class Scripts:
         chosen += [self.one(both)] if chosen and self.chance(0.02) else []
         return [self.keyword("SETTINGS")] + self.commas(chosen) if chosen else []
 
-    def insert(self, table=None, share=0.45, number=None):
+    def insert(self, table=None, share=0.45, number=None, quorum=None):
         """An INSERT; such a share of them are earlier ones once more."""
         table = self.table() if table is None else table
         earlier = self.inserts.setdefault(table, [])
@@ -143,13 +150,25 @@ class Scripts:
         tokens = self.replica() if number is None else ["@", f"r{number}"]
         tokens += self.keywords("INSERT INTO") + ([self.keyword("TABLE")] if self.chance(0.15) else [])
         tokens += [table] + (["("] + self.commas([[name] for name in names]) + [")"] if names else [])
-        tokens += ["SETTINGS", "insert_quorum", "=", "2"] if self.chance(0.01) else []
+        tokens += self.quorum() if quorum is None else [self.keyword("SETTINGS"), "insert_quorum", "=", str(quorum)]
         if is_csv:
             return tokens + self.keywords("FORMAT CSV") + [self.data(rows)]
         tokens += [self.keyword("VALUES")]
         for place, row in enumerate(rows):
             tokens += ([","] if place and self.chance(0.8) else []) + ["("] + self.commas(row) + [")"]
         return tokens
+
+    def quorum(self):
+        """The setting of an INSERT, or nothing: mostly a quorum that can be met if the other replicas fetch."""
+        if not self.has_quorums:
+            return ["SETTINGS", "insert_quorum", "=", "2"] if self.chance(0.01) else []
+        if self.chance(0.5):
+            return []
+        number = str(self.random.randint(2, max(2, self.replicas - len(self.down))))
+        if self.chance(0.15):
+            number = self.one(["0", "1", "1", "02", str(self.replicas), str(self.replicas + 1), "9"])
+        number = self.one(NO_QUORUMS) if self.is_wild and self.chance(0.2) else number
+        return [self.keyword("SETTINGS"), "insert_quorum", "=", number]
 
     def offered(self, table):
         """Columns or none, whether the rows are CSV, and rows, each field a list of tokens."""
@@ -224,6 +243,8 @@ class Scripts:
 
     def select(self):
         tokens = self.replica() + self.plain_select()
+        if self.has_quorums and self.chance(0.5):
+            return tokens + self.consistency()
         if self.chance(0.5):
             return tokens + [self.keyword("SYNC")]
         return tokens + (["SETTINGS", "select_sequential_consistency", "=", "1"] if self.chance(0.02) else [])
@@ -242,8 +263,8 @@ class Scripts:
         self.commands[table] = self.commands.get(table, 0) + (0 if self.is_wild else 1)
         return self.alter(table) + tokens + [self.keyword("WHERE")] + self.filter(table, 2)
 
-    def update(self):
-        table = self.table()
+    def update(self, table=None):
+        table = self.table() if table is None else table
         free = [column for column in self.columns(table) if column[0] not in self.keys.get(table, [])]
         sets = self.random.sample(free, min(len(free), self.one([1, 1, 2, 3])))
         if not sets or self.is_wild and self.chance(0.3):
@@ -278,6 +299,7 @@ class Scripts:
         if table is None:
             table = self.table()
             self.next += [lambda: self.work(table)] if self.chance(0.4) else []
+            self.next += self.sequentials(table) if self.has_quorums and self.chance(0.6) else []
         return self.alter(table) + self.keywords("DROP PARTITION") + self.partition(table)
 
     def many(self):
@@ -336,6 +358,95 @@ class Scripts:
         words = self.one(["SYSTEM SYNC REPLICA", "SYSTEM RESTART REPLICA"])
         return self.replica() + self.keywords(words) + [self.table()]
 
+    # ---- quorums
+
+    def switch(self, table=None, number=None, stops=None):
+        """STOP FETCHES, or START FETCHES, mostly of a replica that has them stopped."""
+        table = self.table() if table is None else table
+        stopped = self.stopped.setdefault(table, set())
+        stops = self.chance(0.4 if stopped else 0.8) if stops is None else stops
+        if number is None:
+            number = self.number_of_replica() if stops or not stopped else self.one(sorted(stopped))
+        stopped.add(number) if stops else stopped.discard(number)
+        return ["@", f"r{number}"] + self.keywords(f"SYSTEM {'STOP' if stops else 'START'} FETCHES") + [table]
+
+    def unmet(self):
+        """A quorum that isn't met as other replicas have fetches stopped or are down; statements that find its part
+        pending; and mostly the switches and statements by which it is met, and a look at what was."""
+        table, number = self.table(), self.random.randint(1, self.replicas)
+        others = [other for other in range(1, self.replicas + 1) if other != number] or [number]
+        stopped = [other for other in others if self.chance(0.85)]
+        need = self.random.randint(2, max(2, self.replicas))
+        self.next += [lambda other=other: self.switch(table, other, True) for other in stopped]
+        self.next += [lambda: self.insert(table, 0.1, number, need)]
+        self.next += [lambda: self.meet_pending(table, number) for _ in range(self.random.randint(2, 8))]
+        for other in [other for other in stopped if self.chance(0.8)]:
+            self.next += [lambda other=other: self.switch(table, other, False)]
+            self.next += [lambda: self.work(table)] if self.chance(0.3) else []
+            self.next += [lambda other=other: self.want(table, other)] if self.chance(0.8) else []
+        self.next += [lambda: self.sequential(table, self.one(others)) for _ in range(self.random.randint(0, 3))]
+        return self.insert(table, 0.1, number, self.one([0, 1]))
+
+    def lacking(self):
+        """A pending part, and after it the block of a replica that goes down. Another one that has the part lacks the
+        block then, and is noted once it is brought up to date. Before that it meets other statements."""
+        if self.replicas < 3:
+            return self.unmet()
+        table, numbers = self.table(), range(1, self.replicas + 1)
+        number, other, lost = self.random.sample(numbers, 3)
+        self.next += [lambda each=each: self.switch(table, each, each != number) for each in numbers]
+        self.next += [lambda: self.insert(table, 0, number, 2), lambda: self.insert(table, 0, lost, 0)]
+        self.next += [lambda: self.kill(lost)]
+        self.next += [lambda: self.switch(table, other, False), lambda: self.want(table, other)]
+        for _ in range(self.random.randint(1, 3)):
+            self.next += [lambda: self.one([
+                lambda: self.insert(table, 0.1, other, 0), lambda: self.drop(table), lambda: self.work(table),
+                lambda: self.want(table, other), lambda: self.sequential(table, other), lambda: self.update(table),
+            ])()]  # fmt: skip
+        self.next += [lambda: self.insert(table, 0.9, other, 2), lambda: self.restart(lost)]
+        self.next += [lambda: self.work(table)] if self.chance(0.5) else []
+        self.next += [lambda: self.insert(table, 0.9, number, 2), lambda: self.want(table, other)]
+        return self.sequential(table, other)
+
+    def met(self):
+        """A quorum that some of the replicas meet, and sequential SELECTs at all of them, the last ones mostly without
+        the part."""
+        table, number = self.table(), self.random.randint(1, max(1, self.replicas - 1))
+        self.next += [lambda: self.want(table, self.replicas)] if self.chance(0.3) else []
+        self.next += self.sequentials(table)
+        self.next += [lambda: self.drop(table)] + self.sequentials(table) if self.chance(0.3) else []
+        return self.insert(table, 0.1, number, self.random.randint(2, max(2, self.replicas - 1)))
+
+    def sequentials(self, table):
+        """How sequential SELECTs are made at all replicas."""
+        return [lambda number=number: self.sequential(table, number) for number in range(1, self.replicas + 1)]
+
+    def meet_pending(self, table, number):
+        """A statement to which a pending part may matter; such a part was inserted at the replica of this number."""
+        other = self.number_of_replica()
+        return self.one([
+            lambda: self.insert(table, 0.3, None, self.random.randint(2, self.replicas + 1)),
+            lambda: self.insert(table, 0.3, None, 2), lambda: self.insert(table, 0.9, None, 2),
+            lambda: self.insert(table, 0.9, number), lambda: self.insert(table, 0.3, number),
+            lambda: self.sequential(table, number), lambda: self.sequential(table, other),
+            lambda: self.merge(table, number), lambda: self.merge(table, number), lambda: self.want(table, number),
+            lambda: self.want(table, other), lambda: self.work(table), lambda: self.update(table),
+            lambda: self.restart(other) if other in self.down else self.kill(other),
+            lambda: self.drop(table) if self.chance(0.3) else self.show(table, number),
+        ])()  # fmt: skip
+
+    def merge(self, table, number):
+        return ["@", f"r{number}"] + self.keywords("OPTIMIZE TABLE") + [table, self.keyword("FINAL")]
+
+    def sequential(self, table, number):
+        """A sequential SELECT of all that a replica may read."""
+        return ["@", f"r{number}", "SELECT", "*", "FROM", table] + self.consistency()
+
+    def consistency(self):
+        """The setting of a SELECT, which mostly asks for a sequential one."""
+        number = self.one(NO_CONSISTENCIES) if self.is_wild and self.chance(0.2) else self.one(["1"] * 6 + ["0"])
+        return [self.keyword("SETTINGS"), "select_sequential_consistency", "=", number]
+
     # ---- replicas that go down and come up again
 
     def kill(self, number=None):
@@ -343,6 +454,7 @@ class Scripts:
         number = self.number_of_replica() if number is None else number
         self.down |= {number} if number <= self.replicas else set()
         self.next += [self.work] if self.is_busy and self.chance(0.5) else []
+        self.next += [lambda: self.insert(quorum=self.replicas)] if self.has_quorums and self.chance(0.4) else []
         return [self.keyword("KILL"), self.one(["r0", "R1", "r01"]) if self.chance(0.03) else f"r{number}"]
 
     def restart(self, number=None):
@@ -383,6 +495,9 @@ class Scripts:
         for number in sorted(self.down) if self.chance(0.8) else []:
             yield self.restart(number)
         for number in range(1, self.replicas + 1):
+            if self.has_quorums:
+                yield self.sequential(table, number)
+                yield self.switch(table, number, self.chance(0.1))
             yield self.show(table, number)
             yield ["@", f"r{number}", "SELECT", "*", "FROM", table, "SYNC"]
             yield self.check(table, number)
@@ -408,7 +523,8 @@ class Scripts:
             return self.create()
         if self.down and self.chance(0.2):
             return self.restart()
-        return getattr(self, self.random.choices(list(BUSY), BUSY.values())[0])()
+        kinds = QUORUMS if self.has_quorums else BUSY
+        return getattr(self, self.random.choices(list(kinds), kinds.values())[0])()
 
     def statement(self):
         if self.is_busy:
@@ -420,6 +536,8 @@ class Scripts:
             return self.restart()
         if self.chance(self.share):
             return self.insert()
+        if self.has_quorums and self.chance(0.15):
+            return self.switch()
         turn = self.random.random()
         if turn < 0.63:
             return self.select()
@@ -461,8 +579,10 @@ class Scripts:
         if self.chance(0.01):
             return f"REPLICAS {self.random.randint(1, 9)}{self.one(SPACES)}".encode()
         self.is_busy = self.chance(0.5)
+        self.has_quorums = self.may_have_quorums and self.chance(0.5)
+        self.is_busy = self.is_busy or self.has_quorums and self.chance(0.6)
         if self.chance(0.8 if self.is_busy else 0.4):
-            self.replicas = self.random.randint(1, 4 if self.is_busy else 8)
+            self.replicas = self.random.randint(2 if self.has_quorums else 1, 4 if self.is_busy else 8)
             text += self.spelled([self.keyword("REPLICAS"), str(self.replicas), ";"])
         count = self.random.randint(3, 14)
         if self.chance(0.3):

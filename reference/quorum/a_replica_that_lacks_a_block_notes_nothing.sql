@@ -1,0 +1,15 @@
+-- A replica that can't be brought up to date has the pending part then, but isn't noted before it has all.
+REPLICAS 3;
+CREATE TABLE t (c UInt64) ENGINE = ReplicatedMergeTree ORDER BY c;
+@r2 SYSTEM STOP FETCHES t;
+@r3 SYSTEM STOP FETCHES t;
+INSERT INTO t SETTINGS insert_quorum = 2 VALUES (1);
+@r3 INSERT INTO t VALUES (2);
+KILL r3;
+@r2 SYSTEM START FETCHES t;
+@r2 SYSTEM SYNC REPLICA t;
+@r2 SHOW PARTS FROM t;
+INSERT INTO t SETTINGS insert_quorum = 2 VALUES (1);
+RESTART r3;
+@r2 SYSTEM SYNC REPLICA t;
+INSERT INTO t SETTINGS insert_quorum = 2 VALUES (1);

@@ -1,0 +1,19 @@
+-- An INSERT without a quorum and a drop do their own entry. They note no replica, also where it has the pending part.
+REPLICAS 3;
+CREATE TABLE p (k UInt64) ENGINE = ReplicatedMergeTree PARTITION BY k ORDER BY k;
+@r2 SYSTEM STOP FETCHES p;
+@r3 SYSTEM STOP FETCHES p;
+INSERT INTO p SETTINGS insert_quorum = 2 VALUES (1);
+@r3 INSERT INTO p VALUES (2);
+KILL r3;
+@r2 SYSTEM START FETCHES p;
+@r2 SYSTEM SYNC REPLICA p;
+@r2 INSERT INTO p VALUES (3);
+@r2 SHOW PARTS FROM p;
+@r2 ALTER TABLE p DROP PARTITION 3;
+@r2 SHOW PARTS FROM p;
+@r2 ALTER TABLE p DELETE WHERE k = 9;
+INSERT INTO p SETTINGS insert_quorum = 2 VALUES (1);
+@r2 ALTER TABLE p DROP PARTITION 2;
+@r2 SYSTEM SYNC REPLICA p;
+INSERT INTO p SETTINGS insert_quorum = 2 VALUES (1);
