@@ -1,12 +1,14 @@
 -- Background events that a generator draws, each from the state before it.
 -- The generator is the example of rand() in the C standard (ISO/IEC 9899, section on pseudo-random sequences), modulo 2^31
 -- and with draws below 2^15. Which event a draw gives, and which parts are merged, is this program's own.
-use Rattle.std.specs.Prelude.{◌≡◌, ℕ, zero, suc, ◌+◌, ◌*◌, ◌/◌, ◌%◌, ◌^◌, Bool, true, false, cond, nat_eq, nat_le, List, [], ◌∷◌, length, slice_get, slice_index_or}
+use Rattle.std.specs.Prelude.{◌≡◌, ℕ, zero, suc, ◌+◌, ◌*◌, ◌/◌, ◌%◌, ◌^◌, ◌&&◌, Bool, true, false, not, cond, nat_eq, nat_le, List, [], ◌∷◌, length, slice_get, slice_index_or}
+use Rattle.std.specs.List.{list_any}
 use Rattle.std.specs.declared.option.Option.{Option}
 use Rattle.std.specs.declared.option.Option.TheVariants.{Some, None}
-use Rattle.rmt_names.specs.Names.{Name}
+use Rattle.rmt_names.specs.Names.{Name, covers}
 use Rattle.rmt_entries.specs.declared.entry.Entry.{Entry}
 use Rattle.rmt_model.specs.Live.{live}
+use Rattle.rmt_model.specs.Quorum.{Pending}
 use Rattle.rmt_model.specs.Choices.{best_run, next_among}
 use Rattle.rmt_events.specs.Views.{Replica}
 use Rattle.rmt_events.specs.Clusters.{Cluster}
@@ -90,8 +92,41 @@ turn_with a x (Some r) = turn_at a x r
 abbrev pub turn : Cluster → ℕ → Turn
 turn s x = turn_with (drawn (stepped x) % 8) (stepped (stepped x)) (slice_get s.replicas (drawn (stepped (stepped x)) % length s.replicas))
 
+-- ---- the note after a turn
+
+-- whether an active part of the replica covers the part that waits for its quorum
+abbrev pub has_pending_part : Option Pending → Replica → Bool
+has_pending_part None x = false
+has_pending_part (Some q) x = list_any (λ part. covers part.name q.part) x.parts
+
+-- the same of the replica of a number
+abbrev pub pending_part_at : Option Pending → List Replica → ℕ → Bool
+pending_part_at pending [] k = false
+pending_part_at pending (x ∷ xs) k = cond (nat_eq x.number k) (has_pending_part pending x) (pending_part_at pending xs k)
+
+-- the replica of the number has it in the cluster
+abbrev pub covers_pending : Cluster → ℕ → Bool
+covers_pending s k = pending_part_at s.table.quorum.pending s.replicas k
+
+-- the replica that notes the part after an event: the one that an Apply has made cover it
+abbrev pub noting : Cluster → Event → Cluster → Option ℕ
+noting s (ev.Apply k i) t = cond (not (covers_pending s k) && covers_pending t k) (Some k) None
+noting s event t = None
+
+-- its note, where there is one
+abbrev pub NotesAfter : Option ℕ → Cluster → Cluster → Type 0
+NotesAfter None s t = t ≡ s
+NotesAfter (Some k) s t = (reply : Reply) × Step s (ev.Note k) reply t
+
+-- an event of a turn, and the note after it
+pub record TurnsTo (s : Cluster) (event : Event) (t : Cluster) : Type 0 where
+  pub mid : Cluster
+  pub reply : Reply
+  pub step : Step s event reply mid
+  pub notes : NotesAfter (noting s event mid) mid t
+
 -- so many turns from one state lead to another, each drawn from the state before it
 abbrev pub Runs : Cluster → ℕ → ℕ → Cluster → ℕ → Type 0
 Runs s seed zero t x = (t ≡ s) × (x ≡ seed)
 Runs s seed (suc n) t x =
-    (mid : Cluster) × (y : ℕ) × (reply : Reply) × Runs s seed n mid y × Step mid (turn mid y).event reply t × (x ≡ (turn mid y).state)
+    (mid : Cluster) × (y : ℕ) × Runs s seed n mid y × TurnsTo mid (turn mid y).event t × (x ≡ (turn mid y).state)

@@ -11,16 +11,19 @@ use Rattle.rmt_block.specs.Blocks.{BlockView}
 use Rattle.rmt_model.specs.Words.{Has, Each}
 use Rattle.rmt_model.specs.Live.{in_drop, placed}
 use Rattle.rmt_model.specs.Lawful.{Lawful, MakesAt, entry_at}
+use Rattle.rmt_model.specs.Fair.{CoveredBy}
 use Rattle.rmt_model.specs.EntryStates.{IsDroppedEntry}
 use Rattle.rmt_model.specs.CopiedParts.{Copied}
 use Rattle.rmt_part.specs.Lineages.{PartValue}
 use Rattle.rmt_part.specs.CopiedPart.{copied}
-use Rattle.rmt_partset.specs.ActiveParts.{Replace, Drop, after}
+use Rattle.rmt_partset.specs.ActiveParts.{Replace, Drop, after, part_names}
 use Rattle.rmt_replica.specs.Parts.{IsMadeIn}
 use Rattle.rmt_replica.specs.StagedBlocks.{Staged, with_staged, without, AreStaged}
 use Rattle.rmt_replica.specs.Replicas.{ReplicaView, IsStandingReplica}
+use Rattle.rmt_replica.specs.NotedParts.{ListsPart}
 use Rattle.rmt_replica.specs.Answers as own
 use Rattle.rmt_replica.proofs.PartLemmas.{installs, made-before}
+use Rattle.rmt_replica.proofs.NoteLemmas.{lists-note}
 use Rattle.rmt_events.specs.Views.{Replica}
 use Rattle.rmt_events.specs.Views as views
 use Rattle.rmt_events.specs.Clusters.{without_kinds}
@@ -107,4 +110,13 @@ part-seen r i a part new s w m k c = record {
   fits = record { waits = w; name = a; makes = m; covers = k };
   installs = subst (λ (y : ReplicaView). seen.Installs (map copied r.parts) (copied part) (map copied y.parts)) (sym c) (installs-seen part r.parts);
   change = ap shown c ∙ (ap (λ (y : Replica). record y { parts = map copied (after (Replace part) r.parts) }) (settled-seen r i s.waiting) ∙ ap (λ (y : ReplicaView). record (seen.with_entry_done (shown r) i) { parts = map copied y.parts }) (sym c));
+}
+
+-- ---- a note
+
+pub notes-seen : (r : ReplicaView) (a : Name) (new : ReplicaView) → CoveredBy (part_names r.parts) a → ListsPart r.noted a new.noted → new ≡ record r { noted = new.noted } → seen.NotesPart (shown r) a (shown new)
+notes-seen r a new c l o = record {
+  covered = subst (λ (names : List Name). CoveredBy names a) (sym (names-shown r.parts)) c;
+  lists = lists-note r.noted new.noted a l;
+  change = ap shown o;
 }

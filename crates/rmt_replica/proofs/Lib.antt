@@ -2,6 +2,7 @@ pub mod PartLemmas
 pub mod StagedLemmas
 pub mod StagedOrder
 pub mod MarkLemmas
+pub mod NoteLemmas
 pub mod ReplicaLemmas
 pub mod RestartLemmas
 pub mod PullLemmas

@@ -1,6 +1,8 @@
 -- Steps of a replica, and what is after each.
 use Rattle.std.proofs.Common.{◌≡◌, ℕ, suc, ◌+◌, ◌-◌, ◌≤◌, Bool, false, List, [], ◌∷◌, ◌++◌, length, take, refl, sym, ap, subst, arith, ◌∙◌}
+use Rattle.rmt_names.specs.Names.{Name}
 use Rattle.rmt_entries.specs.declared.entry.Entry.{Entry}
+use Rattle.rmt_model.specs.Words.{Each}
 use Rattle.rmt_model.specs.Lawful.{Lawful}
 use Rattle.rmt_model.proofs.Lists.{Each-at, Each-all}
 use Rattle.rmt_model.proofs.Drops.{entry-older}
@@ -9,10 +11,11 @@ use Rattle.rmt_history.specs.Copies.{History}
 use Rattle.rmt_queue.specs.Marks.{done_at, grown}
 use Rattle.rmt_part.specs.Lineages.{PartValue, StandsIn}
 use Rattle.rmt_partset.specs.ActiveParts.{part_names}
-use Rattle.rmt_replica.specs.Parts.{IsMadeIn}
+use Rattle.rmt_replica.specs.Parts.{IsMadeIn, IsKeptNote}
 use Rattle.rmt_replica.specs.StagedBlocks.{Staged, AreStaged}
 use Rattle.rmt_replica.specs.Replicas.{ReplicaView, IsStandingReplica, HasMarks, IsReplica, replica_of}
 use Rattle.rmt_replica.proofs.MarkLemmas.{past-false, false-behind, take-grown, length-grown, done-snoc}
+use Rattle.rmt_replica.proofs.NoteLemmas.{kept-more}
 
 -- the marks of a copy with one more entry
 pub marks-more : (log : List Entry) (e : Entry) (marks more : List Bool) (n : ℕ) → length log ≤ length marks → ((i : ℕ) → length log ≤ i → done_at marks i ≡ false) → n ≡ length log + 1 → more ≡ grown marks n → take (length (e ∷ log)) more ≡ take (length log) marks ++ false ∷ []
@@ -41,6 +44,7 @@ standing-more r e cell s l = record {
       (fair-more e r.log (done_at r.done) (part_names r.parts) (past-false r.done (length r.log) (let m = s.marks in omega (arith, m))) s.fair);
   made = Each-all (IsMadeIn r.schema (e ∷ r.log)) r.parts (λ p h. older p (Each-at (IsMadeIn r.schema r.log) r.parts p s.made h));
   waiting = s.waiting;
+  notes = kept-more e r.log (part_names r.parts) r.noted s.notes;
 }
   where
     older : (p : PartValue) → IsMadeIn r.schema r.log p → IsMadeIn r.schema (e ∷ r.log) p
@@ -62,23 +66,29 @@ standing-more r e cell s l = record {
 abbrev pub with_entry : ReplicaView → Entry → ℕ → ReplicaView
 with_entry r e cell = record r { log = e ∷ r.log; cells = r.cells ++ cell ∷ []; done = r.done ++ false ∷ [] }
 
-pub view-more : (number : ℕ) (up : Bool) (old new : History) (e : Entry) (cell : ℕ) (marks more : List Bool) (n : ℕ) (parts : List PartValue) (staged : Staged) → HasMarks old marks
+pub view-more : (number : ℕ) (up fetches : Bool) (old new : History) (e : Entry) (cell : ℕ) (marks more : List Bool) (n : ℕ) (parts : List PartValue) (staged : Staged) (noted : List Name) → HasMarks old marks
     → new ≡ record old { log = e ∷ old.log; cells = old.cells ++ cell ∷ [] } → n ≡ length old.log + 1 → more ≡ grown marks n
-    → replica_of number up new more parts staged ≡ with_entry (replica_of number up old marks parts staged) e cell
-view-more number up old new e cell marks more n parts staged h l p q =
-    ap (λ (c : History). replica_of number up c more parts staged) l
-    ∙ ap (λ (ms : List Bool). record { number = number; up = up; schema = old.schema; log = e ∷ old.log; cells = old.cells ++ cell ∷ []; done = ms; parts = parts; staged = staged }) (marks-more old.log e marks more n h.enough h.none_past p q)
+    → replica_of number up fetches new more parts staged noted ≡ with_entry (replica_of number up fetches old marks parts staged noted) e cell
+view-more number up fetches old new e cell marks more n parts staged noted h l p q =
+    ap (λ (c : History). replica_of number up fetches c more parts staged noted) l
+    ∙ ap (λ (ms : List Bool). record { number = number; up = up; fetches = fetches; schema = old.schema; log = e ∷ old.log; cells = old.cells ++ cell ∷ []; done = ms; parts = parts; staged = staged; noted = noted }) (marks-more old.log e marks more n h.enough h.none_past p q)
 
-pub replica-more : (number : ℕ) (up : Bool) (old new : History) (e : Entry) (cell : ℕ) (marks more : List Bool) (n : ℕ) (parts : List PartValue) (staged : Staged) → IsReplica old marks (replica_of number up old marks parts staged)
+pub replica-more : (number : ℕ) (up fetches : Bool) (old new : History) (e : Entry) (cell : ℕ) (marks more : List Bool) (n : ℕ) (parts : List PartValue) (staged : Staged) (noted : List Name) → IsReplica old marks (replica_of number up fetches old marks parts staged noted)
     → new ≡ record old { log = e ∷ old.log; cells = old.cells ++ cell ∷ [] } → n ≡ length old.log + 1 → more ≡ grown marks n → Lawful old.schema (e ∷ old.log)
-    → IsReplica new more (replica_of number up new more parts staged)
-replica-more number up old new e cell marks more n parts staged r l p q w = record {
+    → IsReplica new more (replica_of number up fetches new more parts staged noted)
+replica-more number up fetches old new e cell marks more n parts staged noted r l p q w = record {
   marked = has-marks-more old new e marks more n r.marked (ap (λ (c : History). c.log) l) p q;
-  standing = subst IsStandingReplica (sym (view-more number up old new e cell marks more n parts staged r.marked l p q)) (standing-more (replica_of number up old marks parts staged) e cell r.standing w);
+  standing = subst IsStandingReplica (sym (view-more number up fetches old new e cell marks more n parts staged noted r.marked l p q)) (standing-more (replica_of number up fetches old marks parts staged noted) e cell r.standing w);
 }
 
 -- other staged blocks in order leave a replica standing
-pub replica-staged : (number : ℕ) (up : Bool) (copy : History) (marks : List Bool) (parts : List PartValue) (old new : Staged) → IsReplica copy marks (replica_of number up copy marks parts old) → AreStaged new → IsReplica copy marks (replica_of number up copy marks parts new)
-replica-staged number up copy marks parts old new r w =
+pub replica-staged : (number : ℕ) (up fetches : Bool) (copy : History) (marks : List Bool) (parts : List PartValue) (old new : Staged) (noted : List Name) → IsReplica copy marks (replica_of number up fetches copy marks parts old noted) → AreStaged new → IsReplica copy marks (replica_of number up fetches copy marks parts new noted)
+replica-staged number up fetches copy marks parts old new noted r w =
     let s = r.standing in
-    record { marked = r.marked; standing = record { lawful = s.lawful; marks = s.marks; fair = s.fair; made = s.made; waiting = w } }
+    record { marked = r.marked; standing = record { lawful = s.lawful; marks = s.marks; fair = s.fair; made = s.made; waiting = w; notes = s.notes } }
+
+-- so does another list of parts that it may have noted
+pub replica-noted : (number : ℕ) (up fetches : Bool) (copy : History) (marks : List Bool) (parts : List PartValue) (staged : Staged) (old new : List Name) → IsReplica copy marks (replica_of number up fetches copy marks parts staged old) → Each (IsKeptNote copy.log (part_names parts)) new → IsReplica copy marks (replica_of number up fetches copy marks parts staged new)
+replica-noted number up fetches copy marks parts staged old new r k =
+    let s = r.standing in
+    record { marked = r.marked; standing = record { lawful = s.lawful; marks = s.marks; fair = s.fair; made = s.made; waiting = s.waiting; notes = k } }

@@ -14,7 +14,7 @@ use Rattle.rmt_part.specs.Lineages.{PartValue}
 use Rattle.rmt_part.specs.CopiedPart.{copied}
 use Rattle.rmt_part.proofs.CopiedLaws.{part-copied}
 use Rattle.rmt_partset.specs.ActiveParts.{part_names}
-use Rattle.rmt_replica.specs.Parts.{IsMadeIn}
+use Rattle.rmt_replica.specs.Parts.{IsMadeIn, IsKeptNote}
 use Rattle.rmt_replica.specs.Replicas.{ReplicaView, IsStandingReplica}
 use Rattle.rmt_replica.specs.Answers as own
 use Rattle.rmt_events.specs.ReplicaCalls as seen
@@ -43,7 +43,7 @@ standing-seen r s = record {
   marks = s.marks;
   fair = subst (λ (names : List Name). AreFair r.log (done_at r.done) names) (sym (names-shown r.parts)) s.fair;
   parts = Each-mapped (λ (part : Copied). MakesAt r.log part.place part.name × IsCopied r.schema r.log part) copied r.parts (Each-all (λ (part : PartValue). MakesAt r.log part.made.place part.name × IsCopied r.schema r.log (copied part)) r.parts (λ part h. made-seen r.schema r.log part s.lawful (Each-at (IsMadeIn r.schema r.log) r.parts part s.made h)));
-  notes = tt;
+  notes = subst (λ (names : List Name). Each (IsKeptNote r.log names) r.noted) (sym (names-shown r.parts)) s.notes;
 }
 
 -- ---- how an entry stands

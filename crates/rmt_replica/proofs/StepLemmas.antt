@@ -25,12 +25,13 @@ use Rattle.rmt_replica.specs.declared.entry_state.EntryState.{EntryState}
 use Rattle.rmt_replica.specs.declared.entry_state.EntryState.TheVariants as states
 use Rattle.rmt_part.specs.Lineages.{PartValue}
 use Rattle.rmt_partset.specs.ActiveParts.{Replace, Drop, after, part_names}
-use Rattle.rmt_replica.specs.Parts.{IsMadeIn}
+use Rattle.rmt_replica.specs.Parts.{IsMadeIn, IsKeptNote}
 use Rattle.rmt_replica.specs.Replicas.{ReplicaView, IsStandingReplica, HasMarks, IsReplica, replica_of}
 use Rattle.rmt_replica.specs.Answers.{IsAlready, IsEmptied, CanSettle, CanInstall, IsEntryState, IsEntryStateWithout, settled, released, InstallsSupplied, PartsAfter}
 use Rattle.rmt_replica.specs.StagedBlocks.{Staged}
 use Rattle.rmt_replica.proofs.StagedOrder.{staged-released}
 use Rattle.rmt_replica.proofs.PartLemmas.{Installs, TakesParts, installs, takes}
+use Rattle.rmt_replica.proofs.NoteLemmas.{kept-swept, kept-placed}
 use Rattle.rmt_replica.proofs.MarkLemmas.{done-set, done-take, length-set-is, take-set, set-past}
 
 -- ---- entries
@@ -138,23 +139,24 @@ standing-settled r i s c = record {
   fair = settled-fair r i s c;
   made = s.made;
   waiting = staged-released (entry_at r.log i) r.staged s.waiting;
+  notes = s.notes;
 }
 
 -- the replica with a mark more
-pub view-settled : (number : ℕ) (up : Bool) (copy : History) (marks : List Bool) (parts : List PartValue) (staged : Staged) (i : ℕ) → HasMarks copy marks → i < length copy.log
-    → replica_of number up copy (slice_set marks i true) parts (released (entry_at copy.log i) staged) ≡ settled (replica_of number up copy marks parts staged) i
-view-settled number up copy marks parts staged i h l =
-    ap (λ (ms : List Bool). record { number = number; up = up; schema = copy.schema; log = copy.log; cells = copy.cells; done = ms; parts = parts; staged = released (entry_at copy.log i) staged }) (take-set (length copy.log) i marks l h.enough)
+pub view-settled : (number : ℕ) (up fetches : Bool) (copy : History) (marks : List Bool) (parts : List PartValue) (staged : Staged) (noted : List Name) (i : ℕ) → HasMarks copy marks → i < length copy.log
+    → replica_of number up fetches copy (slice_set marks i true) parts (released (entry_at copy.log i) staged) noted ≡ settled (replica_of number up fetches copy marks parts staged noted) i
+view-settled number up fetches copy marks parts staged noted i h l =
+    ap (λ (ms : List Bool). record { number = number; up = up; fetches = fetches; schema = copy.schema; log = copy.log; cells = copy.cells; done = ms; parts = parts; staged = released (entry_at copy.log i) staged; noted = noted }) (take-set (length copy.log) i marks l h.enough)
 
-pub replica-settled : (number : ℕ) (up : Bool) (copy : History) (marks : List Bool) (parts : List PartValue) (staged : Staged) (i : ℕ) → IsReplica copy marks (replica_of number up copy marks parts staged) → i < length copy.log
-    → CanSettle (replica_of number up copy marks parts staged) i
-    → IsReplica copy (slice_set marks i true) (replica_of number up copy (slice_set marks i true) parts (released (entry_at copy.log i) staged))
-replica-settled number up copy marks parts staged i r l c = record {
+pub replica-settled : (number : ℕ) (up fetches : Bool) (copy : History) (marks : List Bool) (parts : List PartValue) (staged : Staged) (noted : List Name) (i : ℕ) → IsReplica copy marks (replica_of number up fetches copy marks parts staged noted) → i < length copy.log
+    → CanSettle (replica_of number up fetches copy marks parts staged noted) i
+    → IsReplica copy (slice_set marks i true) (replica_of number up fetches copy (slice_set marks i true) parts (released (entry_at copy.log i) staged) noted)
+replica-settled number up fetches copy marks parts staged noted i r l c = record {
   marked = record {
     enough = let e = length-set-is marks i in let k = r.marked.enough in omega (arith, e, k);
     none_past = λ j m. set-past marks i j (omega (arith, l, m)) (r.marked.none_past j m);
   };
-  standing = subst IsStandingReplica (sym (view-settled number up copy marks parts staged i r.marked l)) (standing-settled (replica_of number up copy marks parts staged) i r.standing c);
+  standing = subst IsStandingReplica (sym (view-settled number up fetches copy marks parts staged noted i r.marked l)) (standing-settled (replica_of number up fetches copy marks parts staged noted) i r.standing c);
 }
 
 -- ---- parts
@@ -175,6 +177,7 @@ standing-taken r i p n parts s q t = record {
   fair = subst (AreFair r.log (done_at r.done)) (sym t.names) (fair-unset r.log r.done i (filter (λ a. not (in_drop p n a)) (part_names r.parts)) (fair-dropped r.schema r.log i (done_at r.done) (part_names r.parts) p n s.lawful q s.fair));
   made = Each-all (IsMadeIn r.schema r.log) parts (λ x h. Each-at (IsMadeIn r.schema r.log) r.parts x s.made (t.others x h));
   waiting = s.waiting;
+  notes = subst (λ (names : List Name). Each (IsKeptNote r.log names) r.noted) (sym t.names) (kept-swept r.schema r.log i p n (part_names r.parts) r.noted s.lawful q s.notes);
 }
 
 emptied : (r : ReplicaView) (i : ℕ) (p : Option ℕ) (n : ℕ) (parts : List PartValue) → entry_at r.log i ≡ Some (DropRange p n) → TakesParts r.parts p n parts → IsEmptied (record r { parts = parts }) i
@@ -213,6 +216,7 @@ standing-installed r i a part parts s c t = record {
     | inr k ↦ Each-at (IsMadeIn r.schema r.log) r.parts x s.made k
   ]);
   waiting = s.waiting;
+  notes = subst (λ (names : List Name). Each (IsKeptNote r.log names) r.noted) (sym t.names) (kept-placed r.log part.name (part_names r.parts) r.noted s.notes);
 }
   where
     not-dropped : DroppedAtMark r.log (done_at r.done) part.name → ⊥

@@ -1,7 +1,7 @@
 -- What a replica answers when an entry is to be done, why, and what changes.
 -- ClickHouse documentation, Data Replication: a part that exists already or was dropped is not made again; a missing part is
 -- fetched from another replica.
-use Rattle.std.specs.Prelude.{◌≡◌, ◌⊎◌, ℕ, ◌<◌, true, false, List, not, filter, length, slice_set, MatchOption, IfSome}
+use Rattle.std.specs.Prelude.{◌≡◌, ◌⊎◌, ◌&&◌, ℕ, ◌<◌, Bool, true, false, List, not, filter, length, slice_set, MatchOption, IfSome}
 use Rattle.std.specs.declared.option.Option.{Option}
 use Rattle.std.specs.declared.option.Option.TheVariants.{Some, None}
 use Rattle.std.specs.declared.result.Result.{Result}
@@ -16,7 +16,7 @@ use Rattle.rmt_model.specs.EntryStates.{IsDroppedEntry}
 use Rattle.rmt_model.specs.EntryStates as entries
 use Rattle.rmt_queue.specs.Marks.{done_at}
 use Rattle.rmt_replica.specs.declared.supply.Supply.{Supply}
-use Rattle.rmt_replica.specs.Supplies.{supplied}
+use Rattle.rmt_replica.specs.Supplies.{supplied, is_fetched}
 use Rattle.rmt_events.specs.declared.applied.Applied.{Applied}
 use Rattle.rmt_events.specs.declared.applied.Applied.TheVariants as applied
 use Rattle.rmt_replica.specs.declared.apply_error.ApplyError.{ApplyError}
@@ -50,6 +50,10 @@ pub record IsOfTable (r : ReplicaView) (part : PartValue) : Type 0 where
   pub of_schema : part.schema ≡ r.schema
   pub agrees : parts.IsOfTable r.log part
 
+-- whether a fetched part is supplied while fetches are stopped
+abbrev pub is_stopped : ReplicaView → Supply → Bool
+is_stopped r supply = is_fetched supply && not r.fetches
+
 -- the part that is supplied covers the name and was made within the copy
 pub record Serves (r : ReplicaView) (a : Name) (supply : Supply) : Type 0 where
   pub part : PartValue
@@ -69,8 +73,9 @@ IsAnswer r i supply (Err errors.Down) = r.up ≡ false
 IsAnswer r i supply (Err errors.Memory) = r.up ≡ true
 IsAnswer r i supply (Ok applied.Already) = (r.up ≡ true) × IsAlready r i
 IsAnswer r i supply (Ok applied.Dropped) = (r.up ≡ true) × (IsAlready r i → ⊥) × IsDroppedEntry r.log i
-IsAnswer r i supply (Ok applied.Installed) = (r.up ≡ true) × Waits r i × CanBeDone r i supply
-IsAnswer r i supply (Err (errors.NeedsPart a)) = (r.up ≡ true) × Waits r i × MakesAt r.log i a × (Serves r a supply → ⊥)
+IsAnswer r i supply (Ok applied.Installed) = (r.up ≡ true) × Waits r i × (is_stopped r supply ≡ false) × CanBeDone r i supply
+IsAnswer r i supply (Err errors.FetchesStopped) = (r.up ≡ true) × Waits r i × (is_stopped r supply ≡ true)
+IsAnswer r i supply (Err (errors.NeedsPart a)) = (r.up ≡ true) × Waits r i × (is_stopped r supply ≡ false) × MakesAt r.log i a × (Serves r a supply → ⊥)
 
 -- what is staged once the entry is done: without the block of its Get
 abbrev pub released : Option Entry → Staged → Staged

@@ -12,6 +12,7 @@ pub use Rattle.rmt_partset.specs.ActiveParts
 pub mod Parts
 pub mod StagedBlocks
 pub mod Replicas
+pub mod NotedParts
 pub mod Supplies
 pub mod Answers
 pub mod SeenReplica

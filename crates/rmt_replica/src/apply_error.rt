@@ -9,6 +9,9 @@ use std::alloc::AllocError;
 pub enum ApplyError {
     /// The replica is down.
     Down,
+    /// A part was supplied that another replica has, and the replica may not fetch. Allow it with `set_fetches`, or supply a
+    /// part that was built.
+    FetchesStopped,
     /// The entry makes this part, and no part was supplied that covers it and was made within the copy.
     NeedsPart(PartName),
     /// Out of memory.

@@ -9,6 +9,7 @@ ghost use Rattle.rmt_entries.specs.declared.entry.Entry.TheVariants.{DropRange};
 ghost use Rattle.rmt_block.specs.Blocks.{BlockView, Clear};
 ghost use Rattle.rmt_model.specs.Live.{live};
 ghost use Rattle.rmt_model.specs.Lawful.{MakesAt, entry_at};
+ghost use Rattle.rmt_model.specs.Fair.{CoveredBy};
 ghost use Rattle.rmt_model.specs.EntryStates.{IsDroppedEntry};
 ghost use Rattle.rmt_model.specs.CopiedParts.{names_of};
 ghost use Rattle.rmt_queue.specs.Marks.{grown};
@@ -19,6 +20,7 @@ ghost use Rattle.rmt_partset.specs.ActiveParts as active;
 ghost use Rattle.rmt_replica.specs.Parts.{part_ids, part_blocks};
 ghost use Rattle.rmt_replica.specs.StagedBlocks.{staged_at, with_staged, without};
 ghost use Rattle.rmt_replica.specs.Replicas.{ReplicaView, IsStandingReplica, IsDrained};
+ghost use Rattle.rmt_replica.specs.NotedParts.{ListsPart};
 ghost use Rattle.rmt_replica.specs.Answers as own;
 ghost use Rattle.rmt_replica.specs.SeenReplica.{shown};
 ghost use Rattle.rmt_events.specs.Clusters.{without_kinds};
@@ -46,15 +48,17 @@ pub fn drained_replicas_agree()
 
 /// A replica's calls are the calls of the replica that a cluster sees.
 pub fn each_call_is_seen_by_events()
-    ensures new { (number : ℕ) (up : Bool) (schema : Shape) → shown (record { number = number; up = up; schema = schema; log = []; cells = []; done = []; parts = []; staged = [] }) ≡ new_replica number up }
+    ensures new { (number : ℕ) (up : Bool) (schema : Shape) → shown (record { number = number; up = up; fetches = true; schema = schema; log = []; cells = []; done = []; parts = []; staged = []; noted = [] }) ≡ new_replica number up }
     ensures pull { (r : ReplicaView) (log : List Entry) (cells : List ℕ) → seen.Pulls (shown r) log (shown (record r { log = log; cells = cells; done = grown r.done (length log) })) }
     ensures kill { (r : ReplicaView) → seen.GoesDown (shown r) (shown (record r { up = false })) }
     ensures restart { (r : ReplicaView) → seen.ComesUp (shown r) (shown (record r { up = true; done = replicate (length r.log) false })) }
+    ensures switch { (r : ReplicaView) (allowed : Bool) → shown (record r { fetches = allowed }) ≡ record (shown r) { fetches = allowed } }
     ensures stage { (r : ReplicaView) (n : ℕ) (b : BlockView) → IsStandingReplica r → seen.Stages (shown r) n (without_kinds b) (shown (record r { staged = with_staged r.staged (record { partition = b.partition; number = n }) b })) }
     ensures unstage { (r : ReplicaView) (p : Option ℕ) (n : ℕ) → IsStandingReplica r → seen.Unstages (shown r) p n (shown (record r { staged = without r.staged (record { partition = p; number = n }) })) }
     ensures settle { (r : ReplicaView) (i : ℕ) → IsStandingReplica r → own.IsAlready r i ⊎ IsDroppedEntry r.log i → seen.Settles (shown r) i (shown (own.settled r i)) }
     ensures drop { (r : ReplicaView) (i : ℕ) (p : Option ℕ) (n : ℕ) (new : ReplicaView) → IsStandingReplica r → entry_at r.log i ≡ Some (DropRange p n) → new ≡ record (own.settled r i) { parts = after (Drop p n i) r.parts } → seen.DoesDrop (shown r) i (shown new) }
     ensures part { (r : ReplicaView) (i : ℕ) (a : Name) (part : PartValue) (new : ReplicaView) → IsStandingReplica r → own.Waits r i → MakesAt r.log i a → Covers part.name a → new ≡ record (own.settled r i) { parts = after (Replace part) r.parts } → seen.DoesPart (shown r) i (copied part) (shown new) }
+    ensures note { (r : ReplicaView) (a : Name) (new : ReplicaView) → CoveredBy (part_names r.parts) a → ListsPart r.noted a new.noted → new ≡ record r { noted = new.noted } → seen.NotesPart (shown r) a (shown new) }
 {}
 
 /// What a cluster sees of a replica: it stands, and its entries stand as they do.

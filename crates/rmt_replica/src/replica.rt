@@ -13,12 +13,13 @@ ghost use Rattle.rmt_partset.specs.ActiveParts.{Replace, Drop, after, part_names
 ghost use Rattle.rmt_events.specs.ApplyEvents.{IsFirstInactive};
 ghost use Rattle.rmt_replica.specs.StagedBlocks.{staged_at, with_staged, without};
 ghost use Rattle.rmt_replica.specs.Replicas.{IsStandingReplica, IsDrained};
-ghost use Rattle.rmt_replica.specs.Answers.{IsEntryState, IsEntryStateWithout, CanSettle, CanInstall, Waits, IsOfTable, IsAnswer, IsChange, IsReady, Lacks, IsWhy, settled, released};
+ghost use Rattle.rmt_replica.specs.Answers.{IsEntryState, IsEntryStateWithout, CanSettle, CanInstall, Waits, IsOfTable, is_stopped, IsAnswer, IsChange, IsReady, Lacks, IsWhy, settled, released};
 ghost use Rattle.rmt_replica.specs.Supplies.{supplied};
 ghost use Rattle.rmt_entries.specs.Entries.{result_name};
 ghost use Rattle.rmt_entries.specs.declared.entry.Entry.TheVariants.{DropRange};
 ghost use Rattle.std.specs.declared.option.Option.TheVariants.{Some, None};
 
+mod note;
 mod pull;
 
 use crate::apply_error::ApplyError;
@@ -48,10 +49,14 @@ use std::sync::Arc;
 pub struct Replica {
     number: ReplicaId,
     up: bool,
+    /// Whether it may do an entry with a part that another replica has.
+    fetches: bool,
     copy: LogCopy,
     queue: Queue,
     parts: PartSet,
     staged: Staging,
+    /// The parts that it has noted for their quorum, the first one first.
+    noted: Vec<PartName>,
 }
 
 impl Model for Replica {
@@ -63,23 +68,25 @@ impl Model for Replica {
 
     ghost coded = { Prim.hlevel (codes, filter.the_row.coded) };
 
-    ghost view = { λ r. replica_of r.number r.up r.copy r.queue r.parts.parts r.staged };
+    ghost view = { λ r. replica_of r.number r.up r.fetches r.copy r.queue r.parts.parts r.staged r.noted.items };
 
-    ghost invariant = { λ r. IsReplica r.copy r.queue (replica_of r.number r.up r.copy r.queue r.parts.parts r.staged) };
+    ghost invariant = { λ r. IsReplica r.copy r.queue (replica_of r.number r.up r.fetches r.copy r.queue r.parts.parts r.staged r.noted.items) };
 }
 
 impl Replica {
-    /// A replica that has nothing.
+    /// A replica that has nothing, and may fetch.
     pub fn new(alloc: Global, number: ReplicaId, schema: Arc<Schema, Global>, up: bool) -> Replica
-        ensures { result ≡ record { number = number; up = up; schema = arc_value schema; log = []; cells = []; done = []; parts = []; staged = [] } }
+        ensures { result ≡ record { number = number; up = up; fetches = true; schema = arc_value schema; log = []; cells = []; done = []; parts = []; staged = []; noted = [] } }
     {
         Replica {
             number,
             up,
+            fetches: true,
             copy: LogCopy::new(alloc, schema),
             queue: Queue::new(alloc),
             parts: PartSet::new(alloc),
             staged: Staging::new(alloc),
+            noted: Vec::new(alloc),
         }
     }
 
@@ -95,6 +102,27 @@ impl Replica {
         ensures { result ≡ self.now.up }
     {
         self.up
+    }
+
+    /// Whether it may do entries with parts that other replicas have.
+    pub fn fetches(&self) -> bool
+        ensures { result ≡ self.now.fetches }
+    {
+        self.fetches
+    }
+
+    /// Allows or stops fetches. It takes no memory.
+    pub fn set_fetches(&mut self, allowed: bool)
+        ensures { self.new ≡ record self.old { fetches = allowed } }
+    {
+        self.fetches = allowed;
+    }
+
+    /// The parts that it has noted for their quorum, the first one first.
+    pub fn noted(&self) -> &[PartName]
+        ensures { result.now ≡ self.now.noted }
+    {
+        &self.noted
     }
 
     /// Its copy of the log.
@@ -198,7 +226,7 @@ impl Replica {
         self.staged.get(BlockNumber { partition, number })
     }
 
-    /// Takes it down, with all that it has.
+    /// Takes it down. It keeps all that it has.
     pub fn kill(&mut self)
         ensures { self.new ≡ record self.old { up = false } }
     {
@@ -348,6 +376,13 @@ impl Replica {
         Ok(())
     }
 
+    /// Whether a fetched part is supplied while fetches are stopped.
+    fn is_stopped(&self, supply: &Supply) -> bool
+        ensures { result ≡ is_stopped self.now supply.now }
+    {
+        supply.is_fetched() && !self.fetches
+    }
+
     /// Does an entry that makes a part, with the part that is supplied.
     fn install(&mut self, i: usize, name: PartName, supply: Supply) -> Result<Applied, ApplyError>
         requires place { i < length self.old.log }
@@ -358,6 +393,9 @@ impl Replica {
         ensures answer { IsAnswer self.old i supply result }
         ensures change { IsChange self.old i supply result self.new }
     {
+        if self.is_stopped(&supply) {
+            return Err(ApplyError::FetchesStopped);
+        }
         let Some(part) = supply.part() else {
             return Err(ApplyError::NeedsPart(name));
         };
@@ -377,7 +415,8 @@ impl Replica {
     ///
     /// # Errors
     ///
-    /// Down where it isn't up; the part that is needed; or out of memory. The replica stays as it was.
+    /// Down where it isn't up; FetchesStopped where the entry is still to be done, a fetched part is supplied and fetches are
+    /// stopped; the part that is needed; or out of memory. The replica stays as it was.
     pub fn apply(&mut self, i: usize, supply: Supply) -> Result<Applied, ApplyError>
         requires place { i < length self.old.log }
         requires of_table { IfSome (supplied supply) (IsOfTable self.old) }
@@ -397,6 +436,9 @@ impl Replica {
                 Ok(Applied::Dropped)
             }
             EntryState::Drops { partition, number } => {
+                if self.is_stopped(&supply) {
+                    return Err(ApplyError::FetchesStopped);
+                }
                 self.take_away(i, partition, number);
                 self.settle(i);
                 Ok(Applied::Installed)

@@ -1,7 +1,7 @@
 ghost use Rattle.std.specs.Prelude.{◌≡◌};
 ghost use Rattle.std.specs.Option.{option_map};
 ghost use Rattle.std.specs.Arc.{arc_value};
-ghost use Rattle.rmt_replica.specs.Supplies.{supplied};
+ghost use Rattle.rmt_replica.specs.Supplies.{supplied, is_fetched};
 
 use rmt_part::Part;
 use std::alloc::Global;
@@ -19,6 +19,16 @@ pub enum Supply {
 }
 
 impl Supply {
+    /// Whether the part is one that another replica has.
+    pub(crate) fn is_fetched(&self) -> bool
+        ensures { result ≡ is_fetched self.now }
+    {
+        match self {
+            Supply::Nothing | Supply::Built(_) => false,
+            Supply::Fetched(_) => true,
+        }
+    }
+
     /// The part that is supplied.
     pub(crate) fn part(self) -> Option<Arc<Part, Global>>
         ensures { option_map arc_value result ≡ supplied self }

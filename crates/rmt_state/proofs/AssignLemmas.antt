@@ -1,5 +1,5 @@
 -- Merges and mutations of parts that a worker assigns, as a cluster sees them.
-use Rattle.std.proofs.Common.{◌≡◌, ℕ, ◌+◌, ◌<◌, inl, inr, true, false, List, length, refl, sym, ap, subst}
+use Rattle.std.proofs.Common.{◌≡◌, ℕ, ◌+◌, inl, inr, true, false, List, length, refl, sym, ap, subst}
 use Rattle.std.specs.Prelude.{slice_get, IfOk, IfErr, IfSome, IsErr, OnOk, OnErr, MatchOption}
 use Rattle.std.specs.declared.alloc.AllocError.{AllocError}
 use Rattle.std.specs.declared.option.Option.{Option}

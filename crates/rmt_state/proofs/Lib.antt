@@ -1,6 +1,8 @@
 pub mod StateLemmas
 pub mod SessionLemmas
 pub mod PullLemmas
+pub mod NoteLemmas
+pub mod PendingLemmas
 pub mod StageLemmas
 pub mod ChangeLemmas
 pub mod AssignLemmas

@@ -3,4 +3,5 @@ pub use Rattle.rmt_events.specs.Steps
 pub mod States
 pub mod NewStates
 pub mod Pulls
+pub mod Notes
 pub mod Causes

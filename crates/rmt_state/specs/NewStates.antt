@@ -25,7 +25,18 @@ numbers_up k (false ∷ up) = numbers_up (k + 1) up
 
 -- a replica that has nothing
 abbrev pub empty_replica : Shape → ℕ → Bool → ReplicaView
-empty_replica schema number up = record { number = number; up = up; schema = schema; log = []; cells = []; done = []; parts = []; staged = [] }
+empty_replica schema number up = record {
+  number = number;
+  up = up;
+  fetches = true;
+  schema = schema;
+  log = [];
+  cells = [];
+  done = [];
+  parts = [];
+  staged = [];
+  noted = [];
+}
 
 -- replicas that have nothing, up or down, where k is the number of the first
 abbrev pub empty_replicas : Shape → ℕ → List Bool → List ReplicaView

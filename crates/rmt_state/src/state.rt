@@ -8,6 +8,7 @@ mod changes;
 mod entries;
 mod inserts;
 mod new;
+mod notes;
 mod pull;
 mod sessions;
 mod staging;

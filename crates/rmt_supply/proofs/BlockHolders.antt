@@ -1,6 +1,6 @@
 -- Who holds the block of a Get.
-use Rattle.std.proofs.Common.{◌≡◌, ℕ, zero, suc, ◌+◌, ◌<◌, ◌≤◌, ◌^◌, ◌⊎◌, inl, inr, true, List, [], ◌∷◌, length, map, refl, sym, ap, subst, ◌∙◌, arith, rules, below_more, Bor}
-use Rattle.std.specs.Prelude.{slice_get, IfSome, IsSome, MatchOption}
+use Rattle.std.proofs.Common.{◌≡◌, ℕ, zero, suc, ◌+◌, ◌<◌, ◌≤◌, ◌^◌, ◌⊎◌, inl, inr, true, false, List, [], ◌∷◌, length, map, refl, sym, ap, subst, ◌∙◌, arith, rules, below_more, Bor}
+use Rattle.std.specs.Prelude.{slice_get, is_some, IfSome, IsSome, MatchOption}
 use Rattle.std.specs.Option.{option_map}
 use Rattle.std.specs.declared.option.Option.{Option}
 use Rattle.std.specs.declared.option.Option.TheVariants.{Some, None}
@@ -10,6 +10,7 @@ use Rattle.rmt_entries.specs.Entries.{result_name}
 use Rattle.rmt_entries.specs.declared.entry.Entry.{Entry}
 use Rattle.rmt_entries.specs.declared.entry.Entry.TheVariants.{Get}
 use Rattle.rmt_row.specs.Token.{Token}
+use Rattle.rmt_block.specs.Blocks.{BlockView}
 use Rattle.rmt_model.specs.Words.{Has, Pairwise}
 use Rattle.rmt_model.specs.Live.{Before}
 use Rattle.rmt_model.specs.Lawful.{entry_at, IsPrefix}
@@ -27,14 +28,14 @@ use Rattle.rmt_replica.specs.Parts.{IsMadeIn}
 use Rattle.rmt_replica.specs.StagedBlocks.{staged_at}
 use Rattle.rmt_replica.specs.Replicas.{ReplicaView, IsStandingReplica}
 use Rattle.rmt_replica.specs.SeenReplica.{shown}
-use Rattle.rmt_replica.proofs.StagedViews.{missing}
+use Rattle.rmt_replica.proofs.StagedViews.{found, missing}
 use Rattle.rmt_events.specs.Views.{Replica}
-use Rattle.rmt_events.specs.Clusters.{Cluster}
+use Rattle.rmt_events.specs.Clusters.{Cluster, without_kinds}
 use Rattle.rmt_events.specs.ClusterChanges.{IsOther}
-use Rattle.rmt_events.specs.ApplyEvents.{IsHolder, LacksBlock, MayFetch}
+use Rattle.rmt_events.specs.ApplyEvents.{IsHolder, LacksBlock, LacksPart, NeedsFetch, MayFetch}
 use Rattle.rmt_events.proofs.Copies.{entry-behind}
 use Rattle.rmt_compact.proofs.SentLemmas.{length-in_key_order}
-use Rattle.rmt_supply.specs.PartSources.{staged_for, IsAccepted, AreOfOneTable, HasSmallParts, IsClusterOf, Does, IsFetchedPart, WaitsForBlock, IsGetFor, HoldsPart, HoldsNothing, IsOfStaged, IsHeld, IsNowhere}
+use Rattle.rmt_supply.specs.PartSources.{staged_for, IsAccepted, AreOfOneTable, HasSmallParts, IsClusterOf, Does, IsFetchedPart, WaitsForBlock, IsGetFor, HoldsPart, HoldsNothing, HoldsSome, IsOfStaged, IsHeld, IsNowhere, IsMissing, IsStopped}
 use Rattle.rmt_supply.proofs.StagedParts.{of-table, staged-seen, block-does}
 
 -- ---- active parts that cover one name
@@ -88,12 +89,15 @@ staged-small schema holder token part h =
     let few = h.few_rows in
     omega (arith, made, ordered, few)
 
--- it has nothing where no part comes back
-pub holds-nothing : {P : Type 0} (o : Option P) (value : P → PartValue) (schema : Shape) (holder : ReplicaView) (token : Token Entry) (a : Name) (len : ℕ) → o ≡ None → IsHeld schema holder token a len (option_map value o) → HoldsNothing holder token a len
-holds-nothing {P} o value schema holder token a len e h = subst (λ (v : Option P). IsHeld schema holder token a len (option_map value v)) e h
-
+-- what it has, where a part comes back
 pub holds-part : {P : Type 0} (o : Option P) (p : P) (value : P → PartValue) (schema : Shape) (holder : ReplicaView) (token : Token Entry) (a : Name) (len : ℕ) → o ≡ Some p → IsHeld schema holder token a len (option_map value o) → HoldsPart holder a len (value p) ⊎ IsOfStaged schema holder token (value p)
 holds-part {P} o p value schema holder token a len e h = subst (λ (v : Option P). IsHeld schema holder token a len (option_map value v)) e h
+
+-- a part comes back where it has something
+pub held-some : {P : Type 0} (o : Option P) (value : P → PartValue) (schema : Shape) (holder : ReplicaView) (token : Token Entry) (a : Name) (len : ℕ) → IsHeld schema holder token a len (option_map value o) → HoldsSome holder token a len → IsSome o
+held-some {P} (Some p) value schema holder token a len h k = refl
+held-some {P} None value schema holder token a len h (inl k) = absurd (h.no_part k.0 k.1)
+held-some {P} None value schema holder token a len h (inr k) = let e = ap is_some h.no_block in absurd (cc)
 
 -- ---- replicas by their places
 
@@ -223,6 +227,23 @@ no-holder y token a len p n source need digest s h g (inl k) =
     })
 no-holder y token a len p n source need digest s h g (inr k) = lacks-block y p n s (subst (λ (e : Entry). staged_for y e ≡ None) g.0 h.no_block) k.0 k.1
 
+-- what is there
+some-block : (o : Option BlockView) → IsSome o → (b : BlockView) × (o ≡ Some b)
+some-block (Some b) h = (b, refl)
+some-block None h = absurd (cc)
+
+pub no-block : (o : Option BlockView) → is_some o ≡ false → o ≡ None
+no-block (Some b) e = absurd (cc)
+no-block None e = refl
+
+-- one that has something for it is a holder
+some-holder : (y : ReplicaView) (token : Token Entry) (a : Name) (len : ℕ) (p : Option ℕ) (n source need : ℕ) (digest : List ℕ) → IsStandingReplica y → HoldsSome y token a len → (token.value ≡ Get p n digest source need) × (a ≡ block_name p n) → IsHolder len p n (shown y)
+some-holder y token a len p n source need digest s (inl h) g = inl (copied h.0, copied-in y.parts h.0 h.1.is_in, subst (Covers h.0.name) g.1 h.1.covers, h.1.within)
+some-holder y token a len p n source need digest s (inr h) g =
+    let b = some-block (staged_for y token.value) h in
+    let f = found (record { partition = p; number = n }) y.staged b.0 s.waiting.own (subst (λ (e : Entry). staged_for y e ≡ Some b.0) g.0 b.1) in
+    inr (without_kinds b.0, record { is_in = f.0; partition = f.1 })
+
 -- another live replica that a cluster sees holds nothing, where its place is below
 not-below : (replicas : List ReplicaView) (at j i : ℕ) (x : ReplicaView) (token : Token Entry) (a : Name) (p : Option ℕ) (n source need : ℕ) (digest : List ℕ) (s : Cluster) (z : Replica) → IsWorker replicas at i x token a → entry_at x.log i ≡ Some (Get p n digest source need) → HoldNothingBelow replicas at j token a (length x.log)
     → IsOther s x.number z → (k : IsSeenAt replicas z) → k.place < j → IsHolder (length x.log) p n z → ⊥
@@ -251,14 +272,33 @@ nowhere replicas at j i x token a len w l all none z e = subst (λ (v : ReplicaV
     let m = within replicas k.place k.replica k.stands in
     not-below replicas at j i x token a p n source need digest s y w q (subst (HoldNothingBelow replicas at j token a) l none) o k (omega (arith, all, m)) h)
 
+-- so its part is missing
+pub missing-block : (replicas : List ReplicaView) (at i : ℕ) (x : ReplicaView) (token : Token Entry) (a : Name) → IsWorker replicas at i x token a → IsNowhere replicas x i → IsMissing replicas x i a
+missing-block replicas at i x token a w h = record {
+  waits = g.waits;
+  lacks = λ s c e k. subst (λ (v : Entry). LacksPart s x.number (shown x) v a) (some-same (Get g.partition g.number g.digest g.source g.need) e (sym g.at ∙ k))
+      ((get-is replicas at i x token a g.partition g.number g.source g.need g.digest w g.at).1, lacks-block x g.partition g.number w.standing g.none, h g.partition g.number g.source g.need g.digest g.at s c);
+}
+  where
+    g : WaitsForBlock x i
+    g = w.waiting
+
 -- ---- the lowest-numbered holder
 
 at-least : (n j : ℕ) → (n < j → ⊥) → j ≤ n
 at-least n j f = omega (arith, f)
 
+-- another live replica is one for a cluster
+is-other : (replicas : List ReplicaView) (at j i : ℕ) (x y : ReplicaView) (token : Token Entry) (a : Name) → IsWorker replicas at i x token a → IsLiveOther replicas at j y → (s : Cluster) → IsClusterOf x.schema replicas s → IsOther s x.number (shown y)
+is-other replicas at j i x y token a w o s c = record {
+  is_in = subst (λ (rs : List Replica). Has rs (shown y)) (sym c.replicas_are) (has-shown replicas y (has-at replicas j y o.stands));
+  up = o.up;
+  other = λ e. let u = w.table.numbered at x w.stands in let v = w.table.numbered j y o.stands in o.other (omega (arith, u, v, e));
+}
+
 -- a replica may fetch from the first that has anything
-may-fetch : (replicas : List ReplicaView) (at j i : ℕ) (x y : ReplicaView) (token : Token Entry) (a : Name) → IsWorker replicas at i x token a → IsLiveOther replicas at j y → HoldNothingBelow replicas at j token a (length x.log) → (s : Cluster) → IsClusterOf x.schema replicas s → MayFetch s (shown x) i (shown y)
-may-fetch replicas at j i x y token a w o none s c = record {
+may-fetch : (replicas : List ReplicaView) (at j i : ℕ) (x y : ReplicaView) (token : Token Entry) (a : Name) → IsWorker replicas at i x token a → x.fetches ≡ true → IsLiveOther replicas at j y → HoldNothingBelow replicas at j token a (length x.log) → (s : Cluster) → IsClusterOf x.schema replicas s → MayFetch s (shown x) i (shown y)
+may-fetch replicas at j i x y token a w allowed o none s c = record {
   partition = g.partition;
   number = g.number;
   source = g.source;
@@ -266,12 +306,8 @@ may-fetch replicas at j i x y token a w o none s c = record {
   digest = g.digest;
   entry = g.at;
   own = lacks-block x g.partition g.number w.standing g.none;
-  allowed = refl;
-  other = record {
-    is_in = subst (λ (rs : List Replica). Has rs (shown y)) (sym c.replicas_are) (has-shown replicas y (has-at replicas j y o.stands));
-    up = o.up;
-    other = λ e. let u = w.table.numbered at x w.stands in o.other (omega (arith, u, v, e));
-  };
+  allowed = allowed;
+  other = is-other replicas at j i x y token a w o s c;
   lowest = λ z oz h.
       let k = seen-at replicas z (subst (λ (rs : List Replica). Has rs z) c.replicas_are oz.is_in) in
       let n = w.table.numbered k.place k.replica k.stands in
@@ -305,18 +341,20 @@ active-does replicas at j i x y token a part w o h =
     }
 
 -- what it has does the Get, and is what the replica may fetch
-fetched : (replicas : List ReplicaView) (at j i : ℕ) (x y : ReplicaView) (token : Token Entry) (a : Name) (part : PartValue) → IsWorker replicas at i x token a → IsLiveOther replicas at j y → HoldNothingBelow replicas at j token a (length x.log)
-    → HoldsPart y a (length x.log) part ⊎ IsOfStaged x.schema y token part → Does x i part × IsFetchedPart replicas x i part
-fetched replicas at j i x y token a part w o none (inl h) = (
+fetched : (replicas : List ReplicaView) (at j i : ℕ) (x y : ReplicaView) (token : Token Entry) (a : Name) (part : PartValue) → IsWorker replicas at i x token a → x.fetches ≡ true → IsLiveOther replicas at j y → HoldNothingBelow replicas at j token a (length x.log)
+    → HoldsPart y a (length x.log) part ⊎ IsOfStaged x.schema y token part → Does x i part × (x.fetches ≡ true) × IsFetchedPart replicas x i part
+fetched replicas at j i x y token a part w allowed o none (inl h) = (
   active-does replicas at j i x y token a part w o h,
-  λ s c. inl (record { from = shown y; may = may-fetch replicas at j i x y token a w o none s c; is_in = copied-in y.parts part h.is_in; within = h.within }),
+  allowed,
+  λ s c. inl (record { from = shown y; may = may-fetch replicas at j i x y token a w allowed o none s c; is_in = copied-in y.parts part h.is_in; within = h.within }),
 )
-fetched replicas at j i x y token a part w o none (inr h) =
+fetched replicas at j i x y token a part w allowed o none (inr h) =
     let k = staged-seen x y i token part w.standing o.standing w.entry w.place h in (
       block-does x y i token part w.entry w.place h w.waiting.waits,
+      allowed,
       λ s c. inr (record {
         from = shown y;
-        may = may-fetch replicas at j i x y token a w o none s c;
+        may = may-fetch replicas at j i x y token a w allowed o none s c;
         block = k.block;
         number = k.number;
         staged = k.staged;
@@ -326,9 +364,24 @@ fetched replicas at j i x y token a part w o none (inr h) =
     )
 
 -- the same, where the length of the copy and the schema are known by equations
-pub fetches : (replicas : List ReplicaView) (at j i : ℕ) (x y : ReplicaView) (token : Token Entry) (a : Name) (len : ℕ) (schema : Shape) (part : PartValue) → IsWorker replicas at i x token a → IsLiveOther replicas at j y → len ≡ length x.log → x.schema ≡ schema → HoldNothingBelow replicas at j token a len
-    → HoldsPart y a len part ⊎ IsOfStaged schema y token part → (z : ReplicaView) → slice_get replicas at ≡ Some z → Does z i part × IsFetchedPart replicas z i part
-fetches replicas at j i x y token a len schema part w o l q none h z e =
-    subst (λ (v : ReplicaView). Does v i part × IsFetchedPart replicas v i part) (some-same x z (sym w.stands ∙ e))
-    (fetched replicas at j i x y token a part w o (subst (HoldNothingBelow replicas at j token a) l none)
+pub fetches : (replicas : List ReplicaView) (at j i : ℕ) (x y : ReplicaView) (token : Token Entry) (a : Name) (len : ℕ) (schema : Shape) (part : PartValue) → IsWorker replicas at i x token a → x.fetches ≡ true → IsLiveOther replicas at j y → len ≡ length x.log → x.schema ≡ schema → HoldNothingBelow replicas at j token a len
+    → HoldsPart y a len part ⊎ IsOfStaged schema y token part → (z : ReplicaView) → slice_get replicas at ≡ Some z → Does z i part × (z.fetches ≡ true) × IsFetchedPart replicas z i part
+fetches replicas at j i x y token a len schema part w allowed o l q none h z e =
+    subst (λ (v : ReplicaView). Does v i part × (v.fetches ≡ true) × IsFetchedPart replicas v i part) (some-same x z (sym w.stands ∙ e))
+    (fetched replicas at j i x y token a part w allowed o (subst (HoldNothingBelow replicas at j token a) l none)
     (subst (λ n. HoldsPart y a n part ⊎ IsOfStaged x.schema y token part) l (subst (λ (v : Shape). HoldsPart y a len part ⊎ IsOfStaged v y token part) (sym q) h)))
+
+-- a replica that may not fetch is stopped where another has anything
+pub stops : (replicas : List ReplicaView) (at j i : ℕ) (x y : ReplicaView) (token : Token Entry) (a : Name) (len : ℕ) → IsWorker replicas at i x token a → x.fetches ≡ false → IsLiveOther replicas at j y → len ≡ length x.log → HoldsSome y token a len → IsStopped replicas x i
+stops replicas at j i x y token a len w f o l h = record {
+  waits = g.waits;
+  stopped = f;
+  needs = λ s c e k. subst (NeedsFetch s x.number (shown x)) (some-same (Get g.partition g.number g.digest g.source g.need) e (sym g.at ∙ k))
+      (lacks-block x g.partition g.number w.standing g.none, shown y, is-other replicas at j i x y token a w o s c, subst (λ n. IsHolder n g.partition g.number (shown y)) l holder);
+}
+  where
+    g : WaitsForBlock x i
+    g = w.waiting
+
+    holder : IsHolder len g.partition g.number (shown y)
+    holder = some-holder y token a len g.partition g.number g.source g.need g.digest o.standing h (get-is replicas at i x token a g.partition g.number g.source g.need g.digest w g.at)

@@ -1,7 +1,6 @@
 -- What was found for an entry.
 use Rattle.std.proofs.Common.{◌≡◌, ℕ, zero, suc, ◌<◌, ◌≤◌, inl, inr, List, [], ◌∷◌, length, refl, sym, subst, ◌∙◌, arith}
 use Rattle.std.specs.Prelude.{slice_get, MatchOption, IfSome, IsSome}
-use Rattle.std.specs.Option.{option_map}
 use Rattle.std.specs.declared.option.Option.{Option}
 use Rattle.std.specs.declared.option.Option.TheVariants.{Some, None}
 use Rattle.rmt_values.specs.Rows.{Shape}
@@ -14,16 +13,14 @@ use Rattle.rmt_model.specs.Lawful.{entry_at}
 use Rattle.rmt_part.specs.Lineages.{PartValue}
 use Rattle.rmt_partset.specs.ActiveParts.{part_names}
 use Rattle.rmt_replica.specs.Replicas.{ReplicaView, IsStandingReplica}
-use Rattle.rmt_replica.specs.StagedBlocks.{staged_at}
 use Rattle.rmt_replica.specs.Answers as own
 use Rattle.rmt_replica.specs.declared.why.Why.TheVariants as whys
 use Rattle.rmt_replica.specs.SeenReplica.{shown}
-use Rattle.rmt_replica.proofs.StagedViews.{missing}
 use Rattle.rmt_replica.proofs.StateViews.{names-shown, inactive-seen}
 use Rattle.rmt_events.specs.Clusters.{Cluster}
-use Rattle.rmt_events.specs.ApplyEvents.{LacksBlock, LacksPart}
+use Rattle.rmt_events.specs.ApplyEvents.{LacksPart}
 use Rattle.rmt_events.proofs.Copies.{entry-behind}
-use Rattle.rmt_supply.specs.PartSources.{staged_for, IsAccepted, AreOfOneTable, Does, IsBuilt, IsMissing, IsOfStaged, IsMadeOfActive, WaitsForBlock, IsNowhere}
+use Rattle.rmt_supply.specs.PartSources.{staged_for, IsAccepted, AreOfOneTable, Does, IsBuilt, IsMissing, IsOfStaged, IsMadeOfActive, WaitsForBlock}
 use Rattle.rmt_supply.proofs.OwnParts.{merged-from-parts, mutated-from-parts, made-does}
 use Rattle.rmt_supply.proofs.StagedParts.{from-stage, staged-does}
 
@@ -104,19 +101,6 @@ waits-for-block r i a p n digest source need w q = record {
   none = (lacked r i (Get p n digest source need) a q w.1).0;
 }
 
--- its block is held nowhere
-pub missing-block : (replicas : List ReplicaView) (r : ReplicaView) (i : ℕ) (a : Name) (p : Option ℕ) (n : ℕ) (digest : List ℕ) (source need : ℕ) → IsStandingReplica r → own.IsWhy r i (whys.NeedsPart a) → entry_at r.log i ≡ Some (Get p n digest source need) → IsNowhere replicas r i → IsMissing replicas r i a
-missing-block replicas r i a p n digest source need t w q h = record {
-  waits = w.0;
-  lacks = λ s c e k.
-      let l = lacked r i (Get p n digest source need) a q w.1 in
-      subst (λ (x : Entry). LacksPart s r.number (shown r) x a) (one-entry (Get p n digest source need) e (sym q ∙ k))
-      (l.1, nowhere-staged r p n t l.0, h p n source need digest q s c);
-}
-  where
-    nowhere-staged : (r : ReplicaView) (p : Option ℕ) (n : ℕ) → IsStandingReplica r → staged_at r.staged (record { partition = p; number = n }) ≡ None → LacksBlock (shown r) p n
-    nowhere-staged r p n t e = λ b z. missing (record { partition = p; number = n }) r.staged t.waiting.own e (record { number = n; block = b }) z.is_in z.partition refl
-
 -- ---- the replica of a place
 
 pub has-place : (rs : List ReplicaView) (j : ℕ) (r : ReplicaView) → slice_get rs j ≡ Some r → Has rs r
@@ -145,12 +129,3 @@ ready-entry replicas i j r a q t w e k = (subst (λ o. IfSome o (own.IsReady r))
 pub entry-there : {A : Type 0} (o : Option A) (f : A → Token Entry) (copy : List Entry) (i : ℕ) → MatchOption o (length copy ≤ i) (λ t. entry_at copy i ≡ Some (f t).value) → i < length copy → IsSome o
 entry-there None f copy i m l = absurd (omega (arith, m, l))
 entry-there (Some x) f copy i m l = refl
-
--- the same of an option that is seen otherwise
-pub mapped : {A B : Type 0} (o : Option A) (f : A → B) (N : Type 0) (P : B → Type 0) → MatchOption (option_map f o) N P → MatchOption o N (λ x. P (f x))
-mapped None f N P m = m
-mapped (Some x) f N P m = m
-
-pub no-part : {A B : Type 0} (o : Option A) (f : A → B) (N : Type 0) (P : B → Type 0) → MatchOption (option_map f o) N P → o ≡ None → N
-no-part None f N P m e = m
-no-part (Some x) f N P m e = absurd (cc)

@@ -2,8 +2,8 @@
 -- ClickHouse documentation, Data Replication: a replica makes the part of an inserted block from the block, or fetches it from
 -- another replica; merges and mutations are done from its own parts. That the lowest-numbered holder is taken is this
 -- program's own.
-use Rattle.std.specs.Prelude.{◌≡◌, ◌⊎◌, ℕ, ◌+◌, ◌<◌, ◌^◌, List, length, map, slice_get, MatchOption, IfSome}
-use Rattle.std.specs.Prelude.{true}
+use Rattle.std.specs.Prelude.{◌≡◌, ◌⊎◌, ℕ, ◌+◌, ◌<◌, ◌^◌, List, length, map, slice_get, MatchOption, IfSome, IsSome}
+use Rattle.std.specs.Prelude.{true, false}
 use Rattle.std.specs.List.{All}
 use Rattle.std.specs.Arc.{arc_value}
 use Rattle.std.specs.declared.option.Option.{Option}
@@ -29,7 +29,7 @@ use Rattle.rmt_replica.specs.declared.supply.Supply.TheVariants.{Nothing, Built,
 use Rattle.rmt_events.specs.Views.{Replica}
 use Rattle.rmt_events.specs.Clusters.{Cluster}
 use Rattle.rmt_events.specs.ClusterChanges.{IsOther}
-use Rattle.rmt_events.specs.ApplyEvents.{IsHolder, IsFromStage, IsFromParts, IsFetched, IsFetchedBlock, LacksPart}
+use Rattle.rmt_events.specs.ApplyEvents.{IsHolder, IsFromStage, IsFromParts, IsFetched, IsFetchedBlock, LacksPart, NeedsFetch}
 use Rattle.rmt_replica.specs.SeenReplica.{shown}
 use Rattle.rmt_supply.specs.declared.found.Found.{Found}
 use Rattle.rmt_supply.specs.declared.found.Found.TheVariants as found
@@ -93,20 +93,27 @@ IsBuilt replicas x i part = (s : Cluster) → IsClusterOf x.schema replicas s �
 abbrev pub IsFetchedPart : List ReplicaView → ReplicaView → ℕ → PartValue → Type 0
 IsFetchedPart replicas x i part = (s : Cluster) → IsClusterOf x.schema replicas s → IsFetched s (shown x) i (copied part) ⊎ IsFetchedBlock s (shown x) i (copied part)
 
--- the supply does the entry at a place of a replica's copy
+-- the supply does the entry at a place of a replica's copy, which may fetch where a fetched part is supplied
 abbrev pub Suits : List ReplicaView → ReplicaView → ℕ → Supply → Type 0
 Suits replicas x i Nothing = NeedsNone x i
 Suits replicas x i (Built part) = Does x i (arc_value part) × IsBuilt replicas x i (arc_value part)
-Suits replicas x i (Fetched part) = Does x i (arc_value part) × IsFetchedPart replicas x i (arc_value part)
+Suits replicas x i (Fetched part) = Does x i (arc_value part) × (x.fetches ≡ true) × IsFetchedPart replicas x i (arc_value part)
 
 -- the entry at a place waits, and this part is missing
 pub record IsMissing (replicas : List ReplicaView) (x : ReplicaView) (i : ℕ) (a : Name) : Type 0 where
   pub waits : own.Waits x i
   pub lacks : (s : Cluster) → IsClusterOf x.schema replicas s → (e : Entry) → entry_at x.log i ≡ Some e → LacksPart s x.number (shown x) e a
 
+-- the entry at a place waits and its block isn't here; another live replica holds it, and this one may not fetch
+pub record IsStopped (replicas : List ReplicaView) (x : ReplicaView) (i : ℕ) : Type 0 where
+  pub waits : own.Waits x i
+  pub stopped : x.fetches ≡ false
+  pub needs : (s : Cluster) → IsClusterOf x.schema replicas s → (e : Entry) → entry_at x.log i ≡ Some e → NeedsFetch s x.number (shown x) e
+
 -- what was found for the entry at a place of a replica's copy
 abbrev pub IsFoundFor : List ReplicaView → ReplicaView → ℕ → Found → Type 0
 IsFoundFor replicas x i (found.Ready supply) = Suits replicas x i supply
+IsFoundFor replicas x i found.Stopped = IsStopped replicas x i
 IsFoundFor replicas x i (found.Missing a) = IsMissing replicas x i a
 
 -- ---- what only private functions cite
@@ -166,6 +173,10 @@ pub record HoldsNothing (holder : ReplicaView) (token : Token Entry) (a : Name) 
   pub no_part : (part : PartValue) → HoldsPart holder a len part → ⊥
   pub no_block : staged_for holder token.value ≡ None
 
+-- it has such a part, or that block
+abbrev pub HoldsSome : ReplicaView → Token Entry → Name → ℕ → Type 0
+HoldsSome holder token a len = ((part : PartValue) × HoldsPart holder a len part) ⊎ IsSome (staged_for holder token.value)
+
 -- what a holder has for the Get of a token, as a part
 abbrev pub IsHeld : Shape → ReplicaView → Token Entry → Name → ℕ → Option PartValue → Type 0
 IsHeld schema holder token a len part = MatchOption part (HoldsNothing holder token a len) (λ p. HoldsPart holder a len p ⊎ IsOfStaged schema holder token p)
@@ -174,7 +185,3 @@ IsHeld schema holder token a len part = MatchOption part (HoldsNothing holder to
 abbrev pub IsNowhere : List ReplicaView → ReplicaView → ℕ → Type 0
 IsNowhere replicas x i = (p : Option ℕ) (n source need : ℕ) (digest : List ℕ) → entry_at x.log i ≡ Some (Get p n digest source need)
     → (s : Cluster) → IsClusterOf x.schema replicas s → (y : Replica) → IsOther s x.number y → IsHolder (length x.log) p n y → ⊥
-
--- what the lowest-numbered other live holder has for the Get at a place, as a part that does it
-abbrev pub IsFetchedFor : List ReplicaView → ReplicaView → ℕ → Option PartValue → Type 0
-IsFetchedFor replicas x i part = MatchOption part (IsNowhere replicas x i) (λ p. Does x i p × IsFetchedPart replicas x i p)

@@ -6,6 +6,8 @@ use rmt_replica::Supply;
 pub enum Found {
     /// This does it.
     Ready(Supply),
+    /// Another live replica holds the Get's block, and this one may not fetch it.
+    Stopped,
     /// This part is missing: the Get's own, which no live replica holds, or the first source that isn't active.
     Missing(PartName),
 }

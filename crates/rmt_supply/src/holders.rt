@@ -1,19 +1,20 @@
 //! What other replicas hold.
-ghost use Rattle.std.specs.Prelude.{◌≡◌, ◌<◌, ◌≤◌, ◌^◌, IfOk, IfSome, MatchOption, length, slice_get};
+ghost use Rattle.std.specs.Prelude.{◌≡◌, ◌<◌, ◌≤◌, ◌^◌, false, IsTrue, IfOk, IfSome, MatchOption, length, slice_get};
 ghost use Rattle.std.specs.Arc.{arc_value};
 ghost use Rattle.std.specs.Option.{option_map};
 ghost use Rattle.std.specs.declared.option.Option.TheVariants.{Some};
 ghost use Rattle.rmt_part.specs.Lineages.{PartValue};
 ghost use Rattle.rmt_replica.specs.Replicas.{ReplicaView};
-ghost use Rattle.rmt_supply.specs.PartSources.{staged_for, IsAccepted, AreOfOneTable, HasSmallParts, AreSmall, WaitsForBlock, IsGetFor, HoldsPart, IsHeld, IsFetchedFor};
+ghost use Rattle.rmt_supply.specs.PartSources.{staged_for, IsAccepted, AreOfOneTable, HasSmallParts, AreSmall, WaitsForBlock, IsGetFor, HoldsPart, HoldsNothing, HoldsSome, IsHeld, IsFoundFor};
 
-use crate::staged::staged_part;
+use crate::found::Found;
+use crate::staged::{is_staged, staged_part};
 use rmt_compact::refetched;
 use rmt_entries::Entry;
 use rmt_format::encode;
 use rmt_names::{PartName, block_name};
 use rmt_part::Part;
-use rmt_replica::Replica;
+use rmt_replica::{Replica, Supply};
 use rmt_row::Seen;
 use rmt_values::Schema;
 use std::alloc::{AllocError, Global};
@@ -75,20 +76,34 @@ fn held(
     }
 }
 
-/// The part for the Get at a place of a replica's copy, which waits and whose block isn't staged there, that its lowest-numbered
-/// other live holder has. None where no other live replica holds the block. At an error no memory was left.
+/// Whether a holder has an active part that covers the block's and was made at a place below `len`, or the block of the token's
+/// Get.
+fn holds(holder: &Replica, get: &Seen<Entry>, name: &PartName, len: usize) -> bool
+    requires get { IsGetFor get.now name.now }
+    ensures some { IsTrue result → HoldsSome holder.now get.now name.now len }
+    ensures nothing { result ≡ false → HoldsNothing holder.now get.now name.now len }
+{
+    match part_within(holder, name, len) {
+        Some(_) => true,
+        None => is_staged(holder, get),
+    }
+}
+
+/// What does the Get at a place of a replica's copy, which waits and whose block isn't staged there: the part that its
+/// lowest-numbered other live holder has. It is missing where no other live replica holds the block; where one does and the
+/// replica may not fetch, none is sent. At an error no memory was left.
 pub(crate) fn fetched_part(
     alloc: Global,
     replicas: &[Replica],
     at: usize,
     i: usize,
     schema: &Arc<Schema, Global>,
-) -> Result<Option<Arc<Part, Global>>, AllocError>
+) -> Result<Found, AllocError>
     requires at { at < length replicas.now }
     requires table { AreOfOneTable replicas.now i }
     requires small { AreSmall replicas.now }
     requires waits { (x : ReplicaView) → slice_get replicas.now at ≡ Some x → (x.schema ≡ arc_value schema.now) × WaitsForBlock x i }
-    ensures { IfOk result (λ part. (x : ReplicaView) → slice_get replicas.now at ≡ Some x → IsFetchedFor replicas.now x i (option_map arc_value part)) }
+    ensures { IfOk result (λ found. (x : ReplicaView) → slice_get replicas.now at ≡ Some x → IsFoundFor replicas.now x i found) }
 {
     let worker = &replicas[at];
     let copy = worker.copy();
@@ -108,9 +123,14 @@ pub(crate) fn fetched_part(
             continue;
         }
         let _standing = holder.copy();
-        if let Some(part) = held(alloc, holder, get, &name, len, schema)? {
-            return Ok(Some(part));
+        if !holds(holder, get, &name, len) {
+            continue;
         }
+        if !worker.fetches() {
+            return Ok(Found::Stopped);
+        }
+        let part = held(alloc, holder, get, &name, len, schema)?.unwrap();
+        return Ok(Found::Ready(Supply::Fetched(part)));
     }
-    Ok(None)
+    Ok(Found::Missing(name))
 }

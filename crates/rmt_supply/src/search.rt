@@ -51,8 +51,9 @@ fn own_supply(
 }
 
 /// Looks for what does the entry at a place of a replica's copy: nothing is needed for a drop, and where nothing is to do; else a
-/// part of what the replica has itself, or for a Get one of the lowest-numbered other live replica that holds its block. The
-/// replica stands at `at` among all of its table, in the order of their numbers.
+/// part of what the replica has itself, or for a Get one of the lowest-numbered other live replica that holds its block. Where a
+/// replica holds it that this one may not fetch from, the answer is `Stopped`; where none does, it is missing. The replica stands
+/// at `at` among all of its table, in the order of their numbers.
 ///
 /// At an error no memory was left.
 pub fn find(
@@ -78,8 +79,6 @@ pub fn find(
     let Entry::Get { .. } = copy.entry(i).unwrap().value() else {
         return Ok(Found::Missing(part));
     };
-    match fetched_part(alloc, replicas, at, i, schema)? {
-        Some(fetched) => Ok(Found::Ready(Supply::Fetched(fetched))),
-        None => Ok(Found::Missing(part)),
-    }
+    let found = fetched_part(alloc, replicas, at, i, schema)?;
+    Ok(found)
 }

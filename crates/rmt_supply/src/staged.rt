@@ -1,5 +1,5 @@
 //! The part of a staged block.
-ghost use Rattle.std.specs.Prelude.{◌≡◌, IfOk, IfSome, MatchOption};
+ghost use Rattle.std.specs.Prelude.{◌≡◌, is_some, IfOk, IfSome, MatchOption};
 ghost use Rattle.std.specs.Arc.{arc_value};
 ghost use Rattle.std.specs.declared.option.Option.TheVariants.{None};
 ghost use Rattle.rmt_supply.specs.PartSources.{staged_for, IsAccepted, IsOfStaged};
@@ -12,6 +12,24 @@ use rmt_row::Seen;
 use rmt_values::Schema;
 use std::alloc::{AllocError, Global};
 use std::sync::Arc;
+
+/// Whether a block is staged at a holder for the entry of a token.
+pub(crate) fn is_staged(holder: &Replica, token: &Seen<Entry>) -> bool
+    ensures { result ≡ is_some (staged_for holder.now token.now.value) }
+{
+    let Entry::Get {
+        partition,
+        number,
+        ..
+    } = token.value()
+    else {
+        return false;
+    };
+    match holder.staged(*partition, *number) {
+        Some(_) => true,
+        None => false,
+    }
+}
 
 /// The part of the block that is staged at a holder for the entry of a token; none where none is. At an error no memory was
 /// left.

@@ -1,4 +1,4 @@
-use Rattle.rmt_replica.proofs.CallViews.{stages-seen, unstages-seen, settles-seen, drop-seen, part-seen}
+use Rattle.rmt_replica.proofs.CallViews.{stages-seen, unstages-seen, settles-seen, drop-seen, part-seen, notes-seen}
 use Rattle.rmt_replica.proofs.StateViews.{waits-same}
 use Rattle.rmt_replica.proofs.laws.each_call_is_seen_by_events.Goals as goal
 
@@ -16,3 +16,6 @@ returns-clause-drop c = drop-seen
 
 pub returns-clause-part : goal.returns-clause-part
 returns-clause-part c r i a part new s w m k e = part-seen r i a part new s ((waits-same r i).0 w) m k e
+
+pub returns-clause-note : goal.returns-clause-note
+returns-clause-note c = notes-seen

@@ -1,10 +1,12 @@
-use Rattle.std.proofs.Common.{◌≡◌, arith, slice_get, ap, ◌∙◌, length}
+use Rattle.std.proofs.Common.{◌≡◌, arith, slice_get, sym, ap, ◌∙◌, length}
 use Rattle.std.proofs.lemmas.Grind.{common_steps}
 use Rattle.std.proofs.lemmas.Option.{gets}
 use Rattle.std.specs.Arc.{arc_value}
 use Rattle.std.specs.declared.option.Option.TheVariants.{Some}
-use Rattle.rmt_supply.proofs.BlockHolders.{has-entry, reads-get, worker, accepted, one-more, holds-nothing, holds-part, nowhere, fetches}
-use Rattle.rmt_supply.proofs.SearchLemmas.{has-place}
+use Rattle.rmt_supply.specs.declared.found.Found.TheVariants as found
+use Rattle.rmt_supply.specs.PartSources.{IsFoundFor}
+use Rattle.rmt_supply.proofs.BlockHolders.{has-entry, reads-get, worker, accepted, one-more, held-some, holds-part, nowhere, missing-block, fetches, stops}
+use Rattle.rmt_supply.proofs.SearchLemmas.{has-place, at-one}
 use Rattle.rmt_supply.proofs.holders.fetched_part.Goals as goal
 use Rattle.rmt_supply.proofs.holders.fetched_part.Goals.{then-j-at-via-then-j-at, then-j-at-via-else-j-at+then-not-is_up}
 
@@ -43,29 +45,56 @@ holders-preserved-then-j-at c =
       | then-j-at-via-else-j-at+then-not-is_up w ↦ let f = w.if-not-is_up.true in let e = w.is_up.ensures in absurd (cc)
     ])
 
+pub holds-requires : goal.holds-requires
+holds-requires c =
+    let x = c.index-replicas-at.result in
+    let there : slice_get c.args.replicas.now c.args.at ≡ Some c.index-replicas-at.result = grind (arith, common_steps, gets) in
+    let q = c.requires.waits x there in
+    let g = c.in-Get in
+    let w = worker c.args.replicas.now c.args.at c.args.i x c.copy-copy.result.now.log c.entry.result c.unwrap-get.result c.value.result.now g.partition g.number g.digest g.source g.need c.block_name-name.result
+    c.requires.table there c.copy-copy.ensures.standing q.1 c.copy-copy.ensures.log c.entry.ensures.entry c.entry.ensures.place c.unwrap-get.ensures c.value.ensures g.is c.block_name-name.ensures in
+    record { get = w.get }
+
 pub holders-preserved : goal.holders-preserved
 holders-preserved c =
     let here : slice_get c.args.replicas.now c.holders.j ≡ Some c.index-replicas-j.result = grind (arith, common_steps, gets) in
     one-more c.args.replicas.now c.args.at c.holders.j c.unwrap-get.result.now c.block_name-name.result c.len-len.result c.index-replicas-j.result c.holders.invariant here
-    (λ o u. (
-      c.copy-standing.ensures.standing,
-      holds-nothing c.in_ok-part.field-0 arc_value (arc_value c.args.schema.now) c.index-replicas-j.result c.unwrap-get.result.now c.block_name-name.result c.len-len.result c.in_default-2.is c.in_ok-part.ensures,
-    ))
+    (λ o u. (c.copy-standing.ensures.standing, c.holds.ensures.nothing (let f = c.if-not-holds.true in cc)))
 
-pub returns-in-Some : goal.returns-in-Some
-returns-in-Some c =
+pub returns-then-not-fetches : goal.returns-then-not-fetches
+returns-then-not-fetches c =
     let x = c.index-replicas-at.result in
-    let y = c.index-replicas-j.result in
     let there : slice_get c.args.replicas.now c.args.at ≡ Some c.index-replicas-at.result = grind (arith, common_steps, gets) in
     let here : slice_get c.args.replicas.now c.holders.j ≡ Some c.index-replicas-j.result = grind (arith, common_steps, gets) in
     let q = c.requires.waits x there in
     let g = c.in-Get in
     let w = worker c.args.replicas.now c.args.at c.args.i x c.copy-copy.result.now.log c.entry.result c.unwrap-get.result c.value.result.now g.partition g.number g.digest g.source g.need c.block_name-name.result
     c.requires.table there c.copy-copy.ensures.standing q.1 c.copy-copy.ensures.log c.entry.ensures.entry c.entry.ensures.place c.unwrap-get.ensures c.value.ensures g.is c.block_name-name.ensures in
-    fetches c.args.replicas.now c.args.at c.holders.j c.args.i x y c.unwrap-get.result.now c.block_name-name.result c.len-len.result (arc_value c.args.schema.now) (arc_value c.in-Some.part) w
+    let y = c.index-replicas-j.result in
+    at-one c.args.replicas.now c.args.at x (λ v. IsFoundFor c.args.replicas.now v c.args.i found.Stopped) there
+    (stops c.args.replicas.now c.args.at c.holders.j c.args.i x y c.unwrap-get.result.now c.block_name-name.result c.len-len.result w (sym c.fetches.ensures ∙ c.if-not-fetches.true)
+    (record { stands = here; other = c.if-j-at.false; up = let f = c.if-not-is_up.false in let e = c.is_up.ensures in cc; standing = c.copy-standing.ensures.standing })
+    (c.len-len.ensures.len ∙ ap length c.copy-copy.ensures.log) (c.holds.ensures.some (let f = c.if-not-holds.false in cc)))
+
+pub unwrap-part-requires : goal.unwrap-part-requires
+unwrap-part-requires c =
+    held-some c.in_ok-held.field-0 arc_value (arc_value c.args.schema.now) c.index-replicas-j.result c.unwrap-get.result.now c.block_name-name.result c.len-len.result c.in_ok-held.ensures (c.holds.ensures.some (let f = c.if-not-holds.false in cc))
+
+pub returns-in-holders : goal.returns-in-holders
+returns-in-holders c =
+    let x = c.index-replicas-at.result in
+    let there : slice_get c.args.replicas.now c.args.at ≡ Some c.index-replicas-at.result = grind (arith, common_steps, gets) in
+    let here : slice_get c.args.replicas.now c.holders.j ≡ Some c.index-replicas-j.result = grind (arith, common_steps, gets) in
+    let q = c.requires.waits x there in
+    let g = c.in-Get in
+    let w = worker c.args.replicas.now c.args.at c.args.i x c.copy-copy.result.now.log c.entry.result c.unwrap-get.result c.value.result.now g.partition g.number g.digest g.source g.need c.block_name-name.result
+    c.requires.table there c.copy-copy.ensures.standing q.1 c.copy-copy.ensures.log c.entry.ensures.entry c.entry.ensures.place c.unwrap-get.ensures c.value.ensures g.is c.block_name-name.ensures in
+    let y = c.index-replicas-j.result in
+    fetches c.args.replicas.now c.args.at c.holders.j c.args.i x y c.unwrap-get.result.now c.block_name-name.result c.len-len.result (arc_value c.args.schema.now) (arc_value c.unwrap-part.result) w
+    (sym c.fetches.ensures ∙ c.if-not-fetches.false)
     (record { stands = here; other = c.if-j-at.false; up = let f = c.if-not-is_up.false in let e = c.is_up.ensures in cc; standing = c.copy-standing.ensures.standing })
     (c.len-len.ensures.len ∙ ap length c.copy-copy.ensures.log) q.0 c.holders.invariant
-    (holds-part c.in_ok-part.field-0 c.in-Some.part arc_value (arc_value c.args.schema.now) y c.unwrap-get.result.now c.block_name-name.result c.len-len.result c.in-Some.is c.in_ok-part.ensures)
+    (holds-part c.in_ok-held.field-0 c.unwrap-part.result arc_value (arc_value c.args.schema.now) y c.unwrap-get.result.now c.block_name-name.result c.len-len.result c.unwrap-part.ensures c.in_ok-held.ensures)
 
 pub returns : goal.returns
 returns c =
@@ -75,4 +104,6 @@ returns c =
     let g = c.in-Get in
     let w = worker c.args.replicas.now c.args.at c.args.i x c.copy-copy.result.now.log c.entry.result c.unwrap-get.result c.value.result.now g.partition g.number g.digest g.source g.need c.block_name-name.result
     c.requires.table there c.copy-copy.ensures.standing q.1 c.copy-copy.ensures.log c.entry.ensures.entry c.entry.ensures.place c.unwrap-get.ensures c.value.ensures g.is c.block_name-name.ensures in
-    nowhere c.args.replicas.now c.args.at c.holders.j c.args.i x c.unwrap-get.result.now c.block_name-name.result c.len-len.result w (c.len-len.ensures.len ∙ ap length c.copy-copy.ensures.log) c.holders-test.false c.holders.invariant
+    let n = nowhere c.args.replicas.now c.args.at c.holders.j c.args.i x c.unwrap-get.result.now c.block_name-name.result c.len-len.result w (c.len-len.ensures.len ∙ ap length c.copy-copy.ensures.log) c.holders-test.false c.holders.invariant in
+    at-one c.args.replicas.now c.args.at x (λ v. IsFoundFor c.args.replicas.now v c.args.i (found.Missing c.block_name-name.result)) there
+    (missing-block c.args.replicas.now c.args.at c.args.i x c.unwrap-get.result.now c.block_name-name.result w (n x there))

@@ -8,8 +8,8 @@ use Rattle.rmt_entries.specs.declared.entry.Entry.{Entry}
 use Rattle.rmt_entries.specs.declared.entry.Entry.TheVariants.{Get}
 use Rattle.rmt_model.specs.Lawful.{entry_at}
 use Rattle.rmt_supply.specs.declared.found.Found.TheVariants as found
-use Rattle.rmt_supply.specs.PartSources.{Does, IsFetchedPart, IsFoundFor, WaitsForBlock, IsNowhere}
-use Rattle.rmt_supply.proofs.SearchLemmas.{token-there, at-one, ready-entry, entry-there, missing-source, missing-block, waits-for-block, found-part, mapped, no-part}
+use Rattle.rmt_supply.specs.PartSources.{IsFoundFor, WaitsForBlock}
+use Rattle.rmt_supply.proofs.SearchLemmas.{token-there, at-one, ready-entry, entry-there, missing-source, waits-for-block}
 use Rattle.rmt_supply.proofs.search.find.Goals as goal
 
 pub own_supply-requires-clause-ready : goal.own_supply-requires-clause-ready
@@ -57,17 +57,3 @@ fetched_part-requires-clause-waits c =
     let q : entry_at w.log c.args.i ≡ Some (Get g.partition g.number g.digest g.source g.need) = t.entry ∙ ap (λ (e : Entry). Some e) (sym c.value.ensures ∙ g.is) in
     at-one c.args.replicas.now c.args.at w (λ x. (x.schema ≡ arc_value c.args.schema.now) × WaitsForBlock x c.args.i) there
     ((c.requires.place w there).1, waits-for-block w c.args.i c.in-NeedsPart.part g.partition g.number g.digest g.source g.need c.in-NeedsPart.ensures q)
-
-pub returns-in-Some : goal.returns-in-Some
-returns-in-Some c = λ x e. found-part c.in_ok-fetched.field-0 _ (λ p. Does x c.args.i (arc_value p) × IsFetchedPart c.args.replicas.now x c.args.i (arc_value p)) c.in-Some.fetched (mapped c.in_ok-fetched.field-0 arc_value _ _ (c.in_ok-fetched.ensures x e)) c.in-Some.is
-
-pub returns-in-None : goal.returns-in-None
-returns-in-None c =
-    let w = c.index-replicas-at.result in
-    let there : slice_get c.args.replicas.now c.args.at ≡ Some w = grind (arith, common_steps, gets) in
-    let t = token-there c.entry.result (λ t. t.now) c.copy-copy.result.now.log w.log c.args.i c.unwrap.result c.entry.ensures.entry c.entry.ensures.place c.unwrap.ensures c.copy-copy.ensures.log in
-    let g = c.in-Get in
-    let q : entry_at w.log c.args.i ≡ Some (Get g.partition g.number g.digest g.source g.need) = t.entry ∙ ap (λ (e : Entry). Some e) (sym c.value.ensures ∙ g.is) in
-    let n = no-part c.in_ok-fetched.field-0 arc_value (IsNowhere c.args.replicas.now w c.args.i) _ (c.in_ok-fetched.ensures w there) c.in-None.is in
-    at-one c.args.replicas.now c.args.at w (λ x. IsFoundFor c.args.replicas.now x c.args.i (found.Missing c.in-NeedsPart.part)) there
-    (missing-block c.args.replicas.now w c.args.i c.in-NeedsPart.part g.partition g.number g.digest g.source g.need c.copy-copy.ensures.standing c.in-NeedsPart.ensures q n)

@@ -20,6 +20,7 @@ returns-clause-answer c =
     let below = c.if-place-len.false in (
       c.requires.up,
       c.requires.waits,
+      sym c.is_stopped.ensures ∙ c.if-is_stopped.false,
       inr (
         c.args.name,
         c.requires.makes,

@@ -19,7 +19,7 @@ replace-requires-clause-over c =
     let i = c.self.inside in
     let can = subst (λ (r : ReplicaView). CanInstall r c.args.i c.args.name (arc_value c.args.part)) (sym c.self.view_is) c.requires in
     subst (λ (ps : List PartValue). Each (λ a. Overlap (arc_value c.args.part).name a → Covers (arc_value c.args.part).name a) (part_names ps)) (sym c.reserve.ensures.parts)
-    (over-of (replica_of i.number i.up i.copy i.queue i.parts.parts i.staged) c.args.i c.args.name (arc_value c.args.part) c.self.invariant.standing can)
+    (over-of (replica_of i.number i.up i.fetches i.copy i.queue i.parts.parts i.staged i.noted.items) c.args.i c.args.name (arc_value c.args.part) c.self.invariant.standing can)
 
 pub invariant_of-self-2 : goal.invariant_of-self-2
 invariant_of-self-2 c =
@@ -27,11 +27,11 @@ invariant_of-self-2 c =
     let can = subst (λ (r : ReplicaView). CanInstall r c.args.i c.args.name (arc_value c.args.part)) (sym c.self.view_is) c.requires in
     record {
       marked = c.self.invariant.marked;
-      standing = standing-after-replace (replica_of i.number i.up i.copy i.queue i.parts.parts i.staged) c.args.i c.args.name (arc_value c.args.part) c.replace.new.self.parts c.self.invariant.standing can (replaced c);
+      standing = standing-after-replace (replica_of i.number i.up i.fetches i.copy i.queue i.parts.parts i.staged i.noted.items) c.args.i c.args.name (arc_value c.args.part) c.replace.new.self.parts c.self.invariant.standing can (replaced c);
     }
 
 pub returns-clause-covered : goal.returns-clause-covered
 returns-clause-covered c =
     let i = c.self.inside in
     let can = subst (λ (r : ReplicaView). CanInstall r c.args.i c.args.name (arc_value c.args.part)) (sym c.self.view_is) c.requires in
-    covered-after-replace (replica_of i.number i.up i.copy i.queue i.parts.parts i.staged) c.args.i c.args.name (arc_value c.args.part) c.replace.new.self.parts can (replaced c)
+    covered-after-replace (replica_of i.number i.up i.fetches i.copy i.queue i.parts.parts i.staged i.noted.items) c.args.i c.args.name (arc_value c.args.part) c.replace.new.self.parts can (replaced c)

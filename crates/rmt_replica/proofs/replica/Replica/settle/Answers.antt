@@ -18,9 +18,9 @@ invariant_of-self c =
     let can = subst (λ (r : ReplicaView). CanSettle r c.args.i) (sym c.self.view_is) c.requires.can in
     let at = subst (λ o. MatchOption o (length i.copy.log ≤ c.args.i) (λ token. entry_at i.copy.log c.args.i ≡ Some token.now.value)) c.unwrap.ensures c.entry.ensures.entry ∙ ap Some (sym c.value.ensures) in
     let staged = c.release.ensures ∙ ap (λ (o : Option Entry). released o i.staged) (sym at) in
-    subst (λ (ms : List Bool). IsReplica i.copy ms (replica_of i.number i.up i.copy ms i.parts.parts c.release.new.staged)) (sym c.mark.ensures)
-    (subst (λ (st : Staged). IsReplica i.copy (slice_set i.queue c.args.i true) (replica_of i.number i.up i.copy (slice_set i.queue c.args.i true) i.parts.parts st)) (sym staged)
-    (replica-settled i.number i.up i.copy i.queue i.parts.parts i.staged c.args.i c.self.invariant within can))
+    subst (λ (ms : List Bool). IsReplica i.copy ms (replica_of i.number i.up i.fetches i.copy ms i.parts.parts c.release.new.staged i.noted.items)) (sym c.mark.ensures)
+    (subst (λ (st : Staged). IsReplica i.copy (slice_set i.queue c.args.i true) (replica_of i.number i.up i.fetches i.copy (slice_set i.queue c.args.i true) i.parts.parts st i.noted.items)) (sym staged)
+    (replica-settled i.number i.up i.fetches i.copy i.queue i.parts.parts i.staged i.noted.items c.args.i c.self.invariant within can))
 
 pub returns : goal.returns
 returns c =
@@ -28,7 +28,7 @@ returns c =
     let within = subst (λ (r : ReplicaView). c.args.i < length r.log) (sym c.self.view_is) c.requires.place in
     let at = subst (λ o. MatchOption o (length i.copy.log ≤ c.args.i) (λ token. entry_at i.copy.log c.args.i ≡ Some token.now.value)) c.unwrap.ensures c.entry.ensures.entry ∙ ap Some (sym c.value.ensures) in
     let staged = c.release.ensures ∙ ap (λ (o : Option Entry). released o i.staged) (sym at) in
-    ap (λ (ms : List Bool). replica_of i.number i.up i.copy ms i.parts.parts c.release.new.staged) c.mark.ensures
-    ∙ (ap (λ (st : Staged). replica_of i.number i.up i.copy (slice_set i.queue c.args.i true) i.parts.parts st) staged
-    ∙ (view-settled i.number i.up i.copy i.queue i.parts.parts i.staged c.args.i c.self.invariant.marked within
+    ap (λ (ms : List Bool). replica_of i.number i.up i.fetches i.copy ms i.parts.parts c.release.new.staged i.noted.items) c.mark.ensures
+    ∙ (ap (λ (st : Staged). replica_of i.number i.up i.fetches i.copy (slice_set i.queue c.args.i true) i.parts.parts st i.noted.items) staged
+    ∙ (view-settled i.number i.up i.fetches i.copy i.queue i.parts.parts i.staged i.noted.items c.args.i c.self.invariant.marked within
     ∙ ap (λ (r : ReplicaView). settled r c.args.i) c.self.view_is))

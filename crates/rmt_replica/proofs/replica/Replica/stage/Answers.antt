@@ -12,5 +12,5 @@ invariant_of-self-2 c =
     let i = c.self.inside in
     let own = c.partition-partition.ensures ∙ ap (λ (b : BlockView). b.partition) c.deref.ensures in
     let at : BlockNumber = record { partition = c.partition-partition.result; number = c.args.number } in
-    replica-staged i.number i.up i.copy i.queue i.parts.parts i.staged c.put.new.self c.self.invariant
+    replica-staged i.number i.up i.fetches i.copy i.queue i.parts.parts i.staged c.put.new.self i.noted.items c.self.invariant
     (subst AreStaged (sym c.in_ok-put.ensures.ok) (staged-with i.staged at (arc_value c.args.block) own c.self.invariant.standing.waiting))

@@ -12,11 +12,11 @@ invariant_of-self c =
     let at = subst (λ (r : ReplicaView). entry_at r.log c.args.i ≡ Some (DropRange c.args.partition c.args.number)) (sym c.self.view_is) c.requires.entry in
     record {
       marked = c.self.invariant.marked;
-      standing = standing-after-drop (replica_of i.number i.up i.copy i.queue i.parts.parts i.staged) c.args.i c.args.partition c.args.number c.drop_range.new.self.parts c.self.invariant.standing at c.drop_range.ensures;
+      standing = standing-after-drop (replica_of i.number i.up i.fetches i.copy i.queue i.parts.parts i.staged i.noted.items) c.args.i c.args.partition c.args.number c.drop_range.new.self.parts c.self.invariant.standing at c.drop_range.ensures;
     }
 
 pub returns-clause-emptied : goal.returns-clause-emptied
 returns-clause-emptied c =
     let i = c.self.inside in
     let at = subst (λ (r : ReplicaView). entry_at r.log c.args.i ≡ Some (DropRange c.args.partition c.args.number)) (sym c.self.view_is) c.requires.entry in
-    inr (inr (emptied-after-drop (replica_of i.number i.up i.copy i.queue i.parts.parts i.staged) c.args.i c.args.partition c.args.number c.drop_range.new.self.parts c.self.invariant.standing at c.drop_range.ensures))
+    inr (inr (emptied-after-drop (replica_of i.number i.up i.fetches i.copy i.queue i.parts.parts i.staged i.noted.items) c.args.i c.args.partition c.args.number c.drop_range.new.self.parts c.self.invariant.standing at c.drop_range.ensures))

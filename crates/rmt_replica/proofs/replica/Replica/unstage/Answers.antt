@@ -9,5 +9,5 @@ pub invariant_of-self : goal.invariant_of-self
 invariant_of-self c =
     let i = c.self.inside in
     let at : BlockNumber = record { partition = c.args.partition; number = c.args.number } in
-    replica-staged i.number i.up i.copy i.queue i.parts.parts i.staged c.take.new.self c.self.invariant
+    replica-staged i.number i.up i.fetches i.copy i.queue i.parts.parts i.staged c.take.new.self i.noted.items c.self.invariant
     (subst AreStaged (sym c.take.ensures) (staged-without i.staged at c.self.invariant.standing.waiting))
