@@ -1,5 +1,5 @@
 -- An entry that a replica does, as a cluster sees it.
-use Rattle.std.proofs.Common.{◌≡◌, ℕ, ◌+◌, ◌<◌, ◌≤◌, inl, inr, Bool, true, false, cond, List, [], ◌∷◌, length, refl, sym, ap, subst, ◌∙◌, arith, nat_eq}
+use Rattle.std.proofs.Common.{◌≡◌, ℕ, ◌+◌, ◌<◌, ◌≤◌, inl, inr, Bool, true, false, cond, not, List, [], ◌∷◌, length, refl, sym, ap, subst, ◌∙◌, arith, nat_eq}
 use Rattle.std.proofs.lemmas.Bool.Decides.{nat_tests}
 use Rattle.std.specs.Prelude.{slice_get, slice_set, IfOk, IfSome, MatchOption, OnErr}
 use Rattle.std.specs.Arc.{arc_value}
@@ -33,7 +33,7 @@ use Rattle.rmt_events.specs.Views.{Replica}
 use Rattle.rmt_events.specs.Clusters.{Attempt, Cluster}
 use Rattle.rmt_events.specs.ClusterChanges.{AtReplica}
 use Rattle.rmt_events.specs.ReplicaCalls.{Settles}
-use Rattle.rmt_events.specs.ApplyEvents.{IsSupply, AppliesTo, NoApply, LacksPart}
+use Rattle.rmt_events.specs.ApplyEvents.{IsSupply, AppliesTo, NoApply, LacksPart, NeedsFetch}
 use Rattle.rmt_events.specs.declared.event.Event.{Event}
 use Rattle.rmt_events.specs.declared.event.Event.TheVariants as ev
 use Rattle.rmt_events.specs.declared.reply.Reply.{Reply}
@@ -43,7 +43,7 @@ use Rattle.rmt_events.specs.declared.applied.Applied.{Applied}
 use Rattle.rmt_events.specs.declared.applied.Applied.TheVariants as came
 use Rattle.rmt_supply.specs.declared.found.Found.{Found}
 use Rattle.rmt_supply.specs.declared.found.Found.TheVariants as found
-use Rattle.rmt_supply.specs.PartSources.{AreOfOneTable, IsClusterOf, Does, Suits, IsMissing, IsFoundFor}
+use Rattle.rmt_supply.specs.PartSources.{AreOfOneTable, IsClusterOf, Does, Suits, IsMissing, IsStopped, IsFoundFor}
 use Rattle.rmt_state.specs.States.{StateView, Belongs, AreNumbered, IsState, cluster_of, Acts}
 use Rattle.rmt_cluster.specs.Acting.{KeepsAccepted}
 use Rattle.rmt_cluster.specs.Causes.{IsApplyReply}
@@ -75,6 +75,18 @@ apply-missing s k i j x a w u e q m made attempts events =
       subst (λ v. LacksPart z v (shown x) e a) n (m.lacks z (cluster-of s k j x w made attempts events) e q),
     ))
 
+pub apply-stopped : (s : StateView) (k i j : ℕ) (x : ReplicaView) → IsWorker s k j x → x.up ≡ true → (e : Entry) → entry_at x.log i ≡ Some e → IsStopped s.replicas x i → Acts s (ev.Apply k i) (rp.Refused rf.FetchesStopped) s
+apply-stopped s k i j x w u e q m made attempts events =
+    let n : x.number ≡ k = Belongs.numbered (at-place s.tree 1 s.replicas j x w.state.numbered w.there) ∙ sym w.numbered in
+    let z = cluster_of s made attempts events in
+    inr (declined s s.tree (λ c. NoApply c k i) rf.FetchesStopped refl made attempts events (
+      shown x,
+      e,
+      record { is = up-at s k j x w u made attempts events; waits = (waits-same x i).0 m.waits; at = q },
+      m.stopped,
+      subst (λ v. NeedsFetch z v (shown x) e) n (m.needs z (cluster-of s k j x w made attempts events) e q),
+    ))
+
 -- ---- what is done
 
 -- the parts once an entry that makes a part is done by the one that was supplied
@@ -99,7 +111,7 @@ supply-seen rs x i (Built p) part z c u g =
     subst (λ (q : PartValue). IsSupply z (shown x) i (copied q)) e (elim (u.1 z c) [ inl h ↦ inl h | inr h ↦ inr (inl h) ])
 supply-seen rs x i (Fetched p) part z c u g =
     let e : arc_value p ≡ part = cc in
-    subst (λ (q : PartValue). IsSupply z (shown x) i (copied q)) e (elim (u.1 z c) [ inl h ↦ inr (inr (inl h)) | inr h ↦ inr (inr (inr h)) ])
+    subst (λ (q : PartValue). IsSupply z (shown x) i (copied q)) e (elim (u.2 z c) [ inl h ↦ inr (inr (inl h)) | inr h ↦ inr (inr (inr h)) ])
 
 -- what an entry came to at a replica that changed so
 came-to : (s : StateView) (k j : ℕ) (x y : ReplicaView) (i : ℕ) (supply : Supply) (d : Applied) → IsWorker s k j x → IsStandingReplica x → Suits s.replicas x i supply → own.IsAnswer x i supply (Ok d) → own.IsChange x i supply (Ok d) y
@@ -108,7 +120,7 @@ came-to s k j x y i supply came.Already w t u a c made attempts events =
     ((already-same x i).0 a.1, subst (λ (v : ReplicaView). Settles (shown x) i (shown v)) (sym c) (settles-seen x i t.waiting (inl a.1)))
 came-to s k j x y i supply came.Dropped w t u a c made attempts events =
     (λ h. a.1 ((already-same x i).1 h), subst (λ (v : ReplicaView). Settles (shown x) i (shown v)) (sym c) (settles-seen x i t.waiting (inr a.2)))
-came-to s k j x y i supply came.Installed w t u a c made attempts events = go a.2
+came-to s k j x y i supply came.Installed w t u a c made attempts events = go a.3
   where
     z : Cluster
     z = cluster_of s made attempts events
@@ -202,11 +214,23 @@ suits-of-table rs x i (Fetched p) u = u.0.of_table
 pub missing-found : (rs qs : List ReplicaView) (x : ReplicaView) (i : ℕ) (a : Name) (f : Found) → qs ≡ rs → IsFoundFor qs x i f → f ≡ found.Missing a → IsMissing rs x i a
 missing-found rs qs x i a f e h q = subst (λ (l : List ReplicaView). IsMissing l x i a) e (subst (λ (g : Found). IsFoundFor qs x i g) q h)
 
+pub stopped-found : (rs qs : List ReplicaView) (x : ReplicaView) (i : ℕ) (f : Found) → qs ≡ rs → IsFoundFor qs x i f → f ≡ found.Stopped → IsStopped rs x i
+stopped-found rs qs x i f e h q = subst (λ (l : List ReplicaView). IsStopped l x i) e (subst (λ (g : Found). IsFoundFor qs x i g) q h)
+
 pub ready-found : (rs qs : List ReplicaView) (x : ReplicaView) (i : ℕ) (supply : Supply) (f : Found) → qs ≡ rs → IsFoundFor qs x i f → f ≡ found.Ready supply → Suits rs x i supply
 ready-found rs qs x i supply f e h q = subst (λ (l : List ReplicaView). Suits l x i supply) e (subst (λ (g : Found). IsFoundFor qs x i g) q h)
 
 pub apply-lacks : (s : StateView) (k i j : ℕ) (x : ReplicaView) (a : Name) → IsWorker s k j x → x.up ≡ true → i < length x.log → IsMissing s.replicas x i a → Acts s (ev.Apply k i) (rp.Refused (rf.NeedsPart a)) s
 apply-lacks s k i j x a w u l m = let e = entry-within x.log i l in apply-missing s k i j x a w u e.0 e.1 m
+
+pub apply-halts : (s : StateView) (k i j : ℕ) (x : ReplicaView) → IsWorker s k j x → x.up ≡ true → i < length x.log → IsStopped s.replicas x i → Acts s (ev.Apply k i) (rp.Refused rf.FetchesStopped) s
+apply-halts s k i j x w u l m = let e = entry-within x.log i l in apply-stopped s k i j x w u e.0 e.1 m
+
+-- where a fetched part is supplied, the replica may fetch
+may-fetch : (rs : List ReplicaView) (x : ReplicaView) (i : ℕ) (supply : Supply) → Suits rs x i supply → own.is_stopped x supply ≡ true → ⊥
+may-fetch rs x i Nothing u c = absurd (cc)
+may-fetch rs x i (Built p) u c = absurd (cc)
+may-fetch rs x i (Fetched p) u c = let f = ap not u.1 in absurd (let q = sym c ∙ f in cc)
 
 -- ---- told by the replica's call
 
@@ -215,7 +239,8 @@ pub apply-told : (s : StateView) (k j : ℕ) (x y : ReplicaView) (i : ℕ) (supp
 apply-told s k j x y i supply (Ok d) q w t u l f a c e =
     subst (λ (o : Result Reply AllocError). IfOk o (λ reply. Acts s (ev.Apply k i) reply (record s { replicas = slice_set s.replicas j y }))) (sym e) (apply-acts s k j x y i supply d w t u l f a c)
 apply-told s k j x y i supply (Err errors.Down) q w t u l f a c e = absurd (cc)
-apply-told s k j x y i supply (Err (errors.NeedsPart b)) q w t u l f a c e = absurd (a.3 (serves s.replicas x i b supply a.1 a.2 f))
+apply-told s k j x y i supply (Err errors.FetchesStopped) q w t u l f a c e = absurd (may-fetch s.replicas x i supply f a.2)
+apply-told s k j x y i supply (Err (errors.NeedsPart b)) q w t u l f a c e = absurd (a.4 (serves s.replicas x i b supply a.1 a.3 f))
 apply-told s k j x y i supply (Err errors.Memory) (Ok reply) w t u l f a c e = absurd (cc)
 apply-told s k j x y i supply (Err errors.Memory) (Err z) w t u l f a c e = tt
 

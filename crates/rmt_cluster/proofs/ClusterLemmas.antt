@@ -144,8 +144,12 @@ leaves s t (ev.Mutate k part upto) r m (inr d) = same-leaves s (ev.Mutate k part
 leaves s t (ev.Mutate k part upto) r m (inl d) =
     let a = d.appends.at in
     part-leaves s (ev.Mutate k part upto) t a.new s.replicas s.attempts a.change (given-same s.table a.new (ap (λ (u : Table). u.next) a.does.change)) (ap (λ (u : Table). u.schema) a.does.change) refl (λ x h. old s (ev.Mutate k part upto) x h)
-leaves s t (ev.Note k) r m d = absurd m
-leaves s t (ev.Fetches k allowed) r m d = absurd m
+leaves s t (ev.Note k) r m (inr (inl d)) = same-leaves s (ev.Note k) t d.unchanged
+leaves s t (ev.Note k) r m (inr (inr d)) = same-leaves s (ev.Note k) t d.unchanged
+leaves s t (ev.Note k) r m (inl d) =
+    part-leaves s (ev.Note k) t d.table (with_replica s.replicas k d.new) s.attempts d.change (given-same s.table d.table (ap (λ (u : Table). u.next) d.call)) (ap (λ (u : Table). u.schema) d.call) (length-with s.replicas k d.new) (λ x h. old s (ev.Note k) x h)
+leaves s t (ev.Fetches k allowed) r m d =
+    part-leaves s (ev.Fetches k allowed) t s.table (with_replica s.replicas k (record d.old { fetches = allowed })) s.attempts d.change (omega arith) refl (length-with s.replicas k (record d.old { fetches = allowed })) (λ x h. old s (ev.Fetches k allowed) x h)
 leaves s t (ev.CreateMutation command) r m (inr d) = same-leaves s (ev.CreateMutation command) t d.unchanged
 leaves s t (ev.CreateMutation command) r m (inl d) =
     part-leaves s (ev.CreateMutation command) t d.at.new s.replicas s.attempts d.at.change (let g = given-after s.table.next in let n = ap (λ (u : Table). numbers_given u.next) d.at.does.change in omega (arith, g, n)) (ap (λ (u : Table). u.schema) d.at.does.change) refl (λ x h. old s (ev.CreateMutation command) x h)
@@ -232,8 +236,8 @@ stopped s t a b events (ev.Abandon id) m c d = same-cluster s t a b events c d.a
 stopped s t a b events (ev.Apply k i) m c d = same-cluster s t a b events c d.attempts d.state
 stopped s t a b events (ev.Merge k sources) m c d = same-cluster s t a b events c d.attempts d.state
 stopped s t a b events (ev.Mutate k old upto) m c d = same-cluster s t a b events c d.attempts d.state
-stopped s t a b events (ev.Note k) m c d = absurd m
-stopped s t a b events (ev.Fetches k allowed) m c d = absurd m
+stopped s t a b events (ev.Note k) m c d = same-cluster s t a b events c d.attempts d.state
+stopped s t a b events (ev.Fetches k allowed) m c d = same-cluster s t a b events c d.attempts d.state
 stopped s t a b events (ev.CreateMutation command) m c d = same-cluster s t a b events c d.attempts d.state
 stopped s t a b events (ev.DropPartition p) m c d = same-cluster s t a b events c d.attempts d.state
 stopped s t a b events (ev.Kill k) m c d = same-cluster s t a b events c d.attempts d.state

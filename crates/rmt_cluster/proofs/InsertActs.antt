@@ -1,5 +1,5 @@
 -- What is done to a state and its attempts for an insert is what its event does.
-use Rattle.std.proofs.Common.{◌≡◌, ℕ, inl, inr, List, length, map, refl, sym, ap, subst, arith, ◌∙◌}
+use Rattle.std.proofs.Common.{◌≡◌, ℕ, inl, inr, List, length, map, refl, sym, ap, subst, ◌∙◌}
 use Rattle.std.specs.declared.option.Option.{Option}
 use Rattle.rmt_model.specs.Words.{Has}
 use Rattle.rmt_table_model.specs.Held.{Held}

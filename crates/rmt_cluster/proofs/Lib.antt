@@ -7,5 +7,6 @@ pub mod InsertActs
 pub mod NewClusterLemmas
 pub mod ClusterLemmas
 pub mod SyncLemmas
+pub mod NoteLemmas
 pub mod RunLemmas
 pub mod ReadingLemmas

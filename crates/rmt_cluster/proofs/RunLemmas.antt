@@ -1,5 +1,5 @@
 -- Turns of a generator at a cluster: each event is one that the cluster takes.
-use Rattle.std.proofs.Common.{◌≡◌, ℕ, zero, suc, ◌+◌, ◌%◌, ◌<◌, ◌≤◌, inl, inr, Bool, true, false, cond, List, [], ◌∷◌, length, map, refl, sym, ap, subst, arith, nat_eq, nat_le}
+use Rattle.std.proofs.Common.{◌≡◌, ℕ, zero, suc, ◌+◌, ◌%◌, ◌<◌, ◌≤◌, inl, inr, Bool, true, false, cond, not, ◌&&◌, ◌||◌, ◌∙◌, List, [], ◌∷◌, length, map, refl, sym, ap, subst, arith, nat_eq, nat_le}
 use Rattle.std.specs.Prelude.{slice_get, IfOk}
 use Rattle.std.proofs.lemmas.List.{length-append, length-map}
 use Rattle.std.specs.declared.option.Option.{Option}
@@ -17,7 +17,7 @@ use Rattle.rmt_replica.specs.Replicas.{ReplicaView}
 use Rattle.rmt_replica.specs.SeenReplica.{shown}
 use Rattle.rmt_events.specs.Views.{Replica}
 use Rattle.rmt_events.specs.Clusters.{Attempt, Cluster}
-use Rattle.rmt_events.specs.Draws.{Runs, stepped, drawn, pending, chosen, next_mutation, turn, turn_with, turn_at, apply_or_pull, merge_or_pull, mutate_or_pull}
+use Rattle.rmt_events.specs.Draws.{Runs, TurnsTo, NotesAfter, noting, covers_pending, stepped, drawn, pending, chosen, next_mutation, turn, turn_with, turn_at, apply_or_pull, merge_or_pull, mutate_or_pull}
 use Rattle.rmt_events.specs.declared.event.Event.{Event}
 use Rattle.rmt_events.specs.declared.event.Event.TheVariants as ev
 use Rattle.rmt_events.specs.declared.reply.Reply.{Reply}
@@ -25,7 +25,8 @@ use Rattle.rmt_draws.specs.Turns.{IsTurn}
 use Rattle.rmt_state.specs.States.{StateView, AreNumbered, IsState, cluster_of}
 use Rattle.rmt_state.specs.States.{IsNumber}
 use Rattle.rmt_cluster.specs.Clusters.{IsTaken, MayStep}
-use Rattle.rmt_cluster.specs.Runs.{TakesTurn}
+use Rattle.rmt_events.specs.Steps.{Step}
+use Rattle.rmt_cluster.specs.Runs.{TakesTurn, replica_applying}
 
 -- ---- copies of the log
 
@@ -138,4 +139,86 @@ drawn-may (Err e) x s m d = tt
 
 -- one more turn
 pub one-more : (s : Cluster) (seed n : ℕ) (mid : Cluster) (x : ℕ) (t : Cluster) (y : ℕ) → Runs s seed n mid x → TakesTurn mid x t y → Runs s seed (n + 1) t y
-one-more s seed n mid x t y r d = subst (λ m. Runs s seed m t y) (let q : suc n ≡ n + 1 = omega arith in q) (mid, x, d.reply, r, d.step, d.state)
+one-more s seed n mid x t y r d = subst (λ m. Runs s seed m t y) (let q : suc n ≡ n + 1 = omega arith in q) (mid, x, r, d.turns, d.state)
+
+-- ---- the note after an event
+
+pub noting-none : (s : Cluster) (e : Event) (t : Cluster) → replica_applying e ≡ None → noting s e t ≡ None
+noting-none s (ev.Apply k i) t q = absurd (cc)
+noting-none s (ev.Allocate k block need) t q = refl
+noting-none s (ev.Again id) t q = refl
+noting-none s (ev.Stage id) t q = refl
+noting-none s (ev.Commit id) t q = refl
+noting-none s (ev.Abandon id) t q = refl
+noting-none s (ev.Pull k) t q = refl
+noting-none s (ev.Merge k sources) t q = refl
+noting-none s (ev.Mutate k old upto) t q = refl
+noting-none s (ev.CreateMutation command) t q = refl
+noting-none s (ev.DropPartition p) t q = refl
+noting-none s (ev.Kill k) t q = refl
+noting-none s (ev.Restart k) t q = refl
+noting-none s (ev.Note k) t q = refl
+noting-none s (ev.Fetches k allowed) t q = refl
+
+pub noting-some : (s : Cluster) (e : Event) (t : Cluster) (k : ℕ) → replica_applying e ≡ Some k → noting s e t ≡ cond (not (covers_pending s k) && covers_pending t k) (Some k) None
+noting-some s (ev.Apply j i) t k q =
+    let e : j ≡ k = cc in
+    ap (λ m. cond (not (covers_pending s m) && covers_pending t m) (Some m) None) e
+noting-some s (ev.Allocate k block need) t m q = absurd (cc)
+noting-some s (ev.Again id) t m q = absurd (cc)
+noting-some s (ev.Stage id) t m q = absurd (cc)
+noting-some s (ev.Commit id) t m q = absurd (cc)
+noting-some s (ev.Abandon id) t m q = absurd (cc)
+noting-some s (ev.Pull k) t m q = absurd (cc)
+noting-some s (ev.Merge k sources) t m q = absurd (cc)
+noting-some s (ev.Mutate k old upto) t m q = absurd (cc)
+noting-some s (ev.CreateMutation command) t m q = absurd (cc)
+noting-some s (ev.DropPartition p) t m q = absurd (cc)
+noting-some s (ev.Kill k) t m q = absurd (cc)
+noting-some s (ev.Restart k) t m q = absurd (cc)
+noting-some s (ev.Note k) t m q = absurd (cc)
+noting-some s (ev.Fetches k allowed) t m q = absurd (cc)
+
+pub applying-here : (s : Cluster) (e : Event) (k : ℕ) → MayStep s e → replica_applying e ≡ Some k → IsNumber k (length s.replicas)
+applying-here s (ev.Apply j i) k h q = let e : j ≡ k = cc in subst (λ m. IsNumber m (length s.replicas)) e h
+applying-here s (ev.Allocate k block need) m h q = absurd (cc)
+applying-here s (ev.Again id) m h q = absurd (cc)
+applying-here s (ev.Stage id) m h q = absurd (cc)
+applying-here s (ev.Commit id) m h q = absurd (cc)
+applying-here s (ev.Abandon id) m h q = absurd (cc)
+applying-here s (ev.Pull k) m h q = absurd (cc)
+applying-here s (ev.Merge k sources) m h q = absurd (cc)
+applying-here s (ev.Mutate k old upto) m h q = absurd (cc)
+applying-here s (ev.CreateMutation command) m h q = absurd (cc)
+applying-here s (ev.DropPartition p) m h q = absurd (cc)
+applying-here s (ev.Kill k) m h q = absurd (cc)
+applying-here s (ev.Restart k) m h q = absurd (cc)
+applying-here s (ev.Note k) m h q = absurd (cc)
+applying-here s (ev.Fetches k allowed) m h q = absurd (cc)
+
+-- an event that isn't followed by a note
+pub turned : (s : Cluster) (e : Event) (reply : Reply) (t : Cluster) → Step s e reply t → noting s e t ≡ None → TurnsTo s e t
+turned s e reply t g q = record { mid = t; reply = reply; step = g; notes = subst (λ (o : Option ℕ). NotesAfter o t t) (sym q) refl }
+
+-- no note comes where the replica had the part before, or hasn't got it now
+pub no-note : (s : Cluster) (e : Event) (t : Cluster) (k : ℕ) (had has : Bool) → replica_applying e ≡ Some k → had ≡ covers_pending s k → has ≡ covers_pending t k → (had || not has) ≡ true → noting s e t ≡ None
+no-note s e t k had has q h g c =
+    noting-some s e t k q ∙ (ap (λ (v : Bool). cond (not v && covers_pending t k) (Some k) None) (sym h) ∙ (ap (λ (v : Bool). cond (not had && v) (Some k) None) (sym g) ∙ go had has c))
+  where
+    go : (u v : Bool) → (u || not v) ≡ true → cond (not u && v) (Some k) None ≡ None
+    go true v c = refl
+    go false true c = absurd (cc)
+    go false false c = refl
+
+-- the replica has got the part
+pub a-note : (s : Cluster) (e : Event) (t : Cluster) (k : ℕ) (had has : Bool) → replica_applying e ≡ Some k → had ≡ covers_pending s k → has ≡ covers_pending t k → (had || not has) ≡ false → noting s e t ≡ Some k
+a-note s e t k had has q h g c =
+    noting-some s e t k q ∙ (ap (λ (v : Bool). cond (not v && covers_pending t k) (Some k) None) (sym h) ∙ (ap (λ (v : Bool). cond (not had && v) (Some k) None) (sym g) ∙ go had has c))
+  where
+    go : (u v : Bool) → (u || not v) ≡ false → cond (not u && v) (Some k) None ≡ Some k
+    go true v c = absurd (cc)
+    go false true c = refl
+    go false false c = absurd (cc)
+
+pub noted-after : (s : Cluster) (e : Event) (reply : Reply) (m : Cluster) (k : ℕ) (answer : Reply) (t : Cluster) → Step s e reply m → noting s e m ≡ Some k → Step m (ev.Note k) answer t → TurnsTo s e t
+noted-after s e reply m k answer t g q n = record { mid = m; reply = reply; step = g; notes = subst (λ (o : Option ℕ). NotesAfter o m t) (sym q) (answer, n) }

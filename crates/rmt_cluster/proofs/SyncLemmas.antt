@@ -1,5 +1,5 @@
 -- A replica that is brought to the whole log.
-use Rattle.std.proofs.Common.{◌≡◌, ◌⊎◌, ℕ, zero, suc, ◌+◌, ◌<◌, ◌≤◌, inl, inr, Bool, true, false, cond, List, [], ◌∷◌, ◌++◌, length, refl, sym, ap, subst, ◌∙◌, arith, nat_eq, slice_set}
+use Rattle.std.proofs.Common.{◌≡◌, ◌⊎◌, ℕ, zero, suc, ◌+◌, ◌<◌, ◌≤◌, inl, inr, Bool, true, false, cond, List, [], ◌∷◌, length, refl, sym, ap, subst, ◌∙◌, arith, nat_eq, slice_set}
 use Rattle.std.proofs.lemmas.Bool.Decides.{nat_tests}
 use Rattle.std.specs.Prelude.{is_err, max, IfOk, IfSome, OnErr, MatchResult}
 use Rattle.std.specs.declared.alloc.AllocError.{AllocError}
@@ -35,13 +35,13 @@ use Rattle.rmt_events.proofs.Moves.{has-with}
 use Rattle.rmt_events.proofs.WholeSteps.{whole-step}
 use Rattle.rmt_events.proofs.WholeTries.{one-replica}
 use Rattle.rmt_events.proofs.Drains.{merge-ready, mutate-ready, get-ready}
-use Rattle.rmt_cluster.specs.Syncs.{IsPendingAt, AreApplied, Syncs, HasDone, LacksSource, EndsLacking, IsRefused, StopsEarly, SyncsTo, SourcesAreUp, IsDoneOrStopped, IsNext, IsNextDone, IsNextEntry, PullsAll, PullsFor, DoesEntry, CantDo, DoesNext, missing, pulled, source_of}
+use Rattle.rmt_cluster.specs.Syncs.{IsPendingAt, AreApplied, Drains, HasDone, LacksSource, IsRefused, DrainsTo, MayFetchAt, SourcesAreUp, IsDoneOrStopped, IsNext, IsNextDone, IsNextEntry, PullsAll, PullsFor, DoesEntry, CantDo, DoesNext, missing, pulled, source_of}
 use Rattle.rmt_cluster.specs.declared.sync_error.SyncError.{SyncError}
 use Rattle.rmt_cluster.specs.declared.sync_error.SyncError.TheVariants as errors
 
 -- ---- replicas
 
-has-set : (xs : List Replica) (k : ℕ) (x y : Replica) → Has xs x → x.number ≡ k → Has (with_replica xs k y) y
+pub has-set : (xs : List Replica) (k : ℕ) (x y : Replica) → Has xs x → x.number ≡ k → Has (with_replica xs k y) y
 has-set [] k x y h n = absurd h
 has-set (z ∷ xs) k x y h n = go (nat_eq z.number k) refl h (λ i. has-set xs k x y i n)
   where
@@ -51,10 +51,10 @@ has-set (z ∷ xs) k x y h n = go (nat_eq z.number k) refl h (λ i. has-set xs k
     go false e (inr i) f = inr (f i)
 
 -- two replicas of one number are one
-one-up : (s : Cluster) (k : ℕ) (x y : Replica) → IsWhole s → IsNumbered s k x → IsNumbered s k y → x ≡ y
+pub one-up : (s : Cluster) (k : ℕ) (x y : Replica) → IsWhole s → IsNumbered s k x → IsNumbered s k y → x ≡ y
 one-up s k x y w a b = one-replica s x y w a.is_in b.is_in (a.number ∙ sym b.number)
 
-up-not-down : (s : Cluster) (k : ℕ) (x : Replica) → IsWhole s → IsUp s k x → IsDown s k → ⊥
+pub up-not-down : (s : Cluster) (k : ℕ) (x : Replica) → IsWhole s → IsUp s k x → IsDown s k → ⊥
 up-not-down s k x w u d = let q = one-up s k x d.replica w u.at d.at in let p = ap (λ (z : Replica). z.up) q in let e = u.up in let f = d.down in absurd (cc)
 
 -- ---- the pull
@@ -97,8 +97,8 @@ pull-why s k rf.NotStaged c = absurd c
 pull-why s k rf.LockHeld c = absurd c
 pull-why s k rf.NotLive c = absurd c
 
-pull-done : (s t : Cluster) (k : ℕ) (reply : Reply) → IsWhole s → Step s (ev.Pull k) reply t → pulled reply ≡ true → PullsAll s k t
-pull-done s t k reply w g e = record { reply = reply; pulls = g; whole = whole-step s t (ev.Pull k) reply w g; done = go g.does }
+pull-done : (s t : Cluster) (k : ℕ) (reply : Reply) → IsWhole s → MayFetchAt s k → Step s (ev.Pull k) reply t → pulled reply ≡ true → PullsAll s k t
+pull-done s t k reply w f g e = record { reply = reply; pulls = g; whole = whole-step s t (ev.Pull k) reply w g; done = go g.does }
   where
     go : PullsLog s k reply g.after ⊎ Declines s (NoPull s k) reply g.after → HasDone t k 0
     go (inr d) = absurd (let q = sym e ∙ ap pulled d.answer in cc)
@@ -109,6 +109,7 @@ pull-done s t k reply w g e = record { reply = reply; pulls = g; whole = whole-s
         subst (λ (z : Cluster). HasDone z k 0) (sym c) (record {
           replica = y;
           is = record { at = record { is_in = has-set s.replicas k p.at.old y p.at.at.is_in p.at.at.number; number = ap (λ (z : Replica). z.number) m ∙ p.at.at.number }; up = ap (λ (z : Replica). z.up) m ∙ p.at.up };
+          allowed = ap (λ (z : Replica). z.fetches) m ∙ f p.at.old (record { at = p.at.at; up = p.at.up });
           whole = ap (λ (z : Replica). z.log) m;
           done = λ j l. absurd (omega (arith, l));
         })
@@ -129,17 +130,18 @@ pull-down s t k reply g e = go g.does
 record IsMarked (x : Replica) (i : ℕ) (y : Replica) : Type 0 where
   pub number : y.number ≡ x.number
   pub up : y.up ≡ x.up
+  pub fetches : y.fetches ≡ x.fetches
   pub log : y.log ≡ x.log
   pub done : y.done ≡ slice_set x.done i true
 
-marked-by : (x y z : Replica) (i : ℕ) → y ≡ z → z.number ≡ x.number → z.up ≡ x.up → z.log ≡ x.log → z.done ≡ slice_set x.done i true → IsMarked x i y
-marked-by x y z i e a b c d = subst (IsMarked x i) (sym e) (record { number = a; up = b; log = c; done = d })
+marked-by : (x y z : Replica) (i : ℕ) → y ≡ z → z.number ≡ x.number → z.up ≡ x.up → z.fetches ≡ x.fetches → z.log ≡ x.log → z.done ≡ slice_set x.done i true → IsMarked x i y
+marked-by x y z i e a b f c d = subst (IsMarked x i) (sym e) (record { number = a; up = b; fetches = f; log = c; done = d })
 
 marked : (s : Cluster) (i : ℕ) (c : Applied) (x y : Replica) → AppliesTo s i c x y → IsMarked x i y
-marked s i came.Already x y a = marked-by x y (with_entry_done x i) i a.1.change refl refl refl refl
-marked s i came.Dropped x y a = marked-by x y (with_entry_done x i) i a.1.change refl refl refl refl
-marked s i came.Installed x y (inl a) = marked-by x y _ i a.1.change refl refl refl refl
-marked s i came.Installed x y (inr a) = marked-by x y _ i a.does.change refl refl refl refl
+marked s i came.Already x y a = marked-by x y (with_entry_done x i) i a.1.change refl refl refl refl refl
+marked s i came.Dropped x y a = marked-by x y (with_entry_done x i) i a.1.change refl refl refl refl refl
+marked s i came.Installed x y (inl a) = marked-by x y _ i a.1.change refl refl refl refl refl
+marked s i came.Installed x y (inr a) = marked-by x y _ i a.does.change refl refl refl refl refl
 
 set-done : (xs : List Bool) (i j : ℕ) → i < length xs → ((m : ℕ) → m < i → done_at xs m ≡ true) → j < i + 1 → done_at (slice_set xs i true) j ≡ true
 set-done [] i j l f g = absurd (omega (arith, l))
@@ -185,14 +187,14 @@ apply-cause s k i x rf.NotStaged w u l f c = absurd c
 apply-cause s k i x rf.LockHeld w u l f c = absurd c
 apply-cause s k i x rf.NotLive w u l f c = let q = ap (λ (z : Replica). length z.log) (one-up s k x c.0 w u.at (IsUp.at c.1)) in let m = c.2 in absurd (omega (arith, q, m, l))
 
-apply-done : (s t : Cluster) (k i : ℕ) (x : Replica) (reply : Reply) → IsWhole s → IsNumbered s k x → x.fetches ≡ true → HasDone s k i → i < length s.table.log → Step s (ev.Apply k i) reply t → missing reply ≡ None → DoesEntry s k i t
-apply-done s t k i x reply w n f h l g m = go g.does
+apply-done : (s t : Cluster) (k i : ℕ) (x : Replica) (reply : Reply) → IsWhole s → IsNumbered s k x → HasDone s k i → i < length s.table.log → Step s (ev.Apply k i) reply t → missing reply ≡ None → DoesEntry s k i t
+apply-done s t k i x reply w n h l g m = go g.does
   where
     go : Applies s k i reply g.after ⊎ Declines s (NoApply s k i) reply g.after → DoesEntry s k i t
     go (inr d) =
         let u = h.is in
         let p = one-up s k x h.replica w n u.at in
-        let c = apply-cause s k i h.replica d.why w u (subst (λ (z : List Entry). i < length z) (sym h.whole) l) (ap (λ (z : Replica). z.fetches) (sym p) ∙ f) d.cause in
+        let c = apply-cause s k i h.replica d.why w u (subst (λ (z : List Entry). i < length z) (sym h.whole) l) h.allowed d.cause in
         absurd (missing-none reply d.why c.0 m (d.answer ∙ ap rp.Refused c.1))
     go (inl a) =
         let c : t ≡ record (cluster_with s k a.at.new) { events = (ev.Apply k i, reply) ∷ g.after.events } = g.stored ∙ ap (λ (z : Cluster). record z { events = (ev.Apply k i, reply) ∷ g.after.events }) a.at.change in
@@ -209,6 +211,7 @@ apply-done s t k i x reply w n f h l g m = go g.does
           done = record {
             replica = y;
             is = record { at = after; up = m.up ∙ a.at.up };
+            allowed = m.fetches ∙ subst (λ (z : Replica). z.fetches ≡ true) q h.allowed;
             whole = m.log ∙ (whole ∙ sym (ap (λ (z : Cluster). z.table.log) c));
             done = λ j b. subst (λ (z : List Bool). done_at z j ≡ true) (sym m.done) (set-done a.at.old.done i j within (λ o p. subst (λ (z : Replica). done_at z.done o ≡ true) q (h.done o p)) b);
           };
@@ -272,16 +275,16 @@ lacks-stored s k a source events l =
       number = l.number;
       need = l.need;
       digest = l.digest;
-      before = record { replica = h.replica; is = record { at = record { is_in = h.is.at.is_in; number = h.is.at.number }; up = h.is.up }; whole = h.whole; done = h.done };
+      before = record { replica = h.replica; is = record { at = record { is_in = h.is.at.is_in; number = h.is.at.number }; up = h.is.up }; allowed = h.allowed; whole = h.whole; done = h.done };
       waits = record { is = record { at = record { is_in = l.waits.is.at.is_in; number = l.waits.is.at.number }; up = l.waits.is.up }; waits = l.waits.waits; at = l.waits.at };
       lacks = (l.lacks.0, l.lacks.1, λ y o. l.lacks.2 y (record { is_in = o.is_in; up = o.up; other = o.other }));
       down = record { replica = l.down.replica; at = record { is_in = l.down.at.is_in; number = l.down.at.number }; down = l.down.down };
     }
 
-apply-lacks : (s t : Cluster) (k i : ℕ) (x : Replica) (reply : Reply) (a : Name) (source : ℕ) → IsWhole s → IsNumbered s k x → x.fetches ≡ true → HasDone s k i → i < length s.table.log → Step s (ev.Apply k i) reply t → missing reply ≡ Some a
+apply-lacks : (s t : Cluster) (k i : ℕ) (x : Replica) (reply : Reply) (a : Name) (source : ℕ) → IsWhole s → IsNumbered s k x → HasDone s k i → i < length s.table.log → Step s (ev.Apply k i) reply t → missing reply ≡ Some a
     → ((e : Entry) → entry_at x.log i ≡ Some e → source ≡ source_of e) → CantDo s k i a source t
 unfolding lacks-stored lacks-source
-apply-lacks s t k i x reply a source w n f h l g m told = go g.does
+apply-lacks s t k i x reply a source w n h l g m told = go g.does
   where
     one-name : (b c : Name) → ◌≡◌ {A = Option Name} (Some b) (Some c) → b ≡ c
     one-name b c e = cc
@@ -291,7 +294,7 @@ apply-lacks s t k i x reply a source w n f h l g m told = go g.does
     go (inr d) =
         let u = h.is in
         let p = one-up s k x h.replica w n u.at in
-        let c = apply-cause s k i h.replica d.why w u (subst (λ (z : List Entry). i < length z) (sym h.whole) l) (ap (λ (z : Replica). z.fetches) (sym p) ∙ f) d.cause in
+        let c = apply-cause s k i h.replica d.why w u (subst (λ (z : List Entry). i < length z) (sym h.whole) l) h.allowed d.cause in
         let b : c.0 ≡ a = one-name c.0 a (sym (ap missing (d.answer ∙ ap rp.Refused c.1)) ∙ m) in
         let k1 = lacks-source s k i h c.2 c.0 w c.3 c.4 in
         let o : source_of c.2 ≡ source = sym (told c.2 (subst (λ (z : Replica). entry_at z.log i ≡ Some c.2) (sym p) (WaitsAt.at c.3))) in
@@ -304,29 +307,29 @@ apply-lacks s t k i x reply a source w n f h l g m told = go g.does
 
 -- ---- told by the step's call
 
-pub pulled-told : (s t : Cluster) (k : ℕ) (q : Result Reply AllocError) (b : Bool) → IsWhole s → is_err q ≡ false → IfOk q (λ reply. Step s (ev.Pull k) reply t) → MatchResult q (λ r. b ≡ pulled r) (λ e. b ≡ false) → b ≡ true → PullsAll s k t
-pulled-told s t k (Ok reply) b w e g m h = pull-done s t k reply w g (sym m ∙ h)
-pulled-told s t k (Err z) b w e g m h = absurd (cc)
+pub pulled-told : (s t : Cluster) (k : ℕ) (q : Result Reply AllocError) (b : Bool) → IsWhole s → MayFetchAt s k → is_err q ≡ false → IfOk q (λ reply. Step s (ev.Pull k) reply t) → MatchResult q (λ r. b ≡ pulled r) (λ e. b ≡ false) → b ≡ true → PullsAll s k t
+pulled-told s t k (Ok reply) b w f e g m h = pull-done s t k reply w f g (sym m ∙ h)
+pulled-told s t k (Err z) b w f e g m h = absurd (cc)
 
 pub down-told : (s t : Cluster) (k : ℕ) (q : Result Reply AllocError) (b : Bool) → is_err q ≡ false → IfOk q (λ reply. Step s (ev.Pull k) reply t) → MatchResult q (λ r. b ≡ pulled r) (λ e. b ≡ false) → b ≡ false → IsRefused s k t
 down-told s t k (Ok reply) b e g m h = pull-down s t k reply g (sym m ∙ h)
 down-told s t k (Err z) b e g m h = absurd (cc)
 
 pub done-told : (s t : Cluster) (k i : ℕ) (x : Replica) (q : Result Reply AllocError) (o : Option Name) → is_err q ≡ false → IfOk q (λ reply. Step s (ev.Apply k i) reply t) → MatchResult q (λ r. o ≡ missing r) (λ e. o ≡ None) → o ≡ None
-    → IsWhole s → IsNumbered s k x → x.fetches ≡ true → HasDone s k i → i < length s.table.log → DoesEntry s k i t
-done-told s t k i x (Ok reply) o e g m h w n f d l = apply-done s t k i x reply w n f d l g (sym m ∙ h)
-done-told s t k i x (Err z) o e g m h w n f d l = absurd (cc)
+    → IsWhole s → IsNumbered s k x → HasDone s k i → i < length s.table.log → DoesEntry s k i t
+done-told s t k i x (Ok reply) o e g m h w n d l = apply-done s t k i x reply w n d l g (sym m ∙ h)
+done-told s t k i x (Err z) o e g m h w n d l = absurd (cc)
 
 pub lacks-told : (s t : Cluster) (k i source : ℕ) (x : Replica) (q : Result Reply AllocError) (o : Option Name) (a : Name) → is_err q ≡ false → IfOk q (λ reply. Step s (ev.Apply k i) reply t) → MatchResult q (λ r. o ≡ missing r) (λ e. o ≡ None) → o ≡ Some a
-    → IsWhole s → IsNumbered s k x → x.fetches ≡ true → HasDone s k i → i < length s.table.log → ((e : Entry) → entry_at x.log i ≡ Some e → source ≡ source_of e) → CantDo s k i a source t
-lacks-told s t k i source x (Ok reply) o a e g m h w n f d l told = apply-lacks s t k i x reply a source w n f d l g (sym m ∙ h) told
-lacks-told s t k i source x (Err z) o a e g m h w n f d l told = absurd (cc)
+    → IsWhole s → IsNumbered s k x → HasDone s k i → i < length s.table.log → ((e : Entry) → entry_at x.log i ≡ Some e → source ≡ source_of e) → CantDo s k i a source t
+lacks-told s t k i source x (Ok reply) o a e g m h w n d l told = apply-lacks s t k i x reply a source w n d l g (sym m ∙ h) told
+lacks-told s t k i source x (Err z) o a e g m h w n d l told = absurd (cc)
 
 -- ---- from entry to entry
 
 -- a replica that has done all below a place, and passed over what was done from there on
 pub passed-on : (s : Cluster) (k from i : ℕ) (x : Replica) → IsWhole s → IsNumbered s k x → HasDone s k from → ((j : ℕ) → from ≤ j → j < i → done_at x.done j ≡ true) → HasDone s k i
-passed-on s k from i x w n h p = record { replica = h.replica; is = h.is; whole = h.whole; done = λ j l. go j l (before j) }
+passed-on s k from i x w n h p = record { replica = h.replica; is = h.is; allowed = h.allowed; whole = h.whole; done = λ j l. go j l (before j) }
   where
     q : x ≡ h.replica
     q = one-up s k x h.replica w n (IsUp.at h.is)
@@ -448,7 +451,7 @@ syncing-begins s t k w p m n = record {
 }
 
 -- a sync whose last event was of the entry at a place
-syncs-to : (s t u : Cluster) (k from i : ℕ) (reply : Reply) → (f : IsSyncing s k from t) → IsNextDone t k from i → Step t (ev.Apply k i) reply u → (y : Syncs s k u) × IsPendingAt y.pulled k i × AreApplied f.pulled k (i + 1) ((ev.Apply k i, reply) ∷ f.events)
+syncs-to : (s t u : Cluster) (k from i : ℕ) (reply : Reply) → (f : IsSyncing s k from t) → IsNextDone t k from i → Step t (ev.Apply k i) reply u → (y : Drains s k u) × IsPendingAt y.pulled k i × AreApplied f.pulled k (i + 1) ((ev.Apply k i, reply) ∷ f.events)
 syncs-to s t u k from i reply f d g =
     let pending : IsPendingAt f.pulled k i = record { replica = f.first; at = f.at; pending = sym (f.kept d.done.replica d.done.is.at i d.from_on) ∙ d.pending } in
     let earlier = applied-below f.pulled k from i f.events d.from_on f.applied in
@@ -466,24 +469,26 @@ syncs-to s t u k from i reply f d g =
     )
 
 -- so far
-syncs-now : (s t : Cluster) (k from : ℕ) → IsSyncing s k from t → Syncs s k t
+syncs-now : (s t : Cluster) (k from : ℕ) → IsSyncing s k from t → Drains s k t
 syncs-now s t k from f = record { pulled = f.pulled; reply = f.reply; pulls = f.pulls; events = f.events; made = f.made; applied = applied-below f.pulled k from (length f.pulled.table.log) f.events f.within f.applied }
 
 -- a sync that did all
-pub sync-done : (s t : Cluster) (k from : ℕ) → IsSyncing s k from t → HasDone t k (length t.table.log) → Syncs s k t × HasDone t k (length t.table.log)
+pub sync-done : (s t : Cluster) (k from : ℕ) → IsSyncing s k from t → HasDone t k (length t.table.log) → Drains s k t × HasDone t k (length t.table.log)
 sync-done s t k from f d = (syncs-now s t k from f, d)
 
 -- a sync that stopped at an entry
-pub sync-stopped : (s t u : Cluster) (k from i : ℕ) (e : SyncError) → IsSyncing s k from t → IsNextDone t k from i → DoesNext t k i (Err e) u → SyncsTo s k (Err e) u
+pub sync-stopped : (s t u : Cluster) (k from i : ℕ) (e : SyncError) → IsSyncing s k from t → IsNextDone t k from i → DoesNext t k i (Err e) u → DrainsTo s k (Err e) u
 sync-stopped s t u k from i errors.ReplicaDown f n d = absurd d
+sync-stopped s t u k from i errors.FetchesStopped f n d = absurd d
 sync-stopped s t u k from i (errors.NoSource part source) f n d =
     let y = syncs-to s t u k from i d.reply f n d.step in
-    record { syncs = y.0; source_lost = d.source_lost; pending = subst (λ j. IsPendingAt (y.0).pulled k j) (sym d.there) y.1 }
-sync-stopped s t u k from i errors.Memory f n d = inr (record { mid = t; entry = i; syncs = syncs-now s t k from f; stops = d })
+    record { drains = y.0; source_lost = d.source_lost; pending = subst (λ j. IsPendingAt (y.0).pulled k j) (sym d.there) y.1 }
+sync-stopped s t u k from i errors.Memory f n d = inr (record { mid = t; entry = i; drains = syncs-now s t k from f; stops = d })
 
 -- a sync that stopped at its pull
-pub pull-stopped : (s t : Cluster) (k : ℕ) (e : SyncError) → PullsFor s k (Err e) t → SyncsTo s k (Err e) t
+pub pull-stopped : (s t : Cluster) (k : ℕ) (e : SyncError) → PullsFor s k (Err e) t → DrainsTo s k (Err e) t
 pull-stopped s t k errors.ReplicaDown d = d
+pull-stopped s t k errors.FetchesStopped d = absurd d
 pull-stopped s t k (errors.NoSource part source) d = absurd d
 pull-stopped s t k errors.Memory d = inl d
 
@@ -562,10 +567,11 @@ pulled-log s u k reply g = ap (λ (z : Cluster). z.table.log) g.stored ∙ go g.
     go (inr p) = ap (λ (z : Cluster). z.table.log) p.unchanged
 
 -- a replica that is up lacks no part where all sources are up
-pub none-lost : (s t : Cluster) (k : ℕ) (e : SyncError) → IsWhole s → SyncsTo s k (Err e) t → (x : Replica) → IsUp s k x → SourcesAreUp s → IsDoneOrStopped (Err e)
+pub none-lost : (s t : Cluster) (k : ℕ) (e : SyncError) → IsWhole s → DrainsTo s k (Err e) t → (x : Replica) → IsUp s k x → SourcesAreUp s → IsDoneOrStopped (Err e)
 none-lost s t k errors.ReplicaDown w d x u f = absurd (up-not-down s k x w u d.down)
+none-lost s t k errors.FetchesStopped w d x u f = absurd d
 none-lost s t k (errors.NoSource part source) w d x u f =
-    let y = d.syncs in
+    let y = d.drains in
     let l = d.source_lost in
     let a = after-applied y.pulled t k (length y.pulled.table.log) source y.events y.pulled y.made y.applied in
     let e = l.before.whole ∙ (a.0 ∙ pulled-log s y.pulled k y.reply y.pulls) in

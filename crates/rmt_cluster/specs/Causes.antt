@@ -28,6 +28,7 @@ is_final (commit.LimitReached limit value) = true
 -- why an entry wasn't done
 abbrev pub apply_cause : ApplyError → Option StepRefused
 apply_cause apply.Down = Some rf.Down
+apply_cause apply.FetchesStopped = Some rf.FetchesStopped
 apply_cause (apply.NeedsPart part) = Some (rf.NeedsPart part)
 apply_cause apply.Memory = None
 

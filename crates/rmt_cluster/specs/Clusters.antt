@@ -1,9 +1,8 @@
 -- A cluster: what always holds of it, and which events it takes.
 -- No public source: this program's own.
-use Rattle.std.specs.Prelude.{◌≡◌, ◌≢◌, ◌⊎◌, ℕ, ◌+◌, ◌≤◌, true, List, [], ◌∷◌, length}
+use Rattle.std.specs.Prelude.{◌≡◌, ◌≢◌, ◌⊎◌, ℕ, ◌≤◌, true, List, length}
 use Rattle.std.specs.List.{All}
 use Rattle.std.specs.Arc.{arc_value}
-use Rattle.std.specs.declared.option.Option.{Option}
 use Rattle.rmt_values.specs.Rows.{Shape, fits}
 use Rattle.rmt_values.specs.Commands.{CommandFits}
 use Rattle.rmt_entries.specs.declared.entry.Entry.{Entry}
@@ -24,8 +23,7 @@ use Rattle.rmt_cluster.specs.Attempts.{OpenAttempts}
 use Rattle.rmt_cluster.specs.Acting.{AreSame}
 
 -- the event is one that a table of this schema with so many replicas takes: its replica is there, its block's rows fit the
--- table's columns, it asks for no quorum or for one of two replicas and more, its command is one of the schema. A note, and an
--- event that stops fetches, aren't among them yet
+-- table's columns, it asks for no quorum or for one of two replicas and more, its command is one of the schema
 abbrev pub IsTaken : Shape → ℕ → Event → Type 0
 IsTaken schema count (ev.Allocate k b need) = IsNumber k count × (need ≢ 1) × All (λ row. fits schema.columns row ≡ true) (arc_value b).rows
 IsTaken schema count (ev.Again id) = Unit {0}
@@ -40,8 +38,8 @@ IsTaken schema count (ev.CreateMutation command) = CommandFits schema command ×
 IsTaken schema count (ev.DropPartition p) = Unit {0}
 IsTaken schema count (ev.Kill k) = IsNumber k count
 IsTaken schema count (ev.Restart k) = IsNumber k count
-IsTaken schema count (ev.Note k) = ⊥
-IsTaken schema count (ev.Fetches k allowed) = ⊥
+IsTaken schema count (ev.Note k) = IsNumber k count
+IsTaken schema count (ev.Fetches k allowed) = IsNumber k count
 
 -- the cluster takes the event
 abbrev pub MayStep : Cluster → Event → Type 0

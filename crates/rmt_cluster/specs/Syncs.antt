@@ -10,6 +10,7 @@ use Rattle.rmt_names.specs.Names.{Name}
 use Rattle.rmt_entries.specs.declared.entry.Entry.{Entry}
 use Rattle.rmt_entries.specs.declared.entry.Entry.TheVariants.{Get}
 use Rattle.rmt_model.specs.Lawful.{entry_at}
+use Rattle.rmt_model.specs.Quorum.{quorum_after_note}
 use Rattle.rmt_queue.specs.Marks.{done_at}
 use Rattle.rmt_events.specs.Views.{Replica}
 use Rattle.rmt_events.specs.Clusters.{Cluster}
@@ -40,7 +41,7 @@ AreApplied s k below ((ev.Apply r i, reply) ∷ earlier) = (r ≡ k) × (i < bel
 AreApplied s k below (x ∷ earlier) = ⊥
 
 -- the replica pulled, once, and then looked at entries that were pending after the pull, each at most once
-pub record Syncs (s : Cluster) (k : ℕ) (t : Cluster) : Type 0 where
+pub record Drains (s : Cluster) (k : ℕ) (t : Cluster) : Type 0 where
   pub pulled : Cluster
   pub reply : Reply
   pub pulls : Step s (ev.Pull k) reply pulled
@@ -48,10 +49,18 @@ pub record Syncs (s : Cluster) (k : ℕ) (t : Cluster) : Type 0 where
   pub made : After pulled events t
   pub applied : AreApplied pulled k (length pulled.table.log) events
 
--- the replica is up, has the whole log, and has done all entries below a place
+-- it did so, and then noted the part that waits for its quorum, or found nothing to note
+pub record Syncs (s : Cluster) (k : ℕ) (t : Cluster) : Type 0 where
+  pub drained : Cluster
+  pub drains : Drains s k drained
+  pub reply : Reply
+  pub notes : Step drained (ev.Note k) reply t
+
+-- the replica is up and may fetch, has the whole log, and has done all entries below a place
 pub record HasDone (s : Cluster) (k i : ℕ) : Type 0 where
   pub replica : Replica
   pub is : IsUp s k replica
+  pub allowed : replica.fetches ≡ true
   pub whole : replica.log ≡ s.table.log
   pub done : (j : ℕ) → j < i → done_at replica.done j ≡ true
 
@@ -70,28 +79,54 @@ pub record LacksSource (s : Cluster) (k : ℕ) (a : Name) (source : ℕ) : Type 
 
 -- a sync ended at the first entry whose part the replica lacks; the entry was pending after the pull
 pub record EndsLacking (s : Cluster) (k : ℕ) (a : Name) (source : ℕ) (t : Cluster) : Type 0 where
-  pub syncs : Syncs s k t
+  pub drains : Drains s k t
   pub source_lost : LacksSource t k a source
-  pub pending : IsPendingAt syncs.pulled k source_lost.place
+  pub pending : IsPendingAt drains.pulled k source_lost.place
 
 -- the pull is refused, since the replica is down
 pub record IsRefused (s : Cluster) (k : ℕ) (t : Cluster) : Type 0 where
   pub down : IsDown s k
   pub refused : Step s (ev.Pull k) (rp.Refused rf.Down) t
 
--- no memory was left for the pull, or for an entry
+-- the replica is up, and its fetches are stopped
+pub record IsStopped (s : Cluster) (k : ℕ) : Type 0 where
+  pub replica : Replica
+  pub is : IsUp s k replica
+  pub stopped : replica.fetches ≡ false
+
+-- no memory was left for an entry
 pub record StopsEarly (s : Cluster) (k : ℕ) (t : Cluster) : Type 0 where
   pub mid : Cluster
   pub entry : ℕ
-  pub syncs : Syncs s k mid
+  pub drains : Drains s k mid
   pub stops : Stops mid (ev.Apply k entry) t
 
--- what a sync came to
+-- no memory was left for the note, and all entries are done
+pub record StopsLast (s : Cluster) (k : ℕ) (t : Cluster) : Type 0 where
+  pub mid : Cluster
+  pub drains : Drains s k mid
+  pub done : HasDone mid k (length mid.table.log)
+  pub stops : Stops mid (ev.Note k) t
+
+-- what the pull and the entries of a sync came to
+abbrev pub DrainsTo : Cluster → ℕ → Result (Unit {0}) SyncError → Cluster → Type 0
+DrainsTo s k (Ok u) t = Drains s k t × HasDone t k (length t.table.log)
+DrainsTo s k (Err errors.ReplicaDown) t = IsRefused s k t
+DrainsTo s k (Err errors.FetchesStopped) t = ⊥
+DrainsTo s k (Err (errors.NoSource part source)) t = EndsLacking s k part source t
+DrainsTo s k (Err errors.Memory) t = Stops s (ev.Pull k) t ⊎ StopsEarly s k t
+
+-- a part that waited for its quorum before is noted by the replica
+abbrev pub IsNotedBy : Cluster → ℕ → Cluster → Type 0
+IsNotedBy s k t = t.table ≡ record s.table { quorum = quorum_after_note k s.table.quorum }
+
+-- what a sync came to: where it is done, the replica has done all of the log, and is noted where a part waits for its quorum
 abbrev pub SyncsTo : Cluster → ℕ → Result (Unit {0}) SyncError → Cluster → Type 0
-SyncsTo s k (Ok u) t = Syncs s k t × HasDone t k (length t.table.log)
+SyncsTo s k (Ok u) t = Syncs s k t × HasDone t k (length t.table.log) × IsNotedBy s k t
 SyncsTo s k (Err errors.ReplicaDown) t = IsRefused s k t
+SyncsTo s k (Err errors.FetchesStopped) t = IsStopped s k × (t ≡ s)
 SyncsTo s k (Err (errors.NoSource part source)) t = EndsLacking s k part source t
-SyncsTo s k (Err errors.Memory) t = Stops s (ev.Pull k) t ⊎ StopsEarly s k t
+SyncsTo s k (Err errors.Memory) t = Stops s (ev.Pull k) t ⊎ (StopsEarly s k t ⊎ StopsLast s k t)
 
 -- the source of each Get of the log is up
 abbrev pub SourcesAreUp : Cluster → Type 0
@@ -101,6 +136,7 @@ SourcesAreUp s = (i : ℕ) (p : Option ℕ) (n source need : ℕ) (digest : List
 abbrev pub IsDoneOrStopped : Result (Unit {0}) SyncError → Type 0
 IsDoneOrStopped (Ok u) = Unit {0}
 IsDoneOrStopped (Err errors.Memory) = Unit {0}
+IsDoneOrStopped (Err errors.FetchesStopped) = ⊥
 IsDoneOrStopped (Err errors.ReplicaDown) = ⊥
 IsDoneOrStopped (Err (errors.NoSource part source)) = ⊥
 
@@ -126,6 +162,10 @@ pub record IsNextDone (s : Cluster) (k from i : ℕ) : Type 0 where
 abbrev pub IsNextEntry : Cluster → ℕ → ℕ → Option ℕ → Type 0
 IsNextEntry s k from next = MatchOption next (HasDone s k (length s.table.log)) (IsNextDone s k from)
 
+-- the replica may fetch, where it is up
+abbrev pub MayFetchAt : Cluster → ℕ → Type 0
+MayFetchAt s k = (x : Replica) → IsUp s k x → x.fetches ≡ true
+
 -- the replica has pulled the whole log
 pub record PullsAll (s : Cluster) (k : ℕ) (t : Cluster) : Type 0 where
   pub reply : Reply
@@ -137,6 +177,7 @@ pub record PullsAll (s : Cluster) (k : ℕ) (t : Cluster) : Type 0 where
 abbrev pub PullsFor : Cluster → ℕ → Result (Unit {0}) SyncError → Cluster → Type 0
 PullsFor s k (Ok u) t = PullsAll s k t
 PullsFor s k (Err errors.ReplicaDown) t = IsRefused s k t
+PullsFor s k (Err errors.FetchesStopped) t = ⊥
 PullsFor s k (Err (errors.NoSource part source)) t = ⊥
 PullsFor s k (Err errors.Memory) t = Stops s (ev.Pull k) t
 
@@ -162,8 +203,15 @@ pub record CantDo (s : Cluster) (k i : ℕ) (a : Name) (source : ℕ) (t : Clust
 abbrev pub DoesNext : Cluster → ℕ → ℕ → Result (Unit {0}) SyncError → Cluster → Type 0
 DoesNext s k i (Ok u) t = DoesEntry s k i t
 DoesNext s k i (Err errors.ReplicaDown) t = ⊥
+DoesNext s k i (Err errors.FetchesStopped) t = ⊥
 DoesNext s k i (Err (errors.NoSource part source)) t = CantDo s k i part source t
 DoesNext s k i (Err errors.Memory) t = Stops s (ev.Apply k i) t
+
+-- the replica, which has done the whole log, notes the part that waits for its quorum, or no memory was left for that
+abbrev pub NotesFor : Cluster → ℕ → Result (Unit {0}) SyncError → Cluster → Type 0
+NotesFor s k (Ok u) t = ((reply : Reply) × Step s (ev.Note k) reply t) × HasDone t k (length t.table.log) × IsNotedBy s k t
+NotesFor s k (Err errors.Memory) t = Stops s (ev.Note k) t
+NotesFor s k (Err e) t = ⊥
 
 -- whether a reply says that the log was pulled
 abbrev pub pulled : Reply → Bool

@@ -52,6 +52,10 @@ pub(crate) fn act(
             state.restart(alloc, *replica)?;
             Ok(Reply::Done)
         }
-        Event::Note { .. } | Event::Fetches { .. } => unreachable!(),
+        Event::Note { replica } => state.note(alloc, *replica),
+        Event::Fetches { replica, allowed } => {
+            state.set_fetches(*replica, *allowed);
+            Ok(Reply::Done)
+        }
     }
 }

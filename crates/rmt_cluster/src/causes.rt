@@ -26,6 +26,7 @@ fn no_apply(error: &ApplyError) -> Option<StepRefused>
 {
     match error {
         ApplyError::Down => Some(StepRefused::Down),
+        ApplyError::FetchesStopped => Some(StepRefused::FetchesStopped),
         ApplyError::NeedsPart(part) => Some(StepRefused::NeedsPart(*part)),
         ApplyError::Memory => None,
     }

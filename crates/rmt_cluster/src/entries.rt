@@ -40,6 +40,7 @@ pub(crate) fn apply(
     }
     let supply = match find(alloc, state.replicas(), at, i, state.tree().schema())? {
         Found::Ready(supply) => supply,
+        Found::Stopped => return Ok(Reply::Refused(StepRefused::FetchesStopped)),
         Found::Missing(part) => return Ok(Reply::Refused(StepRefused::NeedsPart(part))),
     };
     apply_reply(state.apply(replica, i, supply))

@@ -10,6 +10,8 @@ use std::alloc::AllocError;
 pub enum SyncError {
     /// The replica is down.
     ReplicaDown,
+    /// Its fetches are stopped: allow them, and sync again.
+    FetchesStopped,
     /// It waits for this part, which no live replica holds. The part's source, this replica, is down: restart it.
     NoSource { part: PartName, replica: ReplicaId },
     /// Out of memory.

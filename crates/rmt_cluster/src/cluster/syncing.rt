@@ -1,5 +1,5 @@
 //! A replica is brought to the whole log.
-ghost use Rattle.std.specs.Prelude.{◌≡◌, ◌<◌, false, length, IfSome, MatchResult};
+ghost use Rattle.std.specs.Prelude.{◌≡◌, ◌<◌, true, false, length, IfSome, MatchResult};
 ghost use Rattle.std.specs.declared.option.Option.TheVariants.{Some, None};
 ghost use Rattle.rmt_entries.specs.declared.entry.Entry.{Entry as Source};
 ghost use Rattle.rmt_model.specs.Lawful.{entry_at};
@@ -8,7 +8,7 @@ ghost use Rattle.rmt_events.specs.ClusterChanges.{IsUp, KeepsTable};
 ghost use Rattle.rmt_events.specs.Whole.{IsWhole};
 ghost use Rattle.rmt_replica.specs.SeenReplica.{shown};
 ghost use Rattle.rmt_state.specs.States.{IsNumber};
-ghost use Rattle.rmt_cluster.specs.Syncs.{SyncsTo, SourcesAreUp, IsDoneOrStopped, HasDone, PullsFor, DoesNext, IsNext, IsNextEntry, missing, pulled, source_of as source_told};
+ghost use Rattle.rmt_cluster.specs.Syncs.{SyncsTo, DrainsTo, NotesFor, IsStopped, MayFetchAt, SourcesAreUp, IsDoneOrStopped, HasDone, PullsFor, DoesNext, IsNext, IsNextEntry, missing, pulled, source_of as source_told};
 
 use crate::cluster::Cluster;
 use crate::sync_error::SyncError;
@@ -67,9 +67,22 @@ fn missing_part(reply: &Result<Reply, AllocError>) -> Option<PartName>
 }
 
 impl Cluster {
+    /// Whether a replica is up, and its fetches are stopped.
+    fn is_stopped(&self, replica: ReplicaId) -> bool
+        requires here { IsNumber replica (length self.now.replicas) }
+        ensures stopped { result ≡ true → IsStopped self.now replica }
+        ensures allowed { result ≡ false → MayFetchAt self.now replica }
+        ensures whole { IsWhole self.now }
+    {
+        self.state.sound();
+        let worker = self.state.worker(replica);
+        worker.is_up() && !worker.fetches()
+    }
+
     /// The first event of a sync: a replica pulls the rest of the log.
     fn pull_all(&mut self, alloc: Global, replica: ReplicaId) -> Result<(), SyncError>
         requires here { IsNumber replica (length self.old.replicas) }
+        requires allowed { MayFetchAt self.old replica }
         ensures pulls { PullsFor self.old replica result self.new }
         ensures whole { IsWhole self.old }
         ensures keeps { KeepsTable self.old self.new }
@@ -122,15 +135,44 @@ impl Cluster {
         }
     }
 
-    /// Brings a replica to the whole log: it pulls, and does every entry that isn't done, in order.
+    /// Brings a replica to the whole log: it pulls, does every entry that isn't done, in order, and then notes the part that
+    /// waits for its quorum, if one does.
     ///
     /// # Errors
     ///
-    /// What was done so far stays. At NoSource restart the replica that is named, and sync again. Out of memory in the midst of
-    /// a pull, some of the log was pulled.
+    /// What was done so far stays. At FetchesStopped allow fetches, and at NoSource restart the replica that is named; then sync
+    /// again. Out of memory in the midst of a pull, some of the log was pulled.
     pub fn sync(&mut self, alloc: Global, replica: ReplicaId) -> Result<(), SyncError>
         requires here { IsNumber replica (length self.old.replicas) }
         ensures syncs { SyncsTo self.old replica result self.new }
+        ensures complete { (x : Worker) → IsUp self.old replica x → x.fetches ≡ true → SourcesAreUp self.old → IsDoneOrStopped result }
+        ensures keeps { KeepsTable self.old self.new }
+    {
+        if self.is_stopped(replica) {
+            return Err(SyncError::FetchesStopped);
+        }
+        self.drain(alloc, replica)?;
+        self.note(alloc, replica)
+    }
+
+    /// The last event of a sync: a replica that has done the whole log notes the part that waits for its quorum, if one does.
+    fn note(&mut self, alloc: Global, replica: ReplicaId) -> Result<(), SyncError>
+        requires here { IsNumber replica (length self.old.replicas) }
+        requires done { HasDone self.old replica (length self.old.table.log) }
+        ensures notes { NotesFor self.old replica result self.new }
+        ensures keeps { KeepsTable self.old self.new }
+    {
+        match self.step(alloc, Event::Note { replica }) {
+            Ok(_) => Ok(()),
+            Err(_) => Err(SyncError::Memory),
+        }
+    }
+
+    /// The pull of a sync, and its entries.
+    fn drain(&mut self, alloc: Global, replica: ReplicaId) -> Result<(), SyncError>
+        requires here { IsNumber replica (length self.old.replicas) }
+        requires allowed { MayFetchAt self.old replica }
+        ensures drains { DrainsTo self.old replica result self.new }
         ensures complete { (x : Worker) → IsUp self.old replica x → SourcesAreUp self.old → IsDoneOrStopped result }
         ensures keeps { KeepsTable self.old self.new }
     {

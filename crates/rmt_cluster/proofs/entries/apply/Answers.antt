@@ -1,4 +1,4 @@
-use Rattle.std.proofs.Common.{◌≡◌, ℕ, ◌-◌, ◌<◌, ◌∙◌, List, length, arith, refl, sym, ap, subst, true}
+use Rattle.std.proofs.Common.{◌≡◌, ℕ, ◌-◌, ◌<◌, ◌∙◌, List, length, arith, sym, ap, subst, true}
 use Rattle.std.specs.Prelude.{slice_get, IfOk, OnErr}
 use Rattle.std.specs.Arc.{arc_value}
 use Rattle.std.specs.declared.option.Option.TheVariants.{Some}
@@ -12,7 +12,7 @@ use Rattle.rmt_supply.proofs.SearchLemmas.{at-one}
 use Rattle.rmt_state.specs.States.{StateView, Belongs, Acts}
 use Rattle.rmt_state.proofs.StateLemmas.{at-place}
 use Rattle.rmt_state.proofs.AssignLemmas.{IsWorker}
-use Rattle.rmt_cluster.proofs.ApplyLemmas.{apply-down, apply-past, apply-lacks, apply-stays, apply-told, one-table, suits-of-table, missing-found, ready-found}
+use Rattle.rmt_cluster.proofs.ApplyLemmas.{apply-down, apply-past, apply-lacks, apply-stays, apply-told, one-table, suits-of-table, apply-halts, stopped-found, missing-found, ready-found}
 use Rattle.rmt_cluster.proofs.entries.apply.Goals as goal
 
 pub returns-then-not-is_up-clause-ok : goal.returns-then-not-is_up-clause-ok
@@ -60,6 +60,22 @@ find-requires-clause-place c =
     let schema = (Belongs.copy b).schema ∙ sym (c.schema.ensures ∙ ap (λ (h : Held). h.schema) c.tree.ensures) in
     at-one c.replicas-2.result.now j x (λ r. (c.args.entry < length r.log) × (r.schema ≡ arc_value c.schema.result.now)) (subst (λ (rs : List ReplicaView). slice_get rs j ≡ Some x) (sym c.replicas-2.ensures) there)
     (omega (arith, l, t), schema)
+
+pub returns-in-Stopped-clause-ok : goal.returns-in-Stopped-clause-ok
+returns-in-Stopped-clause-ok c =
+    let s = c.args.state.now in
+    let j = c.from-at.result - 1 in
+    let x = c.index-replicas-at.result in
+    let found : slice_get c.replicas.result.now j ≡ Some x = grind (arith, common_steps, gets) in
+    let there = subst (λ (rs : List ReplicaView). slice_get rs j ≡ Some x) c.replicas.ensures found in
+    let f = c.requires.here.first in
+    let e = c.from-at.ensures in
+    let w : IsWorker s c.args.replica j x = record { state = c.sound.ensures.state; numbered = omega (arith, f, e); there = there } in
+    let l = c.len.ensures.len ∙ ap length c.copy.ensures.log in
+    let t = c.if-i-len.false in
+    let m = stopped-found s.replicas c.replicas-2.result.now x c.args.entry c.in_ok-supply.field-0 c.replicas-2.ensures
+    (c.in_ok-supply.ensures x (subst (λ (rs : List ReplicaView). slice_get rs j ≡ Some x) (sym c.replicas-2.ensures) there)) c.in-Stopped.is in
+    apply-halts s c.args.replica c.args.entry j x w (sym c.is_up.ensures ∙ c.if-not-is_up.false) (omega (arith, l, t)) m
 
 pub returns-in-Missing-clause-ok : goal.returns-in-Missing-clause-ok
 returns-in-Missing-clause-ok c =

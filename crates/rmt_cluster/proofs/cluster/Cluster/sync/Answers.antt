@@ -1,37 +1,14 @@
-use Rattle.std.proofs.Common.{arith}
 use Rattle.std.proofs.lemmas.Result.{err_from_is_err_and}
-use Rattle.rmt_cluster.proofs.SyncLemmas.{next-none, sync-done, sync-stopped, pull-stopped, syncing-begins, syncing-on, none-lost}
+use Rattle.rmt_cluster.proofs.NoteLemmas.{drained-err, never-stopped, synced}
 use Rattle.rmt_cluster.proofs.cluster.Cluster.sync.Goals as goal
 
-pub returns-in_err-pull_all-clause-syncs : goal.returns-in_err-pull_all-clause-syncs
-returns-in_err-pull_all-clause-syncs c =
+pub returns-in_err-drain-clause-syncs : goal.returns-in_err-drain-clause-syncs
+returns-in_err-drain-clause-syncs c =
     let p = err_from_is_err_and c.from_residual.result c.from_residual.ensures.1 in
-    rw (p.1, p.2) (pull-stopped c.args.self.now c.pull_all.new.self c.args.replica c.in_err-pull_all.field-0.0 c.in_err-pull_all.ensures.pulls)
-
-pub returns-in_err-pull_all-clause-complete : goal.returns-in_err-pull_all-clause-complete
-returns-in_err-pull_all-clause-complete c =
-    let p = err_from_is_err_and c.from_residual.result c.from_residual.ensures.1 in
-    rw (p.1, p.2) (none-lost c.args.self.now c.pull_all.new.self c.args.replica c.in_err-pull_all.field-0.0 c.pull_all.ensures.whole (pull-stopped c.args.self.now c.pull_all.new.self c.args.replica c.in_err-pull_all.field-0.0 c.in_err-pull_all.ensures.pulls))
-
-pub returns-in_err-do_next-clause-syncs : goal.returns-in_err-do_next-clause-syncs
-returns-in_err-do_next-clause-syncs c =
-    let p = err_from_is_err_and c.from_residual-in_err-do_next.result c.from_residual-in_err-do_next.ensures.1 in
-    rw (p.1, p.2) (sync-stopped c.args.self.now c.entries.self c.do_next.new.self c.args.replica c.entries.from c.in-Some.i c.in_err-do_next.field-0.0 c.entries.invariant c.in-Some.ensures.next c.in_err-do_next.ensures.does)
-
-pub returns-in_err-do_next-clause-complete : goal.returns-in_err-do_next-clause-complete
-returns-in_err-do_next-clause-complete c =
-    let p = err_from_is_err_and c.from_residual-in_err-do_next.result c.from_residual-in_err-do_next.ensures.1 in
-    rw (p.1, p.2) (none-lost c.args.self.now c.do_next.new.self c.args.replica c.in_err-do_next.field-0.0 c.pull_all.ensures.whole
-    (sync-stopped c.args.self.now c.entries.self c.do_next.new.self c.args.replica c.entries.from c.in-Some.i c.in_err-do_next.field-0.0 c.entries.invariant c.in-Some.ensures.next c.in_err-do_next.ensures.does))
+    rw (p.1, p.2) (drained-err c.args.self.now c.drain.new.self c.args.replica c.in_err-drain.field-0.0 c.in_err-drain.ensures.drains)
 
 pub returns-clause-syncs : goal.returns-clause-syncs
-returns-clause-syncs c = sync-done c.args.self.now c.entries.self c.args.replica c.entries.from c.entries.invariant (next-none c.entries.self c.args.replica c.entries.from c.next_entry.result c.in_default.not-Some c.next_entry.ensures.next)
+returns-clause-syncs c = synced c.args.self.now c.drain.new.self c.note.new.self c.args.replica c.note.result c.in_ok-drain.ensures.drains c.note.ensures.notes
 
-pub overflow_add-from : goal.overflow_add-from
-overflow_add-from c = let l = c.in-Some.ensures.few in grind (arith, l)
-
-pub entries-init : goal.entries-init
-entries-init c = syncing-begins c.args.self.now c.pull_all.new.self c.args.replica c.pull_all.ensures.whole c.in_ok-pull_all.ensures.pulls c.in_ok-pull_all.ensures.keeps.schema c.in_ok-pull_all.ensures.keeps.replicas
-
-pub entries-preserved : goal.entries-preserved
-entries-preserved c = syncing-on c.args.self.now c.entries.self c.do_next.new.self c.args.replica c.entries.from c.in-Some.i c.entries.invariant c.in-Some.ensures.next c.in_ok-do_next.ensures.does c.in_ok-do_next.ensures.log c.in_ok-do_next.ensures.keeps.schema c.in_ok-do_next.ensures.keeps.replicas
+pub returns-then-is_stopped-clause-complete : goal.returns-then-is_stopped-clause-complete
+returns-then-is_stopped-clause-complete c = λ x u f ups. never-stopped c.args.self.now c.args.replica x c.is_stopped.ensures.whole u f (c.is_stopped.ensures.stopped c.if-is_stopped.true)
