@@ -1,5 +1,5 @@
 -- Events one after the other, and what is left where no memory was left.
-use Rattle.std.proofs.Common.{◌≡◌, ℕ, zero, suc, ◌+◌, ◌≤◌, ◌⊎◌, inl, inr, List, [], ◌∷◌, ◌++◌, length, refl, sym, subst, arith, append_assoc, append-nil}
+use Rattle.std.proofs.Common.{◌≡◌, ℕ, zero, suc, ◌≤◌, ◌⊎◌, inl, inr, List, [], ◌∷◌, ◌++◌, refl, sym, subst, arith, append_assoc, append-nil}
 use Rattle.std.specs.Prelude.{OnErr}
 use Rattle.std.specs.declared.result.Result.{Result}
 use Rattle.std.specs.declared.result.Result.TheVariants.{Ok, Err}
@@ -12,7 +12,7 @@ use Rattle.rmt_events.specs.declared.event.Event.TheVariants as ev
 use Rattle.rmt_events.specs.declared.reply.Reply.{Reply}
 use Rattle.rmt_events.specs.declared.reply.Reply.TheVariants as rp
 use Rattle.rmt_cluster.specs.Clusters.{Stops}
-use Rattle.rmt_cluster.specs.Syncs.{Syncs, SyncsTo}
+use Rattle.rmt_cluster.specs.Syncs.{Drains, Syncs, SyncsTo}
 use Rattle.rmt_cluster.specs.declared.sync_error.SyncError.TheVariants as errors
 use Rattle.rmt_reply.specs.declared.piece.Piece.{Piece}
 use Rattle.rmt_reply.specs.declared.piece.Piece.TheVariants as pieces
@@ -42,8 +42,11 @@ pub reaches-made : (s u : Cluster) (events : List Event) → Makes s events u �
 reaches-made s u [] f = subst (Reaches s) (sym f) (reaches-itself s)
 reaches-made s u (event ∷ later) f = reaches-then s f.0 u (reaches-step s f.0 event f.1 f.2) (reaches-made f.0 u later f.3)
 
+pub reaches-drained : (s u : Cluster) (r : ℕ) → Drains s r u → Reaches s u
+reaches-drained s u r y = reaches-then s y.pulled u (reaches-step s y.pulled (ev.Pull r) y.reply y.pulls) (record { events = y.events; after = y.made })
+
 pub reaches-synced : (s u : Cluster) (r : ℕ) → Syncs s r u → Reaches s u
-reaches-synced s u r y = reaches-then s y.pulled u (reaches-step s y.pulled (ev.Pull r) y.reply y.pulls) (record { events = y.events; after = y.made })
+reaches-synced s u r y = reaches-then s y.drained u (reaches-drained s y.drained r y.drains) (reaches-step y.drained u (ev.Note r) y.reply y.notes)
 
 pub reaches-tried : (s u : Cluster) (r : ℕ) → TriesBlock s r u → Reaches s u
 reaches-tried s u r f = reaches-made s u (ev.Allocate r f.block 0 ∷ []) f.makes
@@ -94,7 +97,8 @@ stops-later s m u f g = stops-there s g.mid u g.event (reaches-then s m g.mid f 
 -- in the midst of a sync
 pub stops-syncing : (s u : Cluster) (r : ℕ) → SyncsTo s r (Err errors.Memory) u → StopsAfter s u
 stops-syncing s u r (inl g) = stops-first s u (ev.Pull r) g
-stops-syncing s u r (inr g) = stops-there s g.mid u (ev.Apply r g.entry) (reaches-synced s g.mid r g.syncs) g.stops
+stops-syncing s u r (inr (inl g)) = stops-there s g.mid u (ev.Apply r g.entry) (reaches-drained s g.mid r g.drains) g.stops
+stops-syncing s u r (inr (inr g)) = stops-there s g.mid u (ev.Note r) (reaches-drained s g.mid r g.drains) g.stops
 
 -- what is left holds at an error
 pub at-err : {A E : Type 0} (result : Result A E) (P : Type 0) → P → OnErr result P

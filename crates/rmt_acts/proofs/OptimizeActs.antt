@@ -6,6 +6,7 @@ use Rattle.std.specs.declared.option.Option.TheVariants.{Some}
 use Rattle.rmt_names.specs.Names.{Name, merged_name}
 use Rattle.rmt_entries.specs.declared.entry.Entry.{Entry}
 use Rattle.rmt_entries.specs.declared.entry.Entry.TheVariants.{Merge}
+use Rattle.rmt_model.specs.Quorum.{quorum_after_note}
 use Rattle.rmt_model.specs.Words.{Has}
 use Rattle.rmt_model.specs.Lawful.{entry_at, IsMerge, Merges}
 use Rattle.rmt_reply.specs.declared.refusal.Refusal.{Refusal}
@@ -137,6 +138,8 @@ up-to-date-same s u r e f d = record {
   at = record { is_in = subst (λ (xs : List Replica). Has xs d.replica) (sym f) d.at.is_in; number = d.at.number };
   whole = d.whole ∙ ap (λ (x : Table). x.log) (sym e);
   drained = d.drained;
+  allowed = d.allowed;
+  noted = subst (λ (x : Table). quorum_after_note r x.quorum ≡ x.quorum) (sym e) d.noted;
 }
 
 -- so is one whose merge was refused

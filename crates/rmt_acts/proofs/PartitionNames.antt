@@ -1,10 +1,10 @@
 -- The names of one partition among names in order.
-use Rattle.std.proofs.Common.{◌≡◌, ℕ, ◌+◌, ◌<◌, ◌≤◌, Bool, true, false, cond, List, [], ◌∷◌, take, drop, filter, nat_eq, nat_lt, refl, ap, sym, subst, arith, ◌∙◌, one-add}
+use Rattle.std.proofs.Common.{◌≡◌, ℕ, ◌+◌, ◌≤◌, Bool, true, false, cond, List, [], ◌∷◌, take, drop, filter, nat_eq, nat_lt, refl, ap, sym, subst, arith, ◌∙◌, one-add}
 use Rattle.std.proofs.lemmas.Bool.Decides.{nat_tests}
 use Rattle.std.specs.List.{prefix_len}
 use Rattle.std.specs.declared.option.Option.{Option}
 use Rattle.rmt_names.specs.Names.{Name, rank}
-use Rattle.rmt_model.specs.Words.{Has, Each, Pairwise}
+use Rattle.rmt_model.specs.Words.{Each, Pairwise}
 use Rattle.rmt_model.specs.Live.{Before}
 use Rattle.rmt_model.proofs.Lists.{Each-at, Each-all}
 use Rattle.rmt_nameset.proofs.Ranges.{Downward, Pairwise-to}

@@ -33,7 +33,7 @@ use Rattle.rmt_statement_model.proofs.WaitRows.{IsMutateReply, mutated, mutate-s
 use Rattle.rmt_statement_model.proofs.WaitLeads.{placed-still, wait-begins, wait-goes-on, wait-ends, wait-stops}
 use Rattle.rmt_acts.specs.StatementEvents.{CatchesUp, MutatesOnce, SyncsThen, WaitEvents}
 use Rattle.rmt_acts.specs.Waiting.{MutatesSome, IsPlaceOf, BecomesMutated, MutatesOne, Settles, WaitsTo}
-use Rattle.rmt_acts.specs.Syncing.{SyncsReplica, HasDoneGets}
+use Rattle.rmt_acts.specs.Syncing.{KeepsButQuorum, SyncsReplica, HasDoneGets}
 use Rattle.rmt_acts.proofs.SyncActs.{gets-done, gets-done-still}
 use Rattle.rmt_acts.proofs.OptimizeActs.{whole-log}
 use Rattle.rmt_acts.proofs.EventLists.{at-most-more, at-most-next, Reaches, reaches-mutates, reaches-synced, reaches-then}
@@ -41,7 +41,7 @@ use Rattle.rmt_acts.proofs.EventLists.{at-most-more, at-most-next, Reaches, reac
 -- ---- one part
 
 -- its Mutate enters the log, and the replica is brought up to date
-pub becomes-mutated : (s u w : Cluster) (r : ℕ) (old : Name) (upto place : ℕ) → IsWhole s → Step s (ev.Mutate r old upto) (rp.Entry place) u → w.table ≡ u.table → IsUpToDate w r → ((t : TableState) → Shows u t → Shows w (synced r t)) → BecomesMutated s r old upto w
+pub becomes-mutated : (s u w : Cluster) (r : ℕ) (old : Name) (upto place : ℕ) → IsWhole s → Step s (ev.Mutate r old upto) (rp.Entry place) u → KeepsButQuorum u w → IsUpToDate w r → ((t : TableState) → Shows u t → Shows w (synced r t)) → BecomesMutated s r old upto w
 becomes-mutated s u w r old upto place h st e d f =
     let m = mutated s u r old upto place st in
     record {
@@ -86,7 +86,7 @@ pub record IsWaiting (s : Cluster) (r id place : ℕ) (parts : List Name) (u : C
   pub reaches : Reaches s u
 
 -- all are to come
-pub waiting-begins : (s u : Cluster) (r id place : ℕ) → IsWhole u → IsPlaceOf u.table.log id place → IsIdle u r → ups u ≡ ups s → IsUpToDate u r → u.table.schema ≡ s.table.schema → length u.replicas ≡ length s.replicas → ((t : TableState) → Shows s t → Shows u (synced r t)) → CatchesUp s r u → u.table ≡ s.table → IsWaiting s r id place (live u.table.log) u
+pub waiting-begins : (s u : Cluster) (r id place : ℕ) → IsWhole u → IsPlaceOf u.table.log id place → IsIdle u r → ups u ≡ ups s → IsUpToDate u r → u.table.schema ≡ s.table.schema → length u.replicas ≡ length s.replicas → ((t : TableState) → Shows s t → Shows u (synced r t)) → CatchesUp s r u → KeepsButQuorum s u → IsWaiting s r id place (live u.table.log) u
 waiting-begins s u r id place h p i up d e n f y q = record {
   idle = i;
   ups_are = up;

@@ -29,7 +29,8 @@ Makes s (event ∷ later) u = (mid : Cluster) × (reply : Reply) × Step s event
 
 -- ---- what brings a replica up to date
 
--- the replica pulls the log once, and looks once at each entry that is pending then, in order; all are done
+-- the replica pulls the log once, looks once at each entry that is pending then, in order, so that all are done, and then notes
+-- the part that waits for its quorum
 pub record CatchesUp (s : Cluster) (r : ℕ) (u : Cluster) : Type 0 where
   pub syncs : Syncs s r u
   pub done : HasDone u r (length u.table.log)

@@ -29,6 +29,10 @@ abbrev pub SyncsReplica : Cluster → ℕ → Option Refusal → Cluster → Typ
 SyncsReplica s r None u = IsSynced s r u
 SyncsReplica s r (Some refusal) u = (t : TableState) → Shows s t → Leads u (LacksSource (ups s) t r refusal)
 
+-- of the table nothing changes but its quorum
+abbrev pub KeepsButQuorum : Cluster → Cluster → Type 0
+KeepsButQuorum s u = u.table ≡ record s.table { quorum = u.table.quorum }
+
 -- ---- what only private functions cite
 
 -- a statement's refusal tells why a sync ended, or no memory was left
@@ -36,7 +40,8 @@ abbrev pub IsToldAs : SyncError → Result (Option Refusal) AllocError → Type 
 IsToldAs (errors.NoSource part source) result = result ≡ Ok (Some (NoSource part source))
 IsToldAs errors.Memory result = IsErr result
 IsToldAs errors.ReplicaDown result = ⊥
+IsToldAs errors.FetchesStopped result = ⊥
 
--- the replica has done each Get of the log
+-- the replica may fetch, and has done each Get of the log
 abbrev pub HasDoneGets : Cluster → ℕ → Type 0
-HasDoneGets s r = (x : Replica) → IsNumbered s r x → (i : ℕ) (p : Option ℕ) (n source need : ℕ) (digest : List ℕ) → entry_at s.table.log i ≡ Some (Get p n digest source need) → done_at x.done i ≡ true
+HasDoneGets s r = (x : Replica) → IsNumbered s r x → (x.fetches ≡ true) × ((i : ℕ) (p : Option ℕ) (n source need : ℕ) (digest : List ℕ) → entry_at s.table.log i ≡ Some (Get p n digest source need) → done_at x.done i ≡ true)

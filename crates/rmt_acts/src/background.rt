@@ -25,7 +25,7 @@ pub fn run_turns(
     requires seed { seed < 2 ^ 31 }
     requires free { HoldsNone cluster.old }
     ensures runs { OnOk result (RunsAll cluster.old seed turns cluster.new) }
-    ensures works { OnOk result ((t : TableState) → Shows cluster.old t → Leads cluster.new (Works turns t)) }
+    ensures works { OnOk result ((t : TableState) → Shows cluster.old t → Leads cluster.new (Works (ups cluster.old) turns t)) }
     ensures free { OnOk result (HoldsNone cluster.new) }
     ensures err { OnErr result (RunsSome cluster.old seed turns cluster.new) }
     ensures keeps { KeepsUps cluster.old result cluster.new }

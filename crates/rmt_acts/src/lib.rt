@@ -16,6 +16,7 @@ mod optimizing;
 mod outcome;
 mod partitions;
 mod reading;
+mod switching;
 mod syncing;
 mod waiting;
 
@@ -28,5 +29,6 @@ pub use mutation::{mutate, mutations_made};
 pub use optimization::Optimization;
 pub use optimizing::optimize;
 pub use reading::{answer_up_to_date, read_parts, schema_of};
+pub use switching::{may_fetch, switch_fetches};
 pub use syncing::sync_replica;
 pub use waiting::wait_for;

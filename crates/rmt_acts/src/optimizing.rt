@@ -1,5 +1,5 @@
 //! OPTIMIZE .. FINAL.
-ghost use Rattle.std.specs.Prelude.{◌≡◌, ℕ, List as Names, length, IfOk, OnErr};
+ghost use Rattle.std.specs.Prelude.{◌≡◌, ℕ, true, List as Names, length, IfOk, OnErr};
 ghost use Rattle.std.specs.declared.option.Option.TheVariants.{Some};
 ghost use Rattle.rmt_reply.specs.declared.refusal.Refusal.{Refusal as Why};
 ghost use Rattle.rmt_reply.specs.declared.refusal.Refusal.TheVariants.{Unmergeable as UnmergeableOf};
@@ -10,7 +10,7 @@ ghost use Rattle.rmt_model.specs.Lawful.{entry_at};
 ghost use Rattle.rmt_state.specs.States.{IsNumber};
 ghost use Rattle.rmt_statement_model.specs.TableStates.{TableState};
 ghost use Rattle.rmt_statement_model.specs.Optimizes.{live_of, OptimizesTable};
-ghost use Rattle.rmt_statement_model.specs.Shows.{IsIdle, IsUpToDate, Shows, Leads, ups, KeepsUps};
+ghost use Rattle.rmt_statement_model.specs.Shows.{IsIdle, IsUpToDate, Shows, Leads, ups, KeepsUps, fetching_of};
 ghost use Rattle.rmt_acts.specs.StatementEvents.{OptimizeEvents, StopsAfter};
 ghost use Rattle.rmt_acts.specs.Optimizing.{IsMergeAt, IsToldAs, MergesSome, OptimizesTo};
 
@@ -105,7 +105,7 @@ fn optimize_partition(
     }
 }
 
-/// Merges all parts of each partition into one, at a replica that is brought up to date first and after each merge; or of one
+/// Merges all parts of each partition into one, at a replica that may fetch and is brought up to date first and after each merge; or of one
 /// partition alone. It ends at the first partition whose parts can't be merged, or before all where the replica lacks a part
 /// whose source is down; what was merged stays so. At an error no memory was left, and what was done stays done.
 pub fn optimize(
@@ -116,6 +116,7 @@ pub fn optimize(
 ) -> Result<Optimization, AllocError>
     requires here { IsNumber replica (length cluster.old.replicas) }
     requires idle { IsIdle cluster.old replica }
+    requires fetches { fetching_of cluster.old replica ≡ true }
     ensures optimizes { IfOk result (λ o. (t : TableState) → Shows cluster.old t
         → Leads cluster.new (OptimizesTable (ups cluster.old) t replica asked o.names o.refused)) }
     ensures idle { IfOk result (λ _. IsIdle cluster.new replica) }

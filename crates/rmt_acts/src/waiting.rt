@@ -1,11 +1,11 @@
 //! WAIT MUTATION.
-ghost use Rattle.std.specs.Prelude.{◌≡◌, ◌<◌, length, IfOk, OnErr};
+ghost use Rattle.std.specs.Prelude.{◌≡◌, ◌<◌, true, length, IfOk, OnErr};
 ghost use Rattle.rmt_model.specs.Words.{Has};
 ghost use Rattle.rmt_model.specs.Live.{live};
 ghost use Rattle.rmt_model.specs.Lawful.{mutation_count};
 ghost use Rattle.rmt_state.specs.States.{IsNumber};
 ghost use Rattle.rmt_events.specs.LogEvents.{IsMutable};
-ghost use Rattle.rmt_statement_model.specs.Shows.{IsIdle, IsUpToDate, KeepsUps};
+ghost use Rattle.rmt_statement_model.specs.Shows.{IsIdle, IsUpToDate, KeepsUps, fetching_of};
 ghost use Rattle.rmt_acts.specs.StatementEvents.{MutatesOnce, StopsAfter, WaitEvents};
 ghost use Rattle.rmt_acts.specs.Waiting.{IsPlaceOf, MutatesOne, MutatesSome, Settles, WaitsTo};
 
@@ -94,7 +94,7 @@ fn settle_part(
     mutate_part(alloc, cluster, replica, part, last as u32)
 }
 
-/// Waits for a mutation at a replica: one after the other, the live parts for which it, or one before it, is pending are
+/// Waits for a mutation at a replica that may fetch: one after the other, the live parts for which it, or one before it, is pending are
 /// mutated up to the last such one, the replica brought up to date before and after each. It ends at the first part for which
 /// one more entry would pass a limit, with that refusal, or before all where the replica lacks a part whose source is down; what
 /// was mutated stays so. At an error no memory was left, and what was done stays done.
@@ -106,6 +106,7 @@ pub fn wait_for(
 ) -> Result<Option<Refusal>, AllocError>
     requires here { IsNumber replica (length cluster.old.replicas) }
     requires idle { IsIdle cluster.old replica }
+    requires fetches { fetching_of cluster.old replica ≡ true }
     requires known { id < mutation_count cluster.old.table.log }
     ensures waits { IfOk result (λ refused. WaitsTo cluster.old replica id refused cluster.new) }
     ensures idle { IfOk result (λ _. IsIdle cluster.new replica) }

@@ -26,6 +26,7 @@ use Rattle.rmt_statement_model.specs.Inserts.{number_for, with_number, number_li
 use Rattle.rmt_statement_model.specs.Shows.{Shows, ups}
 use Rattle.rmt_statement_model.proofs.UpLaws.{up-told}
 use Rattle.rmt_statement_model.specs.Attempts.{IsAllocateReply, attempt_of, IsOpen}
+use Rattle.rmt_statement_model.proofs.SwitchLaws.{IsNoSwitch}
 use Rattle.rmt_statement_model.proofs.ShownSteps.{kept-shown, number-shown, TellsNoCommit, keeps-stored, shows-next, shows-quiet}
 use Rattle.rmt_events.specs.declared.event.Event.{Event}
 use Rattle.rmt_events.specs.declared.event.Event.TheVariants as ev
@@ -100,13 +101,13 @@ opens s u e r id n b k d =
     table-is = ap (λ (x : Cluster). x.table) k.stored ∙ (ap (λ (x : Cluster). x.table) d.change ∙ d.call.change)
 
 -- the number is the table's next
-begins : (s u : Cluster) (e : Event) (r id n : ℕ) (b : Block) → IsWhole s → (k : Step s e (rp.Attempt id n) u) → BeginsAttempt s r b 0 (rp.Attempt id n) k.after → TellsNoCommit e (rp.Attempt id n) → (t : TableState) → Shows s t → Begins t b n u
-begins s u e r id n b w k d f t h =
+begins : (s u : Cluster) (e : Event) (r id n : ℕ) (b : Block) → IsWhole s → IsNoSwitch e → (k : Step s e (rp.Attempt id n) u) → BeginsAttempt s r b 0 (rp.Attempt id n) k.after → TellsNoCommit e (rp.Attempt id n) → (t : TableState) → Shows s t → Begins t b n u
+begins s u e r id n b w z k d f t h =
     record {
       unkept = kept-shown s t b w h ∙ d.call.unkept;
       number = number-shown s t b h ∙ d.call.within;
       given = is-number ∙ (d.call.number ∙ ap (λ (x : List (Option ℕ × ℕ)). next_number x b.partition) (sym h.next));
-      shows = shows-next s u e (rp.Attempt id n) t (with_next t.next b.partition (number_for t b + 1)) w k (keeps-stored s u e (rp.Attempt id n) k (ap (λ (x : Table). x.schema) table-is) (ap (λ (x : Table). x.log) table-is) (ap (λ (x : Table). x.quorum) table-is) (ap (λ (x : Cluster). x.events) d.change) f)
+      shows = shows-next s u e (rp.Attempt id n) t (with_next t.next b.partition (number_for t b + 1)) w z k (keeps-stored s u e (rp.Attempt id n) k (ap (λ (x : Table). x.schema) table-is) (ap (λ (x : Table). x.log) table-is) (ap (λ (x : Table). x.quorum) table-is) (ap (λ (x : Cluster). x.events) d.change) f)
           (numbers d.number d.call.number ∙ sym (ap (λ (x : Cluster). x.table.next) k.stored ∙ ap (λ (x : Table). x.next) table-is)) h;
     }
   where
@@ -124,7 +125,7 @@ pub begun : (s u : Cluster) (r : ℕ) (raw : Offered) (id n : ℕ) → IsWhole s
 begun s u r raw id n w k = go k.does
   where
     go : Does s (ev.Allocate r raw 0) (rp.Attempt id n) k.after → IsOpen u id r (without_kinds (arc_value raw)) n × ((t : TableState) → Shows s t → Begins t (without_kinds (arc_value raw)) n u)
-    go (inl d) = (opens s u (ev.Allocate r raw 0) r id n (without_kinds (arc_value raw)) k d, begins s u (ev.Allocate r raw 0) r id n (without_kinds (arc_value raw)) w k d (λ xs i. refl))
+    go (inl d) = (opens s u (ev.Allocate r raw 0) r id n (without_kinds (arc_value raw)) k d, begins s u (ev.Allocate r raw 0) r id n (without_kinds (arc_value raw)) w tt k d (λ xs i. refl))
     go (inr d) = let e = d.answer in absurd (cc)
 
 -- ---- the block gets none
@@ -139,7 +140,7 @@ duplicate s u r raw a w k t h = go k.does
         let e : d.why ≡ rf.Duplicate a = let q = d.answer in cc in
         let c = subst (λ (y : StepRefused). NoNumber s.table r (arc_value raw).partition (arc_value raw).digest 0 y) e d.cause in (
           kept-shown s t (without_kinds (arc_value raw)) w h ∙ c.2,
-          shows-quiet s u (ev.Allocate r raw 0) (rp.Refused (rf.Duplicate a)) t w k (ap (λ (x : Cluster). x.table) d.unchanged) (ap (λ (x : Cluster). x.events) d.unchanged) (λ xs i. refl) h,
+          shows-quiet s u (ev.Allocate r raw 0) (rp.Refused (rf.Duplicate a)) t w tt k (ap (λ (x : Cluster). x.table) d.unchanged) (ap (λ (x : Cluster). x.events) d.unchanged) (λ xs i. refl) h,
         )
 
 -- one more number would pass the limit, and nothing changes
@@ -153,5 +154,5 @@ no-number s u r raw limit value w k t h = go k.does
         let c = subst (λ (y : StepRefused). NoNumber s.table r (arc_value raw).partition (arc_value raw).digest 0 y) e d.cause in (
           kept-shown s t (without_kinds (arc_value raw)) w h ∙ c.2,
           number-shown s t (without_kinds (arc_value raw)) h ∙ c.3,
-          shows-quiet s u (ev.Allocate r raw 0) (rp.Refused (rf.LimitReached limit value)) t w k (ap (λ (x : Cluster). x.table) d.unchanged) (ap (λ (x : Cluster). x.events) d.unchanged) (λ xs i. refl) h,
+          shows-quiet s u (ev.Allocate r raw 0) (rp.Refused (rf.LimitReached limit value)) t w tt k (ap (λ (x : Cluster). x.table) d.unchanged) (ap (λ (x : Cluster). x.events) d.unchanged) (λ xs i. refl) h,
         )

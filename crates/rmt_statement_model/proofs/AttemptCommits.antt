@@ -21,6 +21,7 @@ use Rattle.rmt_statement_model.specs.TableStates.{TableState}
 use Rattle.rmt_statement_model.specs.Inserts.{block_limit}
 use Rattle.rmt_statement_model.specs.Shows.{Shows}
 use Rattle.rmt_statement_model.specs.Attempts.{IsCommitReply, attempt_of, IsOpen, IsStagedAt, IsAccepted}
+use Rattle.rmt_statement_model.proofs.SwitchLaws.{switch-step}
 use Rattle.rmt_statement_model.proofs.KnowsLaws.{knows-step}
 use Rattle.rmt_statement_model.proofs.Replaced.{numbered-still}
 use Rattle.rmt_statement_model.proofs.ShownSteps.{room-shown, keeps-stored, shows-next}
@@ -151,6 +152,7 @@ takes s u id r b n place w o k c t h =
         next = h.next ∙ sym (ap (λ (x : Cluster). x.table.next) c.change ∙ ap (λ (x : Table). x.next) c.call.change);
         quorum = h.quorum ∙ sym (ap (λ (x : Cluster). x.table.quorum) c.change ∙ ap (λ (x : Table). x.quorum) c.call.change);
         blocks = ap (λ (bs : List Accepted). record { partition = b.partition; number = n; rows = b.rows } ∷ bs) h.blocks ∙ sym (blocks-after s u id r b n place w o c);
+        fetching = h.fetching ∙ sym (switch-step s u (ev.Commit id) (rp.Entry place) w tt k);
         knows = knows-step s u (ev.Commit id) (rp.Entry place) t.known w k h.knows;
       };
     }
@@ -174,7 +176,7 @@ no-room s u id r b n limit value w o k t h = go k.does
         let c = subst (λ (y : StepRefused). LostFor s (attempt_of id r b n) y) e (lost s k.after id r b n (rp.Refused (rf.LimitReached limit value)) w o.is_open d) in
         let q = ap (λ (x : Cluster). x.table) d.ends.change ∙ d.ends.unlocks in (
           room-shown s t b w h ∙ c.2,
-          shows-next s u (ev.Commit id) (rp.Refused (rf.LimitReached limit value)) t t.next w k
+          shows-next s u (ev.Commit id) (rp.Refused (rf.LimitReached limit value)) t t.next w tt k
               (keeps-stored s u (ev.Commit id) (rp.Refused (rf.LimitReached limit value)) k (ap (λ (x : Table). x.schema) q) (ap (λ (x : Table). x.log) q) (ap (λ (x : Table). x.quorum) q) (ap (λ (x : Cluster). x.events) d.ends.change) (λ xs i. refl))
               (h.next ∙ sym (ap (λ (x : Cluster). x.table.next) k.stored ∙ ap (λ (x : Table). x.next) q)) h,
         )

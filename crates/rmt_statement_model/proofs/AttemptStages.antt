@@ -82,6 +82,6 @@ staged s u id r b n reply w up o k = go k.does
     go (inl d) = (
       d.answer,
       stages s u id r b n reply o k d (one-attempt s d.attempt (attempt_of id r b n) w d.is.is_in o.there d.is.id_is),
-      λ t h. shows-quiet s u (ev.Stage id) reply t w k (ap (λ (x : Cluster). x.table) d.at.change) (ap (λ (x : Cluster). x.events) d.at.change) (λ xs i. refl) h,
+      λ t h. shows-quiet s u (ev.Stage id) reply t w tt k (ap (λ (x : Cluster). x.table) d.at.change) (ap (λ (x : Cluster). x.events) d.at.change) (λ xs i. refl) h,
     )
     go (inr d) = absurd (refused-stage s id r b n d.why w up o d.cause)

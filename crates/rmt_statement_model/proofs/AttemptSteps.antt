@@ -61,13 +61,13 @@ pub quiet-shows : (s u : Cluster) (e : Event) (reply : Reply) → IsWhole s → 
 quiet-shows s u (ev.Pull k) reply w q st t h = go st.does
   where
     go : Does s (ev.Pull k) reply st.after → Shows u t
-    go (inl d) = shows-quiet s u (ev.Pull k) reply t w st (ap (λ (x : Cluster). x.table) d.at.change) (ap (λ (x : Cluster). x.events) d.at.change) (λ xs i. refl) h
-    go (inr d) = shows-quiet s u (ev.Pull k) reply t w st (ap (λ (x : Cluster). x.table) d.unchanged) (ap (λ (x : Cluster). x.events) d.unchanged) (λ xs i. refl) h
+    go (inl d) = shows-quiet s u (ev.Pull k) reply t w tt st (ap (λ (x : Cluster). x.table) d.at.change) (ap (λ (x : Cluster). x.events) d.at.change) (λ xs i. refl) h
+    go (inr d) = shows-quiet s u (ev.Pull k) reply t w tt st (ap (λ (x : Cluster). x.table) d.unchanged) (ap (λ (x : Cluster). x.events) d.unchanged) (λ xs i. refl) h
 quiet-shows s u (ev.Apply k i) reply w q st t h = go st.does
   where
     go : Does s (ev.Apply k i) reply st.after → Shows u t
-    go (inl d) = shows-quiet s u (ev.Apply k i) reply t w st (ap (λ (x : Cluster). x.table) d.at.change) (ap (λ (x : Cluster). x.events) d.at.change) (λ xs i. refl) h
-    go (inr d) = shows-quiet s u (ev.Apply k i) reply t w st (ap (λ (x : Cluster). x.table) d.unchanged) (ap (λ (x : Cluster). x.events) d.unchanged) (λ xs i. refl) h
+    go (inl d) = shows-quiet s u (ev.Apply k i) reply t w tt st (ap (λ (x : Cluster). x.table) d.at.change) (ap (λ (x : Cluster). x.events) d.at.change) (λ xs i. refl) h
+    go (inr d) = shows-quiet s u (ev.Apply k i) reply t w tt st (ap (λ (x : Cluster). x.table) d.unchanged) (ap (λ (x : Cluster). x.events) d.unchanged) (λ xs i. refl) h
 quiet-shows s u e reply w q st t h = absurd q
 
 -- ---- the log is pulled
@@ -184,4 +184,4 @@ apply-reply s u place r b n reply w up a l st = go st.does
 pub applied-shows : (s u : Cluster) (k i : ℕ) (comes : Applied) → IsWhole s → Step s (ev.Apply k i) (rp.Applied comes) u → (t : TableState) → Shows s t → Shows u (record t { known = learned t.known k i })
 applied-shows s u k i comes w st t h =
     let v = quiet-shows s u (ev.Apply k i) (rp.Applied comes) w tt st t h in
-    record { schema = v.schema; log = v.log; next = v.next; quorum = v.quorum; blocks = v.blocks; knows = learns-step s u k i comes t.known w st h.knows }
+    record { schema = v.schema; log = v.log; next = v.next; quorum = v.quorum; blocks = v.blocks; fetching = v.fetching; knows = learns-step s u k i comes t.known w st h.knows }

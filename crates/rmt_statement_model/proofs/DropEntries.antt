@@ -45,7 +45,7 @@ newest-log s u p place d = ap (λ (x : Cluster). x.table.log) d.appends.at.chang
 -- the cluster shows the table with the drop
 pub drop-shows : (s u : Cluster) (p : Option ℕ) (place : ℕ) → IsWhole s → (k : Step s (ev.DropPartition p) (rp.Entry place) u) → DropsNewest s p place k.after → (t : TableState) → Shows s t → Shows u (record t { log = DropRange p (next_number t.next p) ∷ t.log; next = with_next t.next p (next_number t.next p + 1); quorum = quorum_after_drop p (next_number t.next p) t.quorum })
 drop-shows s u p place w k d t h =
-    gained-shows s u (ev.DropPartition p) (rp.Entry place) (DropRange p (next_number t.next p)) t (with_next t.next p (next_number t.next p + 1)) (quorum_after_drop p (next_number t.next p) t.quorum) w k
+    gained-shows s u (ev.DropPartition p) (rp.Entry place) (DropRange p (next_number t.next p)) t (with_next t.next p (next_number t.next p + 1)) (quorum_after_drop p (next_number t.next p) t.quorum) w tt k
     (gains-stored s u (ev.DropPartition p) (rp.Entry place) (DropRange p (next_number t.next p)) k
     (ap (λ (x : Cluster). x.table.schema) d.appends.at.change ∙ ap (λ (x : Table). x.schema) d.appends.at.does.change)
     (newest-log s k.after p place d ∙ ap (λ i. DropRange p i ∷ s.table.log) given)

@@ -77,7 +77,7 @@ drop-nothing-row s u p w k t h = go k.does
     go (inr (inl d)) = record {
       state = t;
       holds = record { absent = next-shown s t p h ∙ d.absent; number = refl; unchanged = refl };
-      shows = shows-quiet s u (ev.DropPartition p) rp.Done t w k (ap (λ (x : Cluster). x.table) d.unchanged) (ap (λ (x : Cluster). x.events) d.unchanged) (λ xs i. refl) h;
+      shows = shows-quiet s u (ev.DropPartition p) rp.Done t w tt k (ap (λ (x : Cluster). x.table) d.unchanged) (ap (λ (x : Cluster). x.events) d.unchanged) (λ xs i. refl) h;
     }
     go (inr (inr d)) = let e = d.answer in absurd (cc)
 
@@ -94,7 +94,7 @@ drop-refused s u p limit value w k t h = go k.does
         record {
           state = t;
           holds = record { exists = exists-shown s t p h c.0; limit = limit; value = value; reached = limit-shown s t p h ∙ c.1; reply = refl; unchanged = refl };
-          shows = shows-quiet s u (ev.DropPartition p) (rp.Refused (rf.LimitReached limit value)) t w k (ap (λ (x : Cluster). x.table) d.unchanged) (ap (λ (x : Cluster). x.events) d.unchanged) (λ xs i. refl) h;
+          shows = shows-quiet s u (ev.DropPartition p) (rp.Refused (rf.LimitReached limit value)) t w tt k (ap (λ (x : Cluster). x.table) d.unchanged) (ap (λ (x : Cluster). x.events) d.unchanged) (λ xs i. refl) h;
         }
 
 -- ---- a drop enters the log

@@ -10,6 +10,7 @@ use Rattle.rmt_events.specs.Steps.{Step}
 use Rattle.rmt_events.proofs.Moves.{blocks-same}
 use Rattle.rmt_statement_model.specs.TableStates.{TableState}
 use Rattle.rmt_statement_model.specs.Shows.{Shows}
+use Rattle.rmt_statement_model.proofs.SwitchLaws.{IsNoSwitch, switch-step}
 use Rattle.rmt_statement_model.proofs.KnowsLaws.{knows-step}
 use Rattle.rmt_statement_model.proofs.ShownSteps.{TellsNoCommit}
 use Rattle.rmt_events.specs.declared.event.Event.{Event}
@@ -47,13 +48,14 @@ gains-stored s u event reply e k p q v f =
     }
 
 -- the state is shown with the entry, and with the next numbers and the quorum of the table
-pub gained-shows : (s u : Cluster) (event : Event) (reply : Reply) (e : Entry) (t : TableState) (next : List (Option ℕ × ℕ)) (quorum : Quorum) → IsWhole s → Step s event reply u → GainsEntry s u e → IsOfNoBlock e → next ≡ u.table.next → quorum ≡ u.table.quorum → Shows s t → Shows u (record t { log = e ∷ t.log; next = next; quorum = quorum })
-gained-shows s u event reply e t next quorum w k g q n m h =
+pub gained-shows : (s u : Cluster) (event : Event) (reply : Reply) (e : Entry) (t : TableState) (next : List (Option ℕ × ℕ)) (quorum : Quorum) → IsWhole s → IsNoSwitch event → Step s event reply u → GainsEntry s u e → IsOfNoBlock e → next ≡ u.table.next → quorum ≡ u.table.quorum → Shows s t → Shows u (record t { log = e ∷ t.log; next = next; quorum = quorum })
+gained-shows s u event reply e t next quorum w z k g q n m h =
     record {
       schema = h.schema ∙ sym g.schema;
       log = ap (λ (l : List Entry). e ∷ l) h.log ∙ sym g.log;
       next = n;
       quorum = m;
       blocks = h.blocks ∙ sym (ap (λ (l : List Entry). blocks_in l u.events) g.log ∙ (blocks-behind e s.table.log u.events q ∙ blocks-same s.table.log s.events u.events (λ i l. g.commits i)));
+      fetching = h.fetching ∙ sym (switch-step s u event reply w z k);
       knows = knows-step s u event reply t.known w k h.knows;
     }

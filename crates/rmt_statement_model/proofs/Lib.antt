@@ -3,6 +3,7 @@ pub mod Learning
 pub mod KnowsLaws
 pub mod ShownParts
 pub mod UpLaws
+pub mod SwitchLaws
 pub mod ShownSteps
 pub mod AttemptBegins
 pub mod AttemptStages
@@ -19,6 +20,8 @@ pub mod MutationRows
 pub mod DropEntries
 pub mod DropRows
 pub mod RunTurns
+pub mod NoteRows
+pub mod SwitchRows
 pub mod RunRows
 pub mod PartitionLaws
 pub mod MergeReplies

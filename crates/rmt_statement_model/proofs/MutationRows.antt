@@ -63,7 +63,7 @@ mutation-row s u command place w k t h = go k.does
             numbered = ap (λ (l : List Entry). mutation_count l) (sym h.log);
             change = refl;
           };
-          shows = gained-shows s u (ev.CreateMutation command) (rp.Entry place) (Mutation (mutation_count t.log) t.next command) t (next_numbers_after t.next) t.quorum w k
+          shows = gained-shows s u (ev.CreateMutation command) (rp.Entry place) (Mutation (mutation_count t.log) t.next command) t (next_numbers_after t.next) t.quorum w tt k
               (gains-stored s u (ev.CreateMutation command) (rp.Entry place) (Mutation (mutation_count t.log) t.next command) k
               (ap (λ (x : Table). x.schema) q ∙ ap (λ (x : Table). x.schema) d.at.does.change)
               (ap (λ (x : Table). x.log) q
@@ -88,5 +88,5 @@ mutation-refused s u command limit value w k t h = go k.does
         record {
           state = t;
           holds = record { limit = limit; value = value; reached = limit-shown s t h ∙ c; reply = refl; unchanged = refl };
-          shows = shows-quiet s u (ev.CreateMutation command) (rp.Refused (rf.LimitReached limit value)) t w k (ap (λ (x : Cluster). x.table) d.unchanged) (ap (λ (x : Cluster). x.events) d.unchanged) (λ xs i. refl) h;
+          shows = shows-quiet s u (ev.CreateMutation command) (rp.Refused (rf.LimitReached limit value)) t w tt k (ap (λ (x : Cluster). x.table) d.unchanged) (ap (λ (x : Cluster). x.events) d.unchanged) (λ xs i. refl) h;
         }

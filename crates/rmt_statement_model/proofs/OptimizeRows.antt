@@ -27,6 +27,7 @@ use Rattle.rmt_events.proofs.WholeSteps.{whole-step}
 use Rattle.rmt_statement_model.specs.TableStates.{TableState, synced}
 use Rattle.rmt_statement_model.specs.Optimizes.{live_of, MergesLive, Optimizes, AreFirstUnmergeable, CantOptimize, OptimizesAll}
 use Rattle.rmt_statement_model.specs.Shows.{Shows, Leads}
+use Rattle.rmt_statement_model.proofs.SwitchLaws.{switch-step}
 use Rattle.rmt_statement_model.proofs.KnowsLaws.{knows-step}
 use Rattle.rmt_statement_model.proofs.ShownSteps.{shows-quiet}
 use Rattle.rmt_statement_model.proofs.PartitionLaws.{live-alike, others-live}
@@ -131,6 +132,7 @@ merged-shows s u k sources place w step m t h =
       next = h.next ∙ sym (ap (λ (x : Cluster). x.table.next) m.change ∙ m.next);
       quorum = h.quorum ∙ sym (ap (λ (x : Cluster). x.table.quorum) m.change ∙ m.quorum);
       blocks = h.blocks ∙ (sym (blocks-same s.table.log s.events u.events (λ i l. ap (λ (x : Cluster). committed_at x.events i) m.change)) ∙ ap (λ (l : List Entry). blocks_in l u.events) (sym log-is));
+      fetching = h.fetching ∙ sym (switch-step s u (ev.Merge k sources) (rp.Entry place) w tt step);
       knows = knows-step s u (ev.Merge k sources) (rp.Entry place) t.known w step h.knows;
     }
   where
@@ -183,7 +185,7 @@ refuses s u k names why w step = go step.does
         let e : a.why ≡ why = let q = a.answer in cc in
         record {
           cause = subst (λ (y : StepRefused). NoMerge s k names y) e a.cause;
-          shows = λ t h. shows-quiet s u (ev.Merge k names) (rp.Refused why) t w step (ap (λ (x : Cluster). x.table) a.unchanged) (ap (λ (x : Cluster). x.events) a.unchanged) (λ xs i. refl) h;
+          shows = λ t h. shows-quiet s u (ev.Merge k names) (rp.Refused why) t w tt step (ap (λ (x : Cluster). x.table) a.unchanged) (ap (λ (x : Cluster). x.events) a.unchanged) (λ xs i. refl) h;
         }
 
 -- what is said of the log, the part that waits for its quorum and the partition's live names is said of the table's

@@ -22,7 +22,7 @@ pub killed-shows : (s u : Cluster) (k : ℕ) (r : Reply) → IsWhole s → Step 
 killed-shows s u k r w st t h =
     let d : Kills s k r st.after = st.does in
     let q = ap (λ (x : Cluster). x.table) d.change ∙ d.closes in
-    shows-next s u (ev.Kill k) r t t.next w st
+    shows-next s u (ev.Kill k) r t t.next w tt st
     (keeps-stored s u (ev.Kill k) r st (ap (λ (x : Table). x.schema) q) (ap (λ (x : Table). x.log) q) (ap (λ (x : Table). x.quorum) q) (ap (λ (x : Cluster). x.events) d.change) (λ xs i. refl))
     (h.next ∙ sym (ap (λ (x : Cluster). x.table.next) st.stored ∙ ap (λ (x : Table). x.next) q)) h
 
@@ -31,7 +31,7 @@ pub restarted-shows : (s u : Cluster) (k : ℕ) (r : Reply) → IsWhole s → St
 restarted-shows s u k r w st t h =
     let d : Restarts s k r st.after = st.does in
     let q = ap (λ (x : Cluster). x.table) d.change in
-    shows-next s u (ev.Restart k) r t t.next w st
+    shows-next s u (ev.Restart k) r t t.next w tt st
     (keeps-stored s u (ev.Restart k) r st
     (ap (λ (x : Table). x.schema) q ∙ (ap (λ (x : Table). x.schema) d.opens ∙ ap (λ (x : Table). x.schema) d.closes))
     (ap (λ (x : Table). x.log) q ∙ (ap (λ (x : Table). x.log) d.opens ∙ ap (λ (x : Table). x.log) d.closes))

@@ -164,6 +164,7 @@ shown-shows s k x t w at h = record {
   next = h.next;
   quorum = h.quorum;
   blocks = h.blocks;
+  fetching = h.fetching;
   knows = subst (λ (l : List Entry). EachKnows s (learned_shown l (names_of x.parts) t.known k)) (sym h.log)
       (subst (λ (n : ℕ). EachKnows s (learned_shown s.table.log (names_of x.parts) t.known n)) at.number (shown-known s x t.known w at.is_in h.knows));
 }

@@ -15,6 +15,7 @@ use Rattle.rmt_events.proofs.Moves.{blocks-same}
 use Rattle.rmt_statement_model.specs.TableStates.{TableState, kept_with}
 use Rattle.rmt_statement_model.specs.Inserts.{number_limit, block_limit}
 use Rattle.rmt_statement_model.specs.Shows.{Shows}
+use Rattle.rmt_statement_model.proofs.SwitchLaws.{IsNoSwitch, switch-step}
 use Rattle.rmt_statement_model.proofs.KnowsLaws.{knows-step}
 use Rattle.rmt_events.specs.declared.event.Event.{Event}
 use Rattle.rmt_events.specs.declared.reply.Reply.{Reply}
@@ -64,18 +65,19 @@ keeps-stored s u e reply k p q m v f =
     }
 
 -- the state is shown still, but for the next numbers
-pub shows-next : (s u : Cluster) (e : Event) (reply : Reply) (t : TableState) (next : List (Option ℕ × ℕ)) → IsWhole s → Step s e reply u → KeepsLog s u → next ≡ u.table.next → Shows s t → Shows u (record t { next = next })
-shows-next s u e reply t next w k q n h =
+pub shows-next : (s u : Cluster) (e : Event) (reply : Reply) (t : TableState) (next : List (Option ℕ × ℕ)) → IsWhole s → IsNoSwitch e → Step s e reply u → KeepsLog s u → next ≡ u.table.next → Shows s t → Shows u (record t { next = next })
+shows-next s u e reply t next w z k q n h =
     record {
       schema = h.schema ∙ sym q.schema;
       log = h.log ∙ sym q.log;
       next = n;
       quorum = h.quorum ∙ sym q.quorum;
       blocks = h.blocks ∙ (sym (blocks-same s.table.log s.events u.events (λ i l. q.commits i)) ∙ ap (λ (l : List Entry). blocks_in l u.events) (sym q.log));
+      fetching = h.fetching ∙ sym (switch-step s u e reply w z k);
       knows = knows-step s u e reply t.known w k h.knows;
     }
 
 -- an event that leaves the table
-pub shows-quiet : (s u : Cluster) (e : Event) (reply : Reply) (t : TableState) → IsWhole s → (k : Step s e reply u) → k.after.table ≡ s.table → k.after.events ≡ s.events → TellsNoCommit e reply → Shows s t → Shows u t
-shows-quiet s u e reply t w k p q f h =
-    shows-next s u e reply t t.next w k (keeps-stored s u e reply k (ap (λ (x : Table). x.schema) p) (ap (λ (x : Table). x.log) p) (ap (λ (x : Table). x.quorum) p) q f) (h.next ∙ sym (ap (λ (x : Cluster). x.table.next) k.stored ∙ ap (λ (x : Table). x.next) p)) h
+pub shows-quiet : (s u : Cluster) (e : Event) (reply : Reply) (t : TableState) → IsWhole s → IsNoSwitch e → (k : Step s e reply u) → k.after.table ≡ s.table → k.after.events ≡ s.events → TellsNoCommit e reply → Shows s t → Shows u t
+shows-quiet s u e reply t w z k p q f h =
+    shows-next s u e reply t t.next w z k (keeps-stored s u e reply k (ap (λ (x : Table). x.schema) p) (ap (λ (x : Table). x.log) p) (ap (λ (x : Table). x.quorum) p) q f) (h.next ∙ sym (ap (λ (x : Cluster). x.table.next) k.stored ∙ ap (λ (x : Table). x.next) p)) h

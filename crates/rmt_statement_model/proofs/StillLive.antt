@@ -18,7 +18,7 @@ use Rattle.rmt_events.specs.Clusters.{Cluster, accepted}
 use Rattle.rmt_events.specs.Whole.{Follows, IsWhole}
 use Rattle.rmt_statement_model.specs.TableStates.{TableState, synced}
 use Rattle.rmt_statement_model.specs.Optimizes.{live_of, OptimizesAll}
-use Rattle.rmt_statement_model.specs.Shows.{Knows, Shows, Leads}
+use Rattle.rmt_statement_model.specs.Shows.{Knows, Shows, Leads, fetching_of}
 use Rattle.rmt_statement_model.proofs.OptimizeRows.{still-live}
 
 -- a replica knows nothing, at least
@@ -32,8 +32,8 @@ knows-nothing s x w h =
 -- a whole cluster shows the state in which nothing is known
 pub some-shown : (s : Cluster) → IsWhole s → (t : TableState) × Shows s t
 some-shown s w = (
-  record { schema = s.table.schema; log = s.table.log; blocks = accepted s; next = s.table.next; quorum = s.table.quorum; known = λ r i. false },
-  record { schema = refl; log = refl; next = refl; quorum = refl; blocks = refl; knows = λ x h. knows-nothing s x w h },
+  record { schema = s.table.schema; log = s.table.log; blocks = accepted s; next = s.table.next; quorum = s.table.quorum; fetching = fetching_of s; known = λ r i. false },
+  record { schema = refl; log = refl; next = refl; quorum = refl; blocks = refl; fetching = refl; knows = λ x h. knows-nothing s x w h },
 )
 
 -- what is live of a partition is so still behind those that were optimized, where it is none of these

@@ -9,6 +9,7 @@ use Rattle.rmt_events.proofs.WholeSteps.{whole-after}
 use Rattle.rmt_events.specs.declared.event.Event.{Event}
 use Rattle.rmt_events.specs.declared.event.Event.TheVariants as ev
 use Rattle.rmt_events.specs.declared.reply.Reply.{Reply}
+use Rattle.rmt_model.specs.Quorum.{Quorum, quorum_after_note}
 use Rattle.rmt_statement_model.specs.TableStates.{TableState, learned_to, synced}
 use Rattle.rmt_statement_model.specs.Shows.{EachKnows, Shows, ups, IsUpToDate}
 use Rattle.rmt_statement_model.proofs.KnowsLaws.{drained-known}
@@ -38,8 +39,9 @@ synced-shows u k t w d h =
       schema = h.schema;
       log = h.log;
       next = h.next;
-      quorum = h.quorum;
+      quorum = ap (λ (q : Quorum). quorum_after_note k q) h.quorum ∙ d.noted;
       blocks = h.blocks;
+      fetching = h.fetching;
       knows = subst (λ n. EachKnows u (learned_to t.known k n)) (ap (λ (l : List Entry). length l) (sym h.log))
           (subst (λ j. EachKnows u (learned_to t.known j (length u.table.log))) d.at.number (drained-known u d.replica t.known w d.at.is_in d.whole d.drained h.knows));
     }

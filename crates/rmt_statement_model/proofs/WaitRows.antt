@@ -20,9 +20,12 @@ use Rattle.rmt_events.specs.Steps.{Does, Step}
 use Rattle.rmt_events.proofs.Copies.{entry-behind}
 use Rattle.rmt_events.proofs.Moves.{blocks-same}
 use Rattle.rmt_events.proofs.WholeTries.{one-replica}
+use Rattle.rmt_model.specs.Quorum.{Quorum, quorum_after_note}
+use Rattle.rmt_statement_model.proofs.NoteRows.{note-again}
 use Rattle.rmt_statement_model.specs.TableStates.{TableState, learned_to, synced}
 use Rattle.rmt_statement_model.specs.Shows.{Shows, ups, IsUpToDate}
 use Rattle.rmt_statement_model.specs.Waits.{MutatesUpTo, MutatesParts}
+use Rattle.rmt_statement_model.proofs.SwitchLaws.{switch-step}
 use Rattle.rmt_statement_model.proofs.KnowsLaws.{knows-step}
 use Rattle.rmt_statement_model.proofs.UpLaws.{not-down}
 use Rattle.rmt_statement_model.proofs.ShownSteps.{shows-quiet}
@@ -105,6 +108,7 @@ mutate-shows s u k old upto place w st m t h = go st.does
       next = h.next ∙ sym (ap (λ (x : Cluster). x.table.next) st.stored ∙ (ap (λ (x : Cluster). x.table.next) a.appends.at.change ∙ ap (λ (x : Table). x.next) a.appends.at.does.change));
       quorum = h.quorum ∙ sym (ap (λ (x : Cluster). x.table.quorum) st.stored ∙ (ap (λ (x : Cluster). x.table.quorum) a.appends.at.change ∙ ap (λ (x : Table). x.quorum) a.appends.at.does.change));
       blocks = h.blocks ∙ (sym (blocks-same s.table.log s.events u.events (λ i l. ap (λ (x : Cluster). committed_at x.events i) st.stored ∙ ap (λ (x : Cluster). committed_at x.events i) a.appends.at.change)) ∙ ap (λ (l : List Entry). blocks_in l u.events) (sym m.log));
+      fetching = h.fetching ∙ sym (switch-step s u (ev.Mutate k old upto) (rp.Entry place) w tt st);
       knows = knows-step s u (ev.Mutate k old upto) (rp.Entry place) t.known w st h.knows;
     }
     go (inr a) = let q = a.answer in absurd (cc)
@@ -121,7 +125,7 @@ refused-shows s u k old upto limit value w st t h = go st.does
         let e : a.why ≡ rf.LimitReached limit value = let q = a.answer in cc in
         let c = subst (λ (y : StepRefused). NoMutate s k old upto y) e a.cause in (
           ap worker_limit h.log ∙ c.3.1,
-          shows-quiet s u (ev.Mutate k old upto) (rp.Refused (rf.LimitReached limit value)) t w st (ap (λ (x : Cluster). x.table) a.unchanged) (ap (λ (x : Cluster). x.events) a.unchanged) (λ xs i. refl) h,
+          shows-quiet s u (ev.Mutate k old upto) (rp.Refused (rf.LimitReached limit value)) t w tt st (ap (λ (x : Cluster). x.table) a.unchanged) (ap (λ (x : Cluster). x.events) a.unchanged) (λ xs i. refl) h,
         )
 
 -- ---- several parts
@@ -152,7 +156,10 @@ mutates-more t u v r id place e m h w l c =
       mutates = (h, m.mutates);
       room = (sym (ap (λ (x : TableState). worker_limit x.log) m.change) ∙ w, m.room);
       lawful = subst (λ (x : List Entry). Lawful t.schema (e ∷ x)) (ap (λ (x : TableState). x.log) m.change) l;
-      change = c ∙ (ap (λ (x : TableState). synced r (record x { log = e ∷ x.log })) m.change ∙ ap (λ (f : ℕ → ℕ → Bool). record t { log = e ∷ (m.gained ++ t.log); known = f }) (learned-twice t.known r (length (m.gained ++ t.log)) (length (e ∷ (m.gained ++ t.log))) (omega arith)));
+      change = c ∙ (ap (λ (x : TableState). synced r (record x { log = e ∷ x.log })) m.change
+          ∙ (ap (λ (f : ℕ → ℕ → Bool). record t { log = e ∷ (m.gained ++ t.log); known = f; quorum = quorum_after_note r (quorum_after_note r t.quorum) })
+          (learned-twice t.known r (length (m.gained ++ t.log)) (length (e ∷ (m.gained ++ t.log))) (omega arith))
+          ∙ ap (λ (q : Quorum). record t { log = e ∷ (m.gained ++ t.log); known = learned_to t.known r (length (e ∷ (m.gained ++ t.log))); quorum = q }) (note-again r t.quorum)));
     }
 
 -- the place that they are mutated up to is that of the mutation in the longer log

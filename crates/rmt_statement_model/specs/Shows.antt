@@ -5,6 +5,7 @@ use Rattle.std.specs.declared.result.Result.{Result}
 use Rattle.rmt_model.specs.Words.{Has}
 use Rattle.rmt_model.specs.Fair.{AreFair}
 use Rattle.rmt_model.specs.CopiedParts.{names_of}
+use Rattle.rmt_model.specs.Quorum.{quorum_after_note}
 use Rattle.rmt_events.specs.Views.{Replica}
 use Rattle.rmt_events.specs.Clusters.{Cluster, accepted}
 use Rattle.rmt_events.specs.ClusterChanges.{IsNumbered, KeepsTable}
@@ -20,6 +21,15 @@ pub record Knows (x : Replica) (known : ℕ → Bool) : Type 0 where
 abbrev pub EachKnows : Cluster → (ℕ → ℕ → Bool) → Type 0
 EachKnows s known = (x : Replica) → Has s.replicas x → Knows x (known x.number)
 
+-- whether the replica of a number may fetch; one that isn't there may
+abbrev pub fetching_at : List Replica → ℕ → Bool
+fetching_at [] k = true
+fetching_at (x ∷ others) k = cond (nat_eq x.number k) x.fetches (fetching_at others k)
+
+-- which replicas may fetch
+abbrev pub fetching_of : Cluster → ℕ → Bool
+fetching_of s k = fetching_at s.replicas k
+
 -- the cluster has the table in this state
 pub record Shows (s : Cluster) (t : TableState) : Type 0 where
   pub schema : t.schema ≡ s.table.schema
@@ -27,6 +37,7 @@ pub record Shows (s : Cluster) (t : TableState) : Type 0 where
   pub next : t.next ≡ s.table.next
   pub quorum : t.quorum ≡ s.table.quorum
   pub blocks : t.blocks ≡ accepted s
+  pub fetching : t.fetching ≡ fetching_of s
   pub knows : EachKnows s t.known
 
 -- whether the replica of a number is up; one that isn't there isn't
@@ -43,12 +54,14 @@ pub record KeepsUps {A E : Type 0} (s : Cluster) (r : Result A E) (t : Cluster) 
   pub table : KeepsTable s t
   pub ups : OnOk r (ups t ≡ ups s)
 
--- the replica of a number has the whole log, and has done all of it
+-- the replica of a number may fetch, has the whole log, has done all of it, and is noted where a part waits for its quorum
 pub record IsUpToDate (s : Cluster) (k : ℕ) : Type 0 where
   pub replica : Replica
   pub at : IsNumbered s k replica
   pub whole : replica.log ≡ s.table.log
   pub drained : IsDrained replica
+  pub allowed : replica.fetches ≡ true
+  pub noted : quorum_after_note k s.table.quorum ≡ s.table.quorum
 
 -- the cluster shows a state of which this holds
 pub record Leads (s : Cluster) (Holds : TableState → Type 0) : Type 0 where

@@ -2,7 +2,7 @@
 -- which entries of the log are known at each replica.
 -- ClickHouse documentation, Data Replication: a block that a replica accepts becomes an entry of the table's log; another
 -- replica has it once it has done that entry.
-use Rattle.std.specs.Prelude.{ℕ, ◌&&◌, ◌||◌, Bool, false, nat_eq, nat_lt, List, [], ◌∷◌, length}
+use Rattle.std.specs.Prelude.{ℕ, ◌&&◌, ◌||◌, Bool, true, false, cond, nat_eq, nat_lt, List, [], ◌∷◌, length}
 use Rattle.std.specs.List.{list_any}
 use Rattle.std.specs.Option.{option_and_then}
 use Rattle.std.specs.declared.option.Option.{Option}
@@ -15,26 +15,27 @@ use Rattle.rmt_granules.specs.Granules.{PartView}
 use Rattle.rmt_granules.specs.MadePart.{data_of}
 use Rattle.rmt_model.specs.Content.{Row, content, rows}
 use Rattle.rmt_model.specs.Lawful.{entry_at}
-use Rattle.rmt_model.specs.Quorum.{Quorum}
+use Rattle.rmt_model.specs.Quorum.{Quorum, quorum_after_note}
 use Rattle.rmt_model.specs.Window.{kept}
 use Rattle.rmt_events.specs.Views.{Block}
 use Rattle.rmt_events.specs.TableCalls.{kept_part}
 use Rattle.rmt_events.specs.Clusters.{Accepted, rows_at}
 
 -- a table: its schema, its log and the accepted blocks, both newest first, the next number of each partition that exists,
--- the part that waits for its quorum and the last one whose quorum was met, and for each replica, by its number, the places of
--- the log that are known there
+-- the part that waits for its quorum and the last one whose quorum was met, and for each replica, by its number, whether it may
+-- fetch, and the places of the log that are known there
 pub record TableState : Type 0 where
   pub schema : Shape
   pub log : List Entry
   pub blocks : List Accepted
   pub next : List (Option ℕ × ℕ)
   pub quorum : Quorum
+  pub fetching : ℕ → Bool
   pub known : ℕ → ℕ → Bool
 
 -- a table without rows
 abbrev pub empty_table : Shape → TableState
-empty_table schema = record { schema = schema; log = []; blocks = []; next = []; quorum = record { pending = None; last = None }; known = λ r i. false }
+empty_table schema = record { schema = schema; log = []; blocks = []; next = []; quorum = record { pending = None; last = None }; fetching = λ r. true; known = λ r i. false }
 
 -- with one more place known at a replica
 abbrev pub learned : (ℕ → ℕ → Bool) → ℕ → ℕ → ℕ → ℕ → Bool
@@ -48,9 +49,13 @@ learned_to known r len s j = (nat_eq s r && nat_lt j len) || known s j
 abbrev pub gains_at : ℕ → Entry → TableState → TableState
 gains_at r e t = record t { log = e ∷ t.log; known = learned t.known r (length t.log) }
 
--- the table, every place of its log known at a replica
+-- the table, every place of its log known at a replica, which is noted where a part waits for its quorum
 abbrev pub synced : ℕ → TableState → TableState
-synced r t = record t { known = learned_to t.known r (length t.log) }
+synced r t = record t { known = learned_to t.known r (length t.log); quorum = quorum_after_note r t.quorum }
+
+-- the table, a replica of which may fetch from now on, or not
+abbrev pub with_switch : TableState → ℕ → Bool → TableState
+with_switch t r allowed = record t { fetching = λ k. cond (nat_eq r k) allowed (t.fetching k) }
 
 -- one of the names covers this one, where there is one
 abbrev pub covered_by : List Name → Option Name → Bool

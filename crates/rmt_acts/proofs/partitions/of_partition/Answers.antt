@@ -1,4 +1,4 @@
-use Rattle.std.proofs.Common.{◌≡◌, ℕ, List, ap, subst, sym, ◌∙◌, rules, take, drop}
+use Rattle.std.proofs.Common.{◌≡◌, List, ap, subst, sym, ◌∙◌, rules, take, drop}
 use Rattle.std.proofs.lemmas.List.Sorted.{IsPartitionPoint-from_clause}
 use Rattle.std.specs.List.{prefix_len}
 use Rattle.std.specs.declared.option.Option.TheVariants.{None}

@@ -1,23 +1,28 @@
 use Rattle.std.proofs.lemmas.Result.{IfOk-weaker}
-use Rattle.rmt_acts.proofs.SyncActs.{sync-table, sync-ups, sync-idle, is-synced, not-refused, early-told, stopped-told}
+use Rattle.rmt_acts.proofs.SyncActs.{sync-table, sync-ups, sync-idle, is-synced, not-refused, never-stopped, may-fetch, early-told, stopped-told}
 use Rattle.rmt_acts.proofs.syncing.sync_replica.Goals as goal
 
-pub refusal_of-requires : goal.refusal_of-requires
-refusal_of-requires c = not-refused c.args.cluster.now c.sync.new.self c.args.replica c.in-Err.error c.drained_replicas_agree.ensures.whole c.requires.idle.up c.in-Err.ensures.syncs
+pub refusal_of-requires-clause-up : goal.refusal_of-requires-clause-up
+refusal_of-requires-clause-up c = not-refused c.args.cluster.now c.sync.new.self c.args.replica c.in-Err.error c.drained_replicas_agree.ensures.whole c.requires.idle.up c.in-Err.ensures.syncs
+
+pub refusal_of-requires-clause-fetches : goal.refusal_of-requires-clause-fetches
+refusal_of-requires-clause-fetches c =
+    never-stopped c.args.cluster.now c.sync.new.self c.args.replica c.in-Err.error
+    (may-fetch c.args.cluster.now c.args.replica c.drained_replicas_agree.ensures.whole c.requires.fetches) c.in-Err.ensures.syncs
 
 pub returns-in-Ok : goal.returns-in-Ok
 returns-in-Ok c =
     let w = c.drained_replicas_agree.ensures.whole in
     let y = c.in-Ok.ensures.syncs in
     record {
-      syncs = is-synced c.args.cluster.now c.sync.new.self c.args.replica w y.0 y.1;
-      table = sync-table c.args.cluster.now c.sync.new.self c.args.replica w y.0;
-      idle = sync-idle c.args.cluster.now c.sync.new.self c.args.replica w y.0 c.requires.idle;
+      syncs = is-synced c.args.cluster.now c.sync.new.self c.args.replica w y.0 y.2 y.1;
+      table = sync-table c.args.cluster.now c.sync.new.self c.args.replica w y.0 y.2;
+      idle = sync-idle c.args.cluster.now c.sync.new.self c.args.replica w y.0 y.2 c.requires.idle;
       events = record { syncs = y.0; done = y.1 };
       err = tt;
       keeps = record {
         table = c.sync.ensures.keeps;
-        ups = sync-ups c.args.cluster.now c.sync.new.self c.args.replica w y.0;
+        ups = sync-ups c.args.cluster.now c.sync.new.self c.args.replica w y.0 y.2;
       };
     }
 
