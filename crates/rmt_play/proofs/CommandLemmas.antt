@@ -21,7 +21,7 @@ use Rattle.rmt_statements.specs.declared.act.Act.{Act}
 use Rattle.rmt_statements.specs.declared.act.Act.TheVariants as acts
 use Rattle.rmt_statements.specs.declared.partition_word.PartitionWord.{PartitionWord}
 use Rattle.rmt_statements.specs.Partitions.{partition_named}
-use Rattle.rmt_statement_model.specs.TableStates.{TableState, synced, shown_at}
+use Rattle.rmt_statement_model.specs.TableStates.{TableState, synced, shown_at, with_switch}
 use Rattle.rmt_statement_model.specs.BackgroundWork.{Works}
 use Rattle.rmt_statement_model.specs.Optimizes.{OptimizesTable}
 use Rattle.rmt_statement_model.specs.Shows.{Shows, Leads, ups}
@@ -41,7 +41,7 @@ use Rattle.rmt_acts.specs.StatementEvents.{Makes, SyncEvents, DropEvents, Optimi
 use Rattle.rmt_play.specs.Acts.{Acts}
 use Rattle.rmt_play.specs.ActEvents.{ActEvents}
 use Rattle.rmt_play.specs.QueryAnswers.{IsReadingOf, IsKnownOf}
-use Rattle.rmt_play.specs.PlayerSteps.{DoesAct, Declines, refusal_there, ExecutesAct, ExecutesIn, RunsCluster}
+use Rattle.rmt_play.specs.PlayerSteps.{DoesAct, Declines, refusal_there, ExecutesAct, ExecutesIn, RunsCluster, switch_act}
 use Rattle.rmt_acts.specs.Checking.{AreDigests}
 use Rattle.rmt_acts.specs.Syncing.{SyncsReplica}
 
@@ -175,9 +175,13 @@ drain-lacks s u r table why f m = λ t h. let l = f t h in acts-in s u r (acts.S
 pub restarts-in : (s u : Cluster) (r : ℕ) (table : List ℕ) → ((t : TableState) → Shows s t → Shows u t) → Makes s (ev.Kill r ∷ ev.Restart r ∷ []) u → ExecutesIn s r (acts.RestartReplica table) lines.Okay u
 restarts-in s u r table f m = λ t h. acts-in s u r (acts.RestartReplica table) t t lines.Okay refl (f t h) (record { reply = refl; unchanged = refl }) m
 
+pub switches-in : (s u : Cluster) (r : ℕ) (allowed : Bool) (table : List ℕ) → ((t : TableState) → Shows s t → Shows u (with_switch t r allowed)) → Makes s (ev.Fetches r allowed ∷ []) u → ExecutesIn s r (switch_act allowed table) lines.Okay u
+switches-in s u r false table f m = λ t h. acts-in s u r (acts.StopFetches table) t (with_switch t r false) lines.Okay refl (f t h) (record { reply = refl; change = refl }) m
+switches-in s u r true table f m = λ t h. acts-in s u r (acts.StartFetches table) t (with_switch t r true) lines.Okay refl (f t h) (record { reply = refl; change = refl }) m
+
 -- ---- RUN
 
-pub works-in : (s u : Cluster) (turns seed : ℕ) → ((t : TableState) → Shows s t → Leads u (λ v. Works turns t v)) → RunsAll s seed turns u → RunsCluster turns seed (lines.Ran turns) s u
+pub works-in : (s u : Cluster) (turns seed : ℕ) → ((t : TableState) → Shows s t → Leads u (λ v. Works (ups s) turns t v)) → RunsAll s seed turns u → RunsCluster turns seed (lines.Ran turns) s u
 works-in s u turns seed f m = record {
   turns_made = λ t h. let l = f t h in record { state = l.state; holds = record { works = l.holds; reply = refl }; shows = l.shows };
   events = m;

@@ -1,5 +1,5 @@
 -- What becomes of a world as a table is made, or isn't.
-use Rattle.std.proofs.Common.{◌≡◌, ◌∙◌, ℕ, zero, suc, ◌+◌, ◌<◌, ◌&&◌, nat_eq, nat_lt, Bool, true, false, List, [], ◌∷◌, ◌++◌, length, map, refl, ap, sym, subst, arith}
+use Rattle.std.proofs.Common.{◌≡◌, ◌∙◌, ℕ, zero, suc, ◌+◌, ◌<◌, ◌&&◌, inl, inr, nat_eq, nat_lt, Bool, true, false, cond, List, [], ◌∷◌, ◌++◌, length, map, refl, ap, sym, subst, arith}
 use Rattle.std.proofs.Math.Path.{fun_ext}
 use Rattle.std.proofs.lemmas.Bool.Decides.{nat_tests}
 use Rattle.std.specs.Prelude.{MatchOption, MatchResult, IfOk, IfErr, cond, is_some, slice_index_or, take}
@@ -13,12 +13,12 @@ use Rattle.rmt_reply.specs.declared.line.Line.{Line}
 use Rattle.rmt_reply.specs.declared.line.Line.TheVariants as lines
 use Rattle.rmt_reply.specs.declared.refusal.Refusal.{Refusal}
 use Rattle.rmt_reply.specs.declared.refusal.Refusal.TheVariants.{TableExists, Syntax}
+use Rattle.rmt_model.specs.Words.{Has}
 use Rattle.rmt_events.specs.Views.{Replica}
 use Rattle.rmt_events.specs.Clusters.{Cluster, accepted}
 use Rattle.rmt_events.specs.Starts.{new_replica}
 use Rattle.rmt_cluster.specs.NewClusters.{AreCounted, IsNewCluster}
-use Rattle.rmt_statement_model.specs.TableStates.{empty_table}
-use Rattle.rmt_statement_model.specs.Shows.{Shows, Knows, up_at}
+use Rattle.rmt_statement_model.specs.Shows.{Knows, up_at, fetching_at}
 use Rattle.rmt_play.specs.World.{Table, World, new_table}
 use Rattle.rmt_play.specs.Checks.{first_of, refused_with, refused_schema, refused_columns, too_many_tables, create_refusals, is_played, refusals, refusal_of}
 use Rattle.rmt_statements.specs.declared.statement.Statement.{Statement}
@@ -152,6 +152,15 @@ nothing-known number up = record {
   fair = record { apart = tt; made_here = tt; kept = tt; answered = λ a m. absurd m };
 }
 
+-- each replica may fetch
+all-fetch : (xs : List Replica) → ((x : Replica) → Has xs x → x.fetches ≡ true) → (k : ℕ) → true ≡ fetching_at xs k
+all-fetch [] f k = refl
+all-fetch (x ∷ xs) f k = go (nat_eq x.number k) x.fetches (f x (inl refl)) (all-fetch xs (λ y h. f y (inr h)) k)
+  where
+    go : (b c : Bool) → c ≡ true → true ≡ fetching_at xs k → true ≡ cond b c (fetching_at xs k)
+    go true c e m = sym e
+    go false c e m = m
+
 -- ---- which replicas of a new cluster are up
 
 -- one below all
@@ -199,6 +208,7 @@ new-table schema count up c k n = record {
     next = sym (ap (λ (d : Cluster). d.table.next) k.is_new);
     quorum = sym (ap (λ (d : Cluster). d.table.quorum) k.is_new);
     blocks = sym (ap accepted k.is_new);
+    fetching = fun_ext (all-fetch c.replicas (λ x h. ap (λ (y : Replica). y.fetches) (k.replicas.each x h).0));
     knows = λ x h. subst (λ (y : Replica). Knows y (λ i. false)) (sym (k.replicas.each x h).0) (nothing-known x.number x.up);
   };
   all = n;

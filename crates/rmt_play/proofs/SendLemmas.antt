@@ -15,20 +15,21 @@ use Rattle.rmt_reply.specs.declared.line.Line.TheVariants as lines
 use Rattle.rmt_reply.specs.declared.refusal.Refusal.{Refusal}
 use Rattle.rmt_reply.specs.declared.refusal.Refusal.TheVariants.{UnknownTable, WrongType}
 use Rattle.rmt_play.specs.World.{Table, World}
-use Rattle.rmt_play.specs.ActRefusals.{act_refusal, act_refusals, down_refusal, id_refusal}
+use Rattle.rmt_play.specs.ActRefusals.{act_refusal, act_refusals, down_refusal, id_refusal, stopped_refusal}
 use Rattle.rmt_play.specs.Checks.{first_of, table_of, table_named, replica_at, unknown_replica, refused_without, refused_name, refused_act, sent_refusals, refused_turns, run_refusals}
 use Rattle.rmt_cluster.specs.Runs.{RunsAll}
 use Rattle.rmt_play.specs.ActEvents.{ActEvents}
 use Rattle.rmt_play.specs.RunStatement.{RunsTurns}
 use Rattle.rmt_play.specs.Plays.{PerformsSent, RunsIn, Refuses, with_table}
-use Rattle.rmt_play.specs.PlayerSteps.{PlayerView, IsAtAll, IsIn, ComesTo, Moves, IsPlaceOf, HasNone, ChangesAt, ActsAt, DoesAct, Declines, refusal_there, ExecutesIn, ExecutesAt, ExecutesThere, ExecutesSent, RunsCluster, ExecutesRun}
+use Rattle.rmt_play.specs.PlayerSteps.{PlayerView, IsAtAll, IsIn, ComesTo, Moves, IsPlaceOf, HasNone, ChangesAt, ActsAt, DoesAct, Declines, refusal_there, held_refusal, ExecutesIn, ExecutesAt, ExecutesThere, ExecutesSent, RunsCluster, ExecutesRun}
+use Rattle.rmt_play.proofs.RefusedActs.{held-none, held-up}
 use Rattle.rmt_play.proofs.TableLemmas.{FoundIn, each-get, found-in, none-in, with-same}
 
 -- ---- acts at a replica
 
--- an act at a replica that is up is refused for its own cause
-up-refusals : (up : ℕ → Bool) (t : TableState) (r : ℕ) (act : Act) → up r ≡ true → first_of (act_refusals up t r act) ≡ refusal_there t act
-up-refusals up t r act h = own act (down act)
+-- an act that its replica doesn't hold back is refused for its own cause
+up-refusals : (up : ℕ → Bool) (t : TableState) (r : ℕ) (act : Act) → up r ≡ true → stopped_refusal t.fetching r act ≡ None → first_of (act_refusals up t r act) ≡ refusal_there t act
+up-refusals up t r act h p = own act (down act) p
   where
     -- it isn't refused for the replica
     down : (act : Act) → down_refusal up r act ≡ None
@@ -46,34 +47,37 @@ up-refusals up t r act h = own act (down act)
     down (acts.StopFetches table) = rw h refl
     down (acts.StartFetches table) = rw h refl
 
-    two : (o : Option Refusal) → first_of (o ∷ None ∷ None ∷ []) ≡ o
-    two None = refl
-    two (Some why) = refl
+    -- its own is the first, or the last
+    two : (o d q : Option Refusal) → d ≡ None → q ≡ None → first_of (o ∷ d ∷ q ∷ None ∷ []) ≡ o
+    two None d q e f = rw (e, f) refl
+    two (Some why) d q e f = refl
 
-    last : (o : Option Refusal) → first_of (None ∷ None ∷ o ∷ []) ≡ o
-    last None = refl
-    last (Some why) = refl
+    last : (o d q : Option Refusal) → d ≡ None → q ≡ None → first_of (None ∷ d ∷ q ∷ o ∷ []) ≡ o
+    last None d q e f = rw (e, f) refl
+    last (Some why) d q e f = rw (e, f) refl
 
-    own : (act : Act) → down_refusal up r act ≡ None → first_of (act_refusals up t r act) ≡ refusal_there t act
-    own (acts.Insert insert) d = two (act_refusal t (acts.Insert insert))
-    own (acts.Select table query mode) d = rw d (two (act_refusal t (acts.Select table query mode)))
-    own (acts.Explain table query) d = rw d (two (act_refusal t (acts.Explain table query)))
-    own (acts.Mutate table command) d = rw d (two (act_refusal t (acts.Mutate table command)))
-    own (acts.DropPartition table word) d = rw d (two (act_refusal t (acts.DropPartition table word)))
-    own (acts.Optimize table word) d = rw d (two (act_refusal t (acts.Optimize table word)))
-    own (acts.ShowParts table) d = rw d refl
-    own (acts.CheckTable table) d = rw d refl
-    own (acts.WaitMutation table id) d = rw d (last (id_refusal t (acts.WaitMutation table id)))
-    own (acts.SyncReplica table) d = rw d refl
-    own (acts.RestartReplica table) d = rw d refl
-    own (acts.StopFetches table) d = rw d refl
-    own (acts.StartFetches table) d = rw d refl
+    own : (act : Act) → down_refusal up r act ≡ None → stopped_refusal t.fetching r act ≡ None → first_of (act_refusals up t r act) ≡ refusal_there t act
+    own (acts.Insert insert) d q = two (act_refusal t (acts.Insert insert)) None None refl refl
+    own (acts.Select table query mode) d q = two (act_refusal t (acts.Select table query mode)) (down_refusal up r (acts.Select table query mode)) (stopped_refusal t.fetching r (acts.Select table query mode)) d q
+    own (acts.Explain table query) d q = two (act_refusal t (acts.Explain table query)) (down_refusal up r (acts.Explain table query)) None d refl
+    own (acts.Mutate table command) d q = two (act_refusal t (acts.Mutate table command)) (down_refusal up r (acts.Mutate table command)) None d refl
+    own (acts.DropPartition table word) d q = two (act_refusal t (acts.DropPartition table word)) (down_refusal up r (acts.DropPartition table word)) None d refl
+    own (acts.Optimize table word) d q = two (act_refusal t (acts.Optimize table word)) (down_refusal up r (acts.Optimize table word)) (stopped_refusal t.fetching r (acts.Optimize table word)) d q
+    own (acts.ShowParts table) d q = two None (down_refusal up r (acts.ShowParts table)) None d refl
+    own (acts.CheckTable table) d q = two None (down_refusal up r (acts.CheckTable table)) None d refl
+    own (acts.WaitMutation table id) d q = last (id_refusal t (acts.WaitMutation table id)) (down_refusal up r (acts.WaitMutation table id)) (stopped_refusal t.fetching r (acts.WaitMutation table id)) d q
+    own (acts.SyncReplica table) d q = two None (down_refusal up r (acts.SyncReplica table)) (stopped_refusal t.fetching r (acts.SyncReplica table)) d q
+    own (acts.RestartReplica table) d q = two None (down_refusal up r (acts.RestartReplica table)) None d refl
+    own (acts.StopFetches table) d q = two None (down_refusal up r (acts.StopFetches table)) None d refl
+    own (acts.StartFetches table) d q = two None (down_refusal up r (acts.StartFetches table)) None d refl
 
--- so it does there what it does where the replica is up
-pub there-up : (s u : Cluster) (r : ℕ) (act : Act) (line : Line) → ups s r ≡ true → ExecutesIn s r act line u → ExecutesThere s r act line u
-there-up s u r act line h f t k =
+-- so it does there what it does where nothing holds the replica
+pub there-up : (s u : Cluster) (r : ℕ) (act : Act) (line : Line) → held_refusal s r act ≡ None → ExecutesIn s r act line u → ExecutesThere s r act line u
+there-up s u r act line e f t k =
     let l = f t k in
-    record { state = l.state; holds = subst (λ (o : Option Refusal). MatchOption o (DoesAct (ups s) s t r act line u l.state) (Declines s t line u l.state)) (sym (up-refusals (ups s) t r act h)) l.holds; shows = l.shows }
+    let free = held-none s r act e in
+    let stopped : stopped_refusal t.fetching r act ≡ None = ap (λ (g : ℕ → Bool). stopped_refusal g r act) k.fetching ∙ (sym (held-up s r act free.up) ∙ e) in
+    record { state = l.state; holds = subst (λ (o : Option Refusal). MatchOption o (DoesAct (ups s) s t r act line u l.state) (Declines s t line u l.state)) (sym (up-refusals (ups s) t r act free.up stopped)) l.holds; shows = l.shows }
 
 -- ---- in the world
 
@@ -165,8 +169,8 @@ runs-found w name turns seed t e =
     ap (λ (o : Option Table). first_of (refused_without o name ∷ refused_turns turns seed ∷ [])) e ∙ alone (refused_turns turns seed)
 
 -- background work that is done in its table
-pub runs : (old new : PlayerView) (name : List ℕ) (turns seed place : ℕ) (line : Line) → IsPlaceOf old.tables name place → refused_turns turns seed ≡ None → ChangesAt old place (RunsCluster turns seed line) new → Moves old (ExecutesRun name turns seed line) new
-runs old new name turns seed place line p q a w i =
+pub runs : (old new : PlayerView) (name : List ℕ) (turns seed place : ℕ) (line : Line) → Each (IsAtAll old.replicas old.up) old.tables → IsPlaceOf old.tables name place → refused_turns turns seed ≡ None → ChangesAt old place (RunsCluster turns seed line) new → Moves old (ExecutesRun name turns seed line) new
+runs old new name turns seed place line all p q a w i =
     subst (λ (o : Option Refusal). ComesTo new (λ v. MatchOption o (RunsIn w name turns seed line v) (λ refusal. Refuses w refusal line v))) (sym (runs-found w name turns seed f.table f.found ∙ q))
     (record {
       world = record w { tables = with_table w.tables name (record f.table { state = led.state; cluster = a.after }) };
@@ -178,8 +182,8 @@ runs old new name turns seed place line p q a w i =
     f : FoundIn old.tables w.tables name place a.table
     f = subst (FoundIn old.tables w.tables name place) (let e = sym p.there ∙ a.there in cc) (found-at old w name place i p)
 
-    led : Leads a.after (RunsTurns f.table.state turns line)
-    led = a.changes.turns_made f.table.state f.is.shows
+    led : Leads a.after (RunsTurns w.up f.table.state turns line)
+    led = subst (λ (up : ℕ → Bool). Leads a.after (RunsTurns up f.table.state turns line)) ((each-get (IsAtAll old.replicas old.up) old.tables place a.table a.there all).1 ∙ sym i.up) (a.changes.turns_made f.table.state f.is.shows)
 
 -- a table that isn't there
 pub no-run-table : (p : PlayerView) (name : List ℕ) (turns seed : ℕ) → HasNone p.tables name → Moves p (ExecutesRun name turns seed (lines.Refused (UnknownTable name))) p

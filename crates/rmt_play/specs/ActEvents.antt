@@ -1,10 +1,9 @@
 -- The events that an act makes in its table's cluster, and no others. They are those of the stepped player alone.
 -- No public source: the events are this program's own.
-use Rattle.std.specs.Prelude.{◌≡◌, ℕ, [], ◌∷◌}
+use Rattle.std.specs.Prelude.{◌≡◌, ℕ, true, false, [], ◌∷◌}
 use Rattle.std.specs.declared.option.Option.{Option}
 use Rattle.std.specs.declared.option.Option.TheVariants.{Some, None}
 use Rattle.rmt_values.specs.declared.checked_mutation.CheckedMutation.{CheckedMutation}
-use Rattle.rmt_values.specs.Rows.{Shape}
 use Rattle.rmt_expr.specs.Mutations.{IsCheckedMutation}
 use Rattle.rmt_statements.specs.declared.act.Act.{Act}
 use Rattle.rmt_statements.specs.declared.act.Act.TheVariants as acts
@@ -61,4 +60,6 @@ ActEvents s r (acts.CheckTable table) line u = u ≡ s
 ActEvents s r (acts.WaitMutation table id) line u = WaitEvents s r (refusal_told line) u
 ActEvents s r (acts.SyncReplica table) line u = SyncEvents s r (refusal_told line) u
 ActEvents s r (acts.RestartReplica table) line u = Makes s (ev.Kill r ∷ ev.Restart r ∷ []) u
+ActEvents s r (acts.StopFetches table) line u = Makes s (ev.Fetches r false ∷ []) u
+ActEvents s r (acts.StartFetches table) line u = Makes s (ev.Fetches r true ∷ []) u
 ActEvents s r act line u = ⊥

@@ -1,6 +1,6 @@
 -- Why an act is refused in its table.
 -- ClickHouse documentation: INSERT INTO, SELECT, ALTER, OPTIMIZE. The refusals are this program's own.
-use Rattle.std.specs.Prelude.{ℕ, Bool, cond, nat_lt, List, [], ◌∷◌, codes}
+use Rattle.std.specs.Prelude.{ℕ, Bool, true, false, cond, nat_lt, List, [], ◌∷◌, codes}
 use Rattle.std.specs.declared.option.Option.{Option}
 use Rattle.std.specs.declared.option.Option.TheVariants.{Some, None}
 use Rattle.rmt_values.specs.declared.partition_rule.PartitionRule.{PartitionRule}
@@ -14,13 +14,14 @@ use Rattle.rmt_model.specs.Lawful.{mutation_count}
 use Rattle.rmt_statement_model.specs.TableStates.{TableState}
 use Rattle.rmt_statements.specs.declared.act.Act.{Act}
 use Rattle.rmt_statements.specs.declared.act.Act.TheVariants as acts
+use Rattle.rmt_statements.specs.declared.mode.Mode.TheVariants as modes
 use Rattle.rmt_statements.specs.declared.partition_word.PartitionWord.{PartitionWord}
 use Rattle.rmt_statements.specs.Partitions.{partition_named}
 use Rattle.rmt_sql_rows.specs.declared.rows_error.RowsError.{RowsError}
 use Rattle.rmt_sql_rows.specs.declared.rows_error.RowsError.TheVariants as errors
 use Rattle.rmt_sql_rows.specs.InsertedRows.{names_refusal}
 use Rattle.rmt_reply.specs.declared.refusal.Refusal.{Refusal}
-use Rattle.rmt_reply.specs.declared.refusal.Refusal.TheVariants.{UnknownColumn, WrongType, KeyColumn, ReplicaDown, ReplicaUp, UnknownMutation, DoubleColumn}
+use Rattle.rmt_reply.specs.declared.refusal.Refusal.TheVariants.{UnknownColumn, WrongType, KeyColumn, ReplicaDown, ReplicaUp, FetchesStopped, UnknownMutation, DoubleColumn}
 
 -- the refusal of the columns that an INSERT names
 abbrev pub refused_names : Option RowsError → Option Refusal
@@ -68,6 +69,10 @@ abbrev pub refused_up : (ℕ → Bool) → Option ℕ → Option Refusal
 refused_up up None = None
 refused_up up (Some r) = cond (up r) (Some (ReplicaUp r)) None
 
+-- the refusal of a replica that may not fetch
+abbrev pub refused_stopped : (ℕ → Bool) → ℕ → Option Refusal
+refused_stopped fetching r = cond (fetching r) None (Some (FetchesStopped r))
+
 -- ---- acts
 
 -- why an act is refused in a table, whatever replica it is sent to
@@ -85,6 +90,19 @@ abbrev pub down_refusal : (ℕ → Bool) → ℕ → Act → Option Refusal
 down_refusal up r (acts.Insert insert) = None
 down_refusal up r act = refused_down up (Some r)
 
+-- the act brings its replica up to date first
+abbrev pub syncs_first : Act → Bool
+syncs_first (acts.Select table query modes.Sync) = true
+syncs_first (acts.Optimize table word) = true
+syncs_first (acts.WaitMutation table id) = true
+syncs_first (acts.SyncReplica table) = true
+syncs_first act = false
+
+-- the refusal of what would bring a replica up to date that may not fetch
+-- ClickHouse documentation, SYSTEM: "STOP FETCHES" stops the fetches of a replicated table.
+abbrev pub stopped_refusal : (ℕ → Bool) → ℕ → Act → Option Refusal
+stopped_refusal fetching r act = cond (syncs_first act) (refused_stopped fetching r) None
+
 -- the refusal of a mutation that is waited for and wasn't made
 abbrev pub id_refusal : TableState → Act → Option Refusal
 id_refusal t (acts.WaitMutation table id) = refused_id (mutation_count t.log) id
@@ -92,4 +110,4 @@ id_refusal t act = None
 
 -- why an act is refused at a replica, in order
 abbrev pub act_refusals : (ℕ → Bool) → TableState → ℕ → Act → List (Option Refusal)
-act_refusals up t r act = act_refusal t act ∷ down_refusal up r act ∷ id_refusal t act ∷ []
+act_refusals up t r act = act_refusal t act ∷ down_refusal up r act ∷ stopped_refusal t.fetching r act ∷ id_refusal t act ∷ []

@@ -1,6 +1,6 @@
 -- What acts do to their table at the replica of a number, and what they reply.
 -- No public source: which acts are played is this program's own.
-use Rattle.std.specs.Prelude.{ℕ, Bool}
+use Rattle.std.specs.Prelude.{ℕ, Bool, true, false}
 use Rattle.rmt_statement_model.specs.TableStates.{TableState}
 use Rattle.rmt_statements.specs.declared.act.Act.{Act}
 use Rattle.rmt_statements.specs.declared.act.Act.TheVariants as acts
@@ -15,7 +15,7 @@ use Rattle.rmt_play.specs.OptimizeStatement.{OptimizesNamed}
 use Rattle.rmt_play.specs.ShowParts.{ShowsParts}
 use Rattle.rmt_play.specs.CheckTable.{ChecksTable}
 use Rattle.rmt_play.specs.WaitStatement.{Waits}
-use Rattle.rmt_play.specs.SystemStatements.{SyncsReplica, RestartsReplica}
+use Rattle.rmt_play.specs.SystemStatements.{SyncsReplica, RestartsReplica, SwitchesFetches}
 
 -- an act gives this reply and this table, where these replicas are up; the other acts aren't played
 abbrev pub Acts : (ℕ → Bool) → TableState → ℕ → Act → Line → TableState → Type 0
@@ -31,4 +31,6 @@ Acts up t r (acts.CheckTable table) line u = ChecksTable t r line u
 Acts up t r (acts.WaitMutation table id) line u = Waits up t r id line u
 Acts up t r (acts.SyncReplica table) line u = SyncsReplica up t r line u
 Acts up t r (acts.RestartReplica table) line u = RestartsReplica t line u
+Acts up t r (acts.StopFetches table) line u = SwitchesFetches t r false line u
+Acts up t r (acts.StartFetches table) line u = SwitchesFetches t r true line u
 Acts up t r act line u = ⊥

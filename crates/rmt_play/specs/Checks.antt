@@ -43,7 +43,7 @@ is_played_mode modes.Plain = true
 is_played_mode modes.Sync = true
 is_played_mode (modes.Sequential n) = false
 
--- an INSERT or a SELECT without settings, and all else but the switch of fetches
+-- an INSERT or a SELECT without settings, and all else
 abbrev pub is_played_act : Act → Bool
 is_played_act (acts.Insert insert) = is_absent insert.quorum
 is_played_act (acts.Select table query mode) = is_played_mode mode
@@ -56,7 +56,8 @@ is_played_act (acts.CheckTable table) = true
 is_played_act (acts.WaitMutation table id) = true
 is_played_act (acts.SyncReplica table) = true
 is_played_act (acts.RestartReplica table) = true
-is_played_act act = false
+is_played_act (acts.StopFetches table) = true
+is_played_act (acts.StartFetches table) = true
 
 -- REPLICAS with 1 to 8 replicas and before all tables, CREATE, KILL, RESTART, RUN, and what is sent to a replica; so many tables
 -- there are

@@ -13,7 +13,7 @@ use Rattle.rmt_model.specs.Words.{Each}
 use Rattle.rmt_model.specs.Content.{Row}
 use Rattle.rmt_events.specs.Clusters.{Cluster}
 use Rattle.rmt_statement_model.specs.TableStates.{TableState, empty_table}
-use Rattle.rmt_statement_model.specs.Shows.{Shows, HoldsNone, Leads, ups}
+use Rattle.rmt_statement_model.specs.Shows.{Shows, HoldsNone, Leads, fetching_of, ups}
 use Rattle.rmt_statements.specs.declared.act.Act.{Act}
 use Rattle.rmt_statements.specs.declared.act.Act.TheVariants as acts
 use Rattle.rmt_statements.specs.declared.insert.Insert.{Insert}
@@ -28,7 +28,7 @@ use Rattle.rmt_reply.specs.declared.refusal.Refusal.{Refusal}
 use Rattle.rmt_reply.specs.declared.refusal.Refusal.TheVariants.{BadRow}
 use Rattle.rmt_play.specs.World.{Table, World}
 use Rattle.rmt_play.specs.Checks.{first_of, create_refusals, sent_refusals, kill_refusals, restart_refusals, run_refusals, refusals}
-use Rattle.rmt_play.specs.ActRefusals.{refused_names, refused_query, act_refusal, act_refusals, id_refusal}
+use Rattle.rmt_play.specs.ActRefusals.{refused_down, refused_names, refused_query, act_refusal, act_refusals, id_refusal, stopped_refusal, syncs_first}
 use Rattle.rmt_cluster.specs.NewClusters.{IsNewCluster}
 use Rattle.rmt_cluster.specs.Runs.{RunsAll}
 use Rattle.rmt_acts.specs.StatementEvents.{Makes}
@@ -194,7 +194,15 @@ ExecutesAt up s t r act line u v = MatchOption (first_of (act_refusals up t r ac
 abbrev pub ExecutesThere : Cluster → ℕ → Act → Line → Cluster → Type 0
 ExecutesThere s r act line u = (t : TableState) → Shows s t → Leads u (ExecutesAt (ups s) s t r act line u)
 
--- the cause for which an act is refused in a table of this schema, if it is sent to a replica that is down
+-- why an act is refused at a replica, whatever it asks for: the replica is down, or may not fetch what would bring it up to date
+abbrev pub held_refusal : Cluster → ℕ → Act → Option Refusal
+held_refusal s r act = first_of (refused_down (ups s) (Some r) ∷ stopped_refusal (fetching_of s) r act ∷ [])
+
+-- a replica may fetch where the act brings it up to date first
+abbrev pub MayFetchFor : Cluster → ℕ → Act → Type 0
+MayFetchFor s r act = syncs_first act ≡ true → fetching_of s r ≡ true
+
+-- the cause for which an act is refused in a table of this schema, whatever replica it is sent to
 abbrev pub IsOwnRefusal : Shape → Act → Option Refusal → Type 0
 IsOwnRefusal schema (acts.Insert insert) why = MatchOption why ((rows : List Row) × HasRows schema insert rows) (RefusesRows schema insert)
 IsOwnRefusal schema act why = (t : TableState) → t.schema ≡ schema → act_refusal t act ≡ why
@@ -258,7 +266,7 @@ ExecutesRestart name line old new = MatchOption (first_of (restart_refusals old 
 
 -- so many turns of background work are done in a cluster, whatever state it shows, by events that are drawn from the seed
 pub record RunsCluster (turns seed : ℕ) (line : Line) (s u : Cluster) : Type 0 where
-  pub turns_made : (t : TableState) → Shows s t → Leads u (RunsTurns t turns line)
+  pub turns_made : (t : TableState) → Shows s t → Leads u (RunsTurns (ups s) t turns line)
   pub events : RunsAll s seed turns u
 
 -- background work is done in its table, or refused
@@ -280,3 +288,8 @@ Executes statement first line old new = ExecutesStatement old statement first li
 -- the statement at a place of a script is played, up to another place
 abbrev pub Steps : List ℕ → ℕ → Line → ℕ → World → World → Type 0
 Steps script from line end old new = Step script from old line end new
+
+-- the act that lets a replica fetch in a table, or stops its fetches
+abbrev pub switch_act : Bool → List ℕ → Act
+switch_act false table = acts.StopFetches table
+switch_act true table = acts.StartFetches table

@@ -93,7 +93,7 @@ pub record Turns (old : World) (name : List ℕ) (is_up : Bool) (line : Line) (n
 
 -- RUN: background work is done in its table, by events that are drawn from the seed
 abbrev pub RunsIn : World → List ℕ → ℕ → ℕ → Line → World → Type 0
-RunsIn old table turns seed line new = InTable old table (λ t u. RunsTurns t turns line u) (λ s u. RunsAll s seed turns u) new
+RunsIn old table turns seed line new = InTable old table (λ t u. RunsTurns old.up t turns line u) (λ s u. RunsAll s seed turns u) new
 
 -- what a statement does that meets no refusal; the others aren't played
 abbrev pub Performs : World → Statement → Line → World → Type 0

@@ -1,11 +1,12 @@
 //! The forms that are played.
 ghost use Rattle.std.specs.Prelude.{◌≡◌};
+ghost use Rattle.rmt_play.specs.ActRefusals.{syncs_first as sync_test};
 ghost use Rattle.rmt_play.specs.Checks.{is_played_act as act_test, table_named};
 
 use rmt_statements::{Act, Mode};
 use rmt_values::Name;
 
-/// Whether an act is played: not an INSERT or a SELECT with a setting, or the switch of fetches.
+/// Whether an act is played: not an INSERT or a SELECT with a setting.
 pub(crate) fn is_played_act(act: &Act) -> bool
     ensures { result ≡ act_test act.now }
 {
@@ -23,8 +24,31 @@ pub(crate) fn is_played_act(act: &Act) -> bool
         | Act::CheckTable { .. }
         | Act::WaitMutation { .. }
         | Act::SyncReplica { .. }
-        | Act::RestartReplica { .. } => true,
-        Act::StopFetches { .. } | Act::StartFetches { .. } => false,
+        | Act::RestartReplica { .. }
+        | Act::StopFetches { .. }
+        | Act::StartFetches { .. } => true,
+    }
+}
+
+/// Whether an act brings its replica up to date first.
+pub(crate) fn syncs_first(act: &Act) -> bool
+    ensures { result ≡ sync_test act.now }
+{
+    match act {
+        Act::Select { mode, .. } => match mode {
+            Mode::Sync => true,
+            Mode::Plain | Mode::Sequential(_) => false,
+        },
+        Act::Optimize { .. } | Act::WaitMutation { .. } | Act::SyncReplica { .. } => true,
+        Act::Insert(_)
+        | Act::Explain { .. }
+        | Act::Mutate { .. }
+        | Act::DropPartition { .. }
+        | Act::ShowParts { .. }
+        | Act::CheckTable { .. }
+        | Act::RestartReplica { .. }
+        | Act::StopFetches { .. }
+        | Act::StartFetches { .. } => false,
     }
 }
 

@@ -1,11 +1,11 @@
 //! Partitions as statements name them, and the acts on them in their table: DROP PARTITION and OPTIMIZE.
-ghost use Rattle.std.specs.Prelude.{◌≡◌, IfOk, IfErr, ℕ, List as Bytes, length};
+ghost use Rattle.std.specs.Prelude.{◌≡◌, IfOk, IfErr, ℕ, true, List as Bytes, length};
 ghost use Rattle.std.specs.declared.option.Option.TheVariants.{Some};
 ghost use Rattle.rmt_statements.specs.Partitions.{partition_named};
 ghost use Rattle.rmt_play.specs.ActRefusals.{refused_partition, refused_asked};
 ghost use Rattle.rmt_play.specs.OptimizeStatement.{IsAsked};
 ghost use Rattle.rmt_state.specs.States.{IsNumber};
-ghost use Rattle.rmt_statement_model.specs.Shows.{HoldsNone, IsIdle, KeepsUps};
+ghost use Rattle.rmt_statement_model.specs.Shows.{HoldsNone, IsIdle, KeepsUps, fetching_of};
 ghost use Rattle.rmt_statements.specs.declared.act.Act.TheVariants as acts;
 ghost use Rattle.rmt_play.specs.PlayerSteps.{ExecutesIn};
 
@@ -88,6 +88,7 @@ pub(crate) fn optimize_in(
 ) -> Result<Line, AllocError>
     requires here { IsNumber replica (length cluster.old.replicas) }
     requires idle { IsIdle cluster.old replica }
+    requires fetches { fetching_of cluster.old replica ≡ true }
     ensures executes { IfOk result (λ line. (table : Bytes ℕ)
         → ExecutesIn cluster.old replica (acts.Optimize table word.now) line cluster.new) }
     ensures free { IfOk result (λ _. HoldsNone cluster.new) }

@@ -39,10 +39,9 @@ ghost use Rattle.rmt_play.specs.PlayerSteps.{
   ExecutesSent,
 };
 
-use crate::act::act_in;
+use crate::act::act_at;
 use crate::forms::{is_played_act, table_of};
 use crate::named_table::NamedTable;
-use crate::refusing::refuse_in;
 use crate::replicas::replica_named;
 use crate::schema::new_schema;
 use crate::turns::{in_range, run_in};
@@ -289,8 +288,7 @@ impl Player {
         Ok(Line::Okay)
     }
 
-    /// Does an act in the table at a place, or refuses it. At an error no memory was left; at a replica that is up the tables
-    /// are gone then.
+    /// Does an act in the table at a place, or refuses it. At an error no memory was left, and the tables are gone.
     fn act(
         &mut self,
         alloc: Global,
@@ -304,10 +302,8 @@ impl Player {
         requires small { HasSmallCommand act.now }
         ensures { IfOk result (λ line. ActsAt self.old place replica act.now line self.new) }
     {
-        if !self.is_up(replica) {
-            return refuse_in(alloc, &self.tables[place].cluster, replica, act);
-        }
-        match act_in(alloc, &mut self.tables[place].cluster, replica, act) {
+        let is_up = self.is_up(replica);
+        match act_at(alloc, &mut self.tables[place].cluster, replica, is_up, act) {
             Ok(line) => Ok(line),
             Err(error) => {
                 // A table in which an act stopped halfway isn't idle.

@@ -1,13 +1,16 @@
-//! Acts that are sent to a replica that is down.
-ghost use Rattle.std.specs.Prelude.{◌≡◌, false, IfOk};
+//! Acts that are sent to a replica that is down, or that may not fetch what would bring it up to date.
+ghost use Rattle.std.specs.Prelude.{◌≡◌, length, IfOk};
+ghost use Rattle.std.specs.declared.option.Option.TheVariants.{Some};
+ghost use Rattle.rmt_state.specs.States.{IsNumber};
 ghost use Rattle.rmt_statement_model.specs.Shows.{ups};
-ghost use Rattle.rmt_play.specs.PlayerSteps.{ExecutesThere, IsOwnRefusal};
+ghost use Rattle.rmt_play.specs.PlayerSteps.{ExecutesThere, IsOwnRefusal, held_refusal as refusal_held};
 
+use crate::forms::syncs_first;
 use crate::insert::rows_to_insert;
 use crate::mutation::check as check_command;
 use crate::partition::{partition_asked, partition_in};
 use crate::query::check as check_query;
-use rmt_acts::schema_of;
+use rmt_acts::{may_fetch, schema_of};
 use rmt_cluster::Cluster;
 use rmt_reply::{Line, Refusal};
 use rmt_statements::Act;
@@ -30,18 +33,39 @@ fn own_refusal(alloc: Global, schema: &Schema, act: &Act) -> Result<Option<Refus
     }
 }
 
-/// Refuses an act in its table at a replica that is down.
+/// Why an act is refused at a replica, whatever it asks for, where there is a cause.
+pub(crate) fn held_refusal(
+    cluster: &Cluster,
+    replica: ReplicaId,
+    is_up: bool,
+    act: &Act,
+) -> Option<Refusal>
+    requires here { IsNumber replica (length cluster.now.replicas) }
+    requires up { ups cluster.now replica ≡ is_up }
+    ensures { result ≡ refusal_held cluster.now replica act.now }
+{
+    if !is_up {
+        return Some(Refusal::ReplicaDown(replica));
+    }
+    if syncs_first(act) && !may_fetch(cluster, replica) {
+        return Some(Refusal::FetchesStopped(replica));
+    }
+    None
+}
+
+/// Refuses an act in its table: for its own cause, where it has one, or for the one that its replica has.
 pub(crate) fn refuse_in(
     alloc: Global,
     cluster: &Cluster,
     replica: ReplicaId,
     act: &Act,
+    held: Refusal,
 ) -> Result<Line, AllocError>
-    requires down { ups cluster.now replica ≡ false }
+    requires held { refusal_held cluster.now replica act.now ≡ Some held }
     ensures { IfOk result (λ line. ExecutesThere cluster.now replica act.now line cluster.now) }
 {
     match own_refusal(alloc, schema_of(cluster), act)? {
         Some(refusal) => Ok(Line::Refused(refusal)),
-        None => Ok(Line::Refused(Refusal::ReplicaDown(replica))),
+        None => Ok(Line::Refused(held)),
     }
 }

@@ -1,7 +1,7 @@
 //! SELECT and EXPLAIN in their table.
 ghost use Rattle.std.specs.Prelude.{◌≡◌, true, length, IfOk};
 ghost use Rattle.rmt_state.specs.States.{IsNumber};
-ghost use Rattle.rmt_statement_model.specs.Shows.{HoldsNone, IsIdle, ups, KeepsUps};
+ghost use Rattle.rmt_statement_model.specs.Shows.{HoldsNone, IsIdle, ups, KeepsUps, fetching_of};
 ghost use Rattle.rmt_acts.specs.StatementEvents.{SyncEvents};
 ghost use Rattle.rmt_play.specs.ActEvents.{refusal_told};
 ghost use Rattle.rmt_play.specs.SelectStatement.{Syncs, Reads};
@@ -56,6 +56,7 @@ pub(crate) fn sync_in(
 ) -> Result<Line, AllocError>
     requires here { IsNumber replica (length cluster.old.replicas) }
     requires idle { IsIdle cluster.old replica }
+    requires fetches { fetching_of cluster.old replica ≡ true }
     ensures executes { IfOk result (λ line. ExecutesQuery cluster.old query.now
         (λ t. Syncs (ups cluster.old) t replica query.now)
         (λ line. SyncEvents cluster.old replica (refusal_told line)) line cluster.new) }

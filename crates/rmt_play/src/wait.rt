@@ -1,7 +1,7 @@
 //! WAIT MUTATION in its table.
-ghost use Rattle.std.specs.Prelude.{◌≡◌, ℕ, List as Bytes, length, IfOk};
+ghost use Rattle.std.specs.Prelude.{◌≡◌, ℕ, true, List as Bytes, length, IfOk};
 ghost use Rattle.rmt_state.specs.States.{IsNumber};
-ghost use Rattle.rmt_statement_model.specs.Shows.{HoldsNone, IsIdle, KeepsUps};
+ghost use Rattle.rmt_statement_model.specs.Shows.{HoldsNone, IsIdle, KeepsUps, fetching_of};
 ghost use Rattle.rmt_statements.specs.declared.act.Act.TheVariants as acts;
 ghost use Rattle.rmt_play.specs.PlayerSteps.{ExecutesIn};
 
@@ -20,6 +20,7 @@ pub(crate) fn wait_in(
 ) -> Result<Line, AllocError>
     requires here { IsNumber replica (length cluster.old.replicas) }
     requires idle { IsIdle cluster.old replica }
+    requires fetches { fetching_of cluster.old replica ≡ true }
     ensures executes { IfOk result (λ line. (table : Bytes ℕ)
         → ExecutesIn cluster.old replica (acts.WaitMutation table id) line cluster.new) }
     ensures free { IfOk result (λ _. HoldsNone cluster.new) }

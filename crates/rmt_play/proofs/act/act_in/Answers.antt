@@ -4,6 +4,7 @@ use Rattle.rmt_statements.specs.declared.act.Act.{Act}
 use Rattle.rmt_statements.specs.declared.act.Act.TheVariants as acts
 use Rattle.rmt_statements.specs.declared.mode.Mode.TheVariants as modes
 use Rattle.rmt_sql_acts.specs.Acts.{HasSmallCommand}
+use Rattle.rmt_play.specs.ActRefusals.{syncs_first}
 use Rattle.rmt_play.specs.PlayerSteps.{ExecutesIn}
 use Rattle.rmt_play.proofs.CommandLemmas.{on-line}
 use Rattle.rmt_play.proofs.act.act_in.Goals as goal
@@ -59,3 +60,28 @@ pub returns-in-ShowParts-clause-executes : goal.returns-in-ShowParts-clause-exec
 returns-in-ShowParts-clause-executes c =
     subst (λ (a : Act). IfOk c.show_in.result (λ line. ExecutesIn c.args.cluster.now c.args.replica a line c.args.cluster.now)) (sym c.in-ShowParts.is)
     (on-line c.show_in.result _ _ (λ line f. f c.in-ShowParts.table) c.show_in.ensures)
+
+pub returns-in-StopFetches-clause-executes : goal.returns-in-StopFetches-clause-executes
+returns-in-StopFetches-clause-executes c =
+    subst (λ (a : Act). IfOk c.switch_in.result (λ line. ExecutesIn c.args.cluster.now c.args.replica a line c.switch_in.new.cluster)) (sym c.in-StopFetches.is)
+    (on-line c.switch_in.result _ _ (λ line f. f c.in-StopFetches.table) c.switch_in.ensures.executes)
+
+pub returns-in-StartFetches-clause-executes : goal.returns-in-StartFetches-clause-executes
+returns-in-StartFetches-clause-executes c =
+    subst (λ (a : Act). IfOk c.switch_in-in-StartFetches.result (λ line. ExecutesIn c.args.cluster.now c.args.replica a line c.switch_in-in-StartFetches.new.cluster)) (sym c.in-StartFetches.is)
+    (on-line c.switch_in-in-StartFetches.result _ _ (λ line f. f c.in-StartFetches.table) c.switch_in-in-StartFetches.ensures.executes)
+
+-- an act that brings its replica up to date may do so
+pub sync_in-requires-clause-fetches : goal.sync_in-requires-clause-fetches
+sync_in-requires-clause-fetches c =
+    let e : c.args.act.now ≡ acts.Select c.in-Select.table c.in-Select.query modes.Sync = c.in-Select.is ∙ ap (acts.Select c.in-Select.table c.in-Select.query) c.in-Sync.is in
+    c.requires.fetches (ap syncs_first e)
+
+pub optimize_in-requires-clause-fetches : goal.optimize_in-requires-clause-fetches
+optimize_in-requires-clause-fetches c = c.requires.fetches (ap syncs_first c.in-Optimize.is)
+
+pub wait_in-requires-clause-fetches : goal.wait_in-requires-clause-fetches
+wait_in-requires-clause-fetches c = c.requires.fetches (ap syncs_first c.in-WaitMutation.is)
+
+pub drain_in-requires-clause-fetches : goal.drain_in-requires-clause-fetches
+drain_in-requires-clause-fetches c = c.requires.fetches (ap syncs_first c.in-SyncReplica.is)
