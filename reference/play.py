@@ -2,8 +2,8 @@
 """The language of scripts once more, written from its description and not from the program: reads a script from standard
 input, writes its replies and ends with the program's code. It is slow and shares nothing with the program, so that the
 two can be compared (reference/check). Where the description leaves a choice it is that of docs/DECISIONS.md. What
-happens to a table is in cluster.py. With the word --quorums it plays quorum inserts, sequential SELECTs, STOP FETCHES
-and START FETCHES too, which the program doesn't yet."""
+happens to a table is in cluster.py. With the word --quorums it plays quorum inserts and sequential SELECTs too, which
+the program doesn't yet."""
 import hashlib
 import sys
 
@@ -899,7 +899,7 @@ class World:
 
 def is_played(statement, quorums):
     """Whether a form is played at all; those of quorums may be left out."""
-    of_quorums = ("quorum_insert", "sequential_select", "stop_fetches", "start_fetches")
+    of_quorums = ("quorum_insert", "sequential_select")
     return statement[0] != "unbuilt" and (quorums or statement[0] != "at" or statement[2][0] not in of_quorums)
 
 

@@ -1,8 +1,9 @@
 """Random scripts: mostly statements that are played, some that are refused, and some with a token too few, too many or
 out of place. Half of them are INSERTs for the most part, among them some that are sent again, SELECTs and EXPLAINs. The
 other half, the busy ones, change what was inserted, by commands, drops, merges and background work at all replicas.
-Sometimes a replica goes down, and mostly it comes up again a few statements later. Where it is asked for, half of the
-scripts have quorum inserts and sequential SELECTs, and replicas that stop fetches and mostly start them again."""
+Sometimes a replica goes down, and mostly it comes up again a few statements later. In a third of the scripts replicas
+stop fetches, meet statements that want them, and mostly start them again. Where it is asked for, half of the scripts
+have quorum inserts and sequential SELECTs, and such replicas too."""
 import random
 
 COLUMNS = ["a", "b", "c", "d", "k", "day", "page"]
@@ -25,7 +26,8 @@ BUSY = {
     "insert": 26, "many": 1, "reload": 5, "update": 9, "delete": 3, "drop": 4, "optimize": 8, "wait": 8, "work": 12,
     "show": 8, "system": 5, "select": 14, "explain": 4, "create": 2, "other": 2, "check": 6, "kill": 3, "lost": 2,
 }  # fmt: skip
-# the same, where there are quorums
+# the same, where replicas stop fetches, and where there are quorums
+SWITCHES = {**BUSY, "switch": 8, "halted": 14, "system": 8}
 QUORUMS = {**BUSY, "switch": 8, "unmet": 15, "met": 12, "lacking": 6, "lost": 4, "system": 8}
 NO_QUORUMS = ["4294967295", "4294967296", str(2**64), str(2**128 - 1)]
 NO_CONSISTENCIES = ["2", "4294967295", "4294967296", str(2**128 - 1)]
@@ -50,7 +52,7 @@ class Scripts:
         self.inserts, self.share = {}, 0.45  # the INSERTs of each table so far, and how many of the statements are one
         self.is_wild = False  # whether a statement may have values that are none of their column
         self.may_have_quorums, self.has_quorums = quorums, False
-        self.stopped = {}  # of each table the replicas that have fetches stopped
+        self.has_switches, self.stopped = False, {}  # of each table the replicas that have fetches stopped
 
     def chance(self, share):
         return self.random.random() < share
@@ -358,7 +360,7 @@ class Scripts:
         words = self.one(["SYSTEM SYNC REPLICA", "SYSTEM RESTART REPLICA"])
         return self.replica() + self.keywords(words) + [self.table()]
 
-    # ---- quorums
+    # ---- replicas that stop fetches
 
     def switch(self, table=None, number=None, stops=None):
         """STOP FETCHES, or START FETCHES, mostly of a replica that has them stopped."""
@@ -368,7 +370,38 @@ class Scripts:
         if number is None:
             number = self.number_of_replica() if stops or not stopped else self.one(sorted(stopped))
         stopped.add(number) if stops else stopped.discard(number)
-        return ["@", f"r{number}"] + self.keywords(f"SYSTEM {'STOP' if stops else 'START'} FETCHES") + [table]
+        at = [] if number == 1 and self.chance(0.3) else ["@", f"r{number}"]
+        return at + self.keywords(f"SYSTEM {'STOP' if stops else 'START'} FETCHES") + [table]
+
+    def halted(self):
+        """A replica that stops fetches; blocks that others take meanwhile, and what it is sent itself; and mostly the
+        switch back, and a look at what it has then."""
+        table, number = self.table(), self.random.randint(1, self.replicas)
+        others = [other for other in range(1, self.replicas + 1) if other != number] or [number]
+        self.next += [lambda: self.insert(table, 0.1, self.one(others))] * self.random.randint(1, 3)
+        self.next += [lambda: self.meet_halted(table, number, others) for _ in range(self.random.randint(2, 7))]
+        if self.chance(0.8):
+            self.next += [lambda: self.switch(table, number, False)]
+            self.next += [lambda: self.work(table)] if self.chance(0.3) else []
+            self.next += [lambda: self.want(table, number)]
+        return self.switch(table, number, True)
+
+    def meet_halted(self, table, number, others):
+        """A statement to which it may matter that this replica fetches nothing."""
+        other = self.one(others)
+        return self.one([
+            lambda: self.want(table, number), lambda: self.want(table, number), lambda: self.want(table, number),
+            lambda: self.want(table, other), lambda: self.work(table), lambda: self.insert(table, 0.3, number),
+            lambda: self.insert(table, 0.3, other), lambda: self.update(table), lambda: self.merge(table, other),
+            lambda: ["@", f"r{number}"] + self.plain_select(), lambda: self.session(table, number),
+            lambda: self.switch(table, other), lambda: self.restart(number) if number in self.down else self.kill(number),
+            lambda: self.drop(table) if self.chance(0.4) else self.check(table, number),
+        ])()  # fmt: skip
+
+    def session(self, table, number):
+        return ["@", f"r{number}"] + self.keywords("SYSTEM RESTART REPLICA") + [table]
+
+    # ---- quorums
 
     def unmet(self):
         """A quorum that isn't met as other replicas have fetches stopped or are down; statements that find its part
@@ -497,6 +530,7 @@ class Scripts:
         for number in range(1, self.replicas + 1):
             if self.has_quorums:
                 yield self.sequential(table, number)
+            if self.has_switches:
                 yield self.switch(table, number, self.chance(0.1))
             yield self.show(table, number)
             yield ["@", f"r{number}", "SELECT", "*", "FROM", table, "SYNC"]
@@ -512,7 +546,7 @@ class Scripts:
             alter + ["DROP", "PARTITION", "ID", "'all'"], ["OPTIMIZE", "TABLE", table, "FINAL"],
             ["SHOW", "PARTS", "FROM", table], ["CHECK", "TABLE", table], ["WAIT", "MUTATION", table, "0"],
             ["SYSTEM", "SYNC", "REPLICA", table], ["RUN", table, "3", "SEED", "4"],
-            ["SYSTEM", "STOP", "FETCHES", table], ["SYSTEM", "START", "FETCHES", table], ["REPLICAS", "3"], lanes,
+            ["REPLICAS", "3"], lanes,
         ])  # fmt: skip
 
     def busy_statement(self):
@@ -523,7 +557,7 @@ class Scripts:
             return self.create()
         if self.down and self.chance(0.2):
             return self.restart()
-        kinds = QUORUMS if self.has_quorums else BUSY
+        kinds = QUORUMS if self.has_quorums else SWITCHES if self.has_switches else BUSY
         return getattr(self, self.random.choices(list(kinds), kinds.values())[0])()
 
     def statement(self):
@@ -536,7 +570,7 @@ class Scripts:
             return self.restart()
         if self.chance(self.share):
             return self.insert()
-        if self.has_quorums and self.chance(0.15):
+        if self.has_switches and self.chance(0.15):
             return self.switch()
         turn = self.random.random()
         if turn < 0.63:
@@ -581,8 +615,9 @@ class Scripts:
         self.is_busy = self.chance(0.5)
         self.has_quorums = self.may_have_quorums and self.chance(0.5)
         self.is_busy = self.is_busy or self.has_quorums and self.chance(0.6)
+        self.has_switches = self.has_quorums or self.chance(0.5 if self.is_busy else 0.25)
         if self.chance(0.8 if self.is_busy else 0.4):
-            self.replicas = self.random.randint(2 if self.has_quorums else 1, 4 if self.is_busy else 8)
+            self.replicas = self.random.randint(2 if self.has_switches else 1, 4 if self.is_busy else 8)
             text += self.spelled([self.keyword("REPLICAS"), str(self.replicas), ";"])
         count = self.random.randint(3, 14)
         if self.chance(0.3):

@@ -1,0 +1,18 @@
+-- A block and a merged part are fetched from a stopped replica, by r3 in background work too (seeds 18 and 7).
+REPLICAS 3;
+CREATE TABLE t (c UInt64) ENGINE = ReplicatedMergeTree ORDER BY c;
+SYSTEM STOP FETCHES t;
+INSERT INTO t VALUES (1);
+@r2 SELECT c FROM t SYNC;
+SYSTEM START FETCHES t;
+@r2 INSERT INTO t VALUES (2);
+OPTIMIZE TABLE t FINAL;
+SYSTEM STOP FETCHES t;
+KILL r2;
+@r3 SYSTEM SYNC REPLICA t;
+@r3 SHOW PARTS FROM t;
+INSERT INTO t VALUES (3);
+RUN t 1 SEED 18;
+RUN t 1 SEED 7;
+@r3 SHOW PARTS FROM t;
+SYSTEM SYNC REPLICA t;

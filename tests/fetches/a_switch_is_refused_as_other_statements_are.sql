@@ -1,0 +1,18 @@
+-- A switch is refused for its table, for its replica, and where that is down. What is refused switches nothing.
+SYSTEM STOP FETCHES t;
+@r9 SYSTEM START FETCHES t;
+CREATE TABLE t (c UInt64) ENGINE = ReplicatedMergeTree ORDER BY c;
+@r9 SYSTEM STOP FETCHES t;
+@r9 SYSTEM START FETCHES t;
+KILL r2;
+@r2 SYSTEM STOP FETCHES t;
+@r9 SYSTEM STOP FETCHES u;
+RESTART r2;
+@r2 SYSTEM SYNC REPLICA t;
+SYSTEM SYNC REPLICA t;
+@r2 SYSTEM STOP FETCHES t;
+KILL r2;
+@r2 SYSTEM START FETCHES t;
+@r2 SYSTEM STOP FETCHES t;
+RESTART r2;
+@r2 SYSTEM SYNC REPLICA t;

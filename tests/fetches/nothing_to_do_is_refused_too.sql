@@ -1,0 +1,19 @@
+-- Where there is nothing to do, or nothing that would be fetched, the refusal is the same.
+CREATE TABLE t (k UInt64, c UInt64) ENGINE = ReplicatedMergeTree ORDER BY k;
+@r2 SYSTEM STOP FETCHES t;
+@r2 SYSTEM SYNC REPLICA t;
+@r2 SELECT count() FROM t SYNC;
+@r2 OPTIMIZE TABLE t FINAL;
+@r2 INSERT INTO t VALUES (1,1);
+@r2 INSERT INTO t VALUES (2,2);
+@r2 SYSTEM SYNC REPLICA t;
+@r2 SELECT count() FROM t SYNC;
+@r2 OPTIMIZE TABLE t FINAL;
+@r2 OPTIMIZE TABLE t PARTITION tuple() FINAL;
+@r2 ALTER TABLE t UPDATE c = 3 WHERE k = 1;
+@r2 WAIT MUTATION t 0;
+@r2 SELECT * FROM t;
+@r2 SYSTEM START FETCHES t;
+@r2 OPTIMIZE TABLE t FINAL;
+@r2 WAIT MUTATION t 0;
+@r2 SELECT * FROM t;

@@ -1,0 +1,22 @@
+-- What a statement names comes before a replica that is down, that before stopped fetches, and these before a mutation.
+CREATE TABLE t (k UInt64, s String) ENGINE = ReplicatedMergeTree PARTITION BY k ORDER BY k;
+@r2 SYSTEM STOP FETCHES t;
+@r2 WAIT MUTATION t 5;
+@r2 WAIT MUTATION u 5;
+@r9 WAIT MUTATION t 5;
+@r2 SELECT x FROM t SYNC;
+@r2 SELECT sum(s) FROM t SYNC;
+@r2 SELECT k FROM t WHERE s = 1 SYNC;
+@r2 OPTIMIZE TABLE t PARTITION tuple() FINAL;
+@r2 OPTIMIZE TABLE t PARTITION 3 FINAL;
+@r2 SELECT k FROM t SYNC;
+KILL r2;
+@r2 SELECT x FROM t SYNC;
+@r2 SELECT k FROM t SYNC;
+@r2 OPTIMIZE TABLE t FINAL;
+@r2 WAIT MUTATION t 5;
+RESTART r2;
+RESTART r2;
+@r2 WAIT MUTATION t 340282366920938463463374607431768211455;
+@r2 SYSTEM START FETCHES t;
+@r2 WAIT MUTATION t 5;

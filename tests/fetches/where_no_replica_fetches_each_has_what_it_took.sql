@@ -1,0 +1,19 @@
+-- Where no replica fetches each has what it took, whatever is drawn; a merge of both parts finds but one at each.
+CREATE TABLE t (c UInt64) ENGINE = ReplicatedMergeTree ORDER BY c;
+SYSTEM STOP FETCHES t;
+@r2 SYSTEM STOP FETCHES t;
+INSERT INTO t VALUES (1);
+@r2 INSERT INTO t VALUES (2);
+RUN t 300 SEED 4;
+SELECT c FROM t;
+@r2 SELECT c FROM t;
+SYSTEM SYNC REPLICA t;
+@r2 OPTIMIZE TABLE t FINAL;
+SYSTEM START FETCHES t;
+SELECT c FROM t SYNC;
+OPTIMIZE TABLE t FINAL;
+RUN t 300 SEED 5;
+@r2 SHOW PARTS FROM t;
+@r2 SYSTEM START FETCHES t;
+@r2 SYSTEM SYNC REPLICA t;
+@r2 SHOW PARTS FROM t;
