@@ -1,5 +1,5 @@
 -- Events one after the other, and what is left where no memory was left.
-use Rattle.std.proofs.Common.{◌≡◌, ℕ, zero, suc, ◌≤◌, ◌⊎◌, inl, inr, List, [], ◌∷◌, ◌++◌, refl, sym, subst, arith, append_assoc, append-nil}
+use Rattle.std.proofs.Common.{◌≡◌, ℕ, zero, suc, ◌≤◌, ◌⊎◌, inl, inr, Bool, true, false, nat_le, List, [], ◌∷◌, ◌++◌, refl, sym, subst, arith, append_assoc, append-nil}
 use Rattle.std.specs.Prelude.{OnErr}
 use Rattle.std.specs.declared.result.Result.{Result}
 use Rattle.std.specs.declared.result.Result.TheVariants.{Ok, Err}
@@ -17,7 +17,10 @@ use Rattle.rmt_cluster.specs.declared.sync_error.SyncError.TheVariants as errors
 use Rattle.rmt_reply.specs.declared.piece.Piece.{Piece}
 use Rattle.rmt_reply.specs.declared.piece.Piece.TheVariants as pieces
 use Rattle.rmt_reply.specs.declared.refusal.Refusal.{Refusal}
-use Rattle.rmt_acts.specs.StatementEvents.{Makes, PieceEvents, TriesBlock, InsertEvents, FollowsUp, MergesOnce, MutatesOnce, AtMost, StopsAfter}
+use Rattle.rmt_statement_model.specs.QuorumCopies.{is_asked}
+use Rattle.rmt_statement_model.specs.Inserts.{Asked}
+use Rattle.rmt_statement_model.specs.Shows.{fetching_of, ups}
+use Rattle.rmt_acts.specs.StatementEvents.{Makes, CopiesWhere, GathersTo, GathersWhere, PieceEvents, TriesBlock, InsertEvents, FollowsUp, MergesOnce, MutatesOnce, AtMost, StopsAfter}
 
 -- ---- one cluster comes from another by some events
 
@@ -48,12 +51,32 @@ reaches-drained s u r y = reaches-then s y.pulled u (reaches-step s y.pulled (ev
 pub reaches-synced : (s u : Cluster) (r : ℕ) → Syncs s r u → Reaches s u
 reaches-synced s u r y = reaches-then s y.drained u (reaches-drained s y.drained r y.drains) (reaches-step y.drained u (ev.Note r) y.reply y.notes)
 
-pub reaches-tried : (s u : Cluster) (r : ℕ) → TriesBlock s r u → Reaches s u
-reaches-tried s u r f = reaches-made s u (ev.Allocate r f.block 0 ∷ []) f.makes
+pub reaches-tried : (s u : Cluster) (a : Asked) → TriesBlock s a u → Reaches s u
+reaches-tried s u a f = reaches-made s u (ev.Allocate a.writer f.block a.need ∷ []) f.makes
 
-pub reaches-piece : (s u : Cluster) (r : ℕ) (piece : Piece) → PieceEvents s r piece u → Reaches s u
-reaches-piece s u r (pieces.Part a) f = reaches-made s u (ev.Allocate r f.block 0 ∷ ev.Stage f.attempt ∷ ev.Commit f.attempt ∷ ev.Pull r ∷ ev.Apply r f.place ∷ []) f.makes
-reaches-piece s u r (pieces.Duplicate a) f = reaches-tried s u r f
+reaches-copied : (s u : Cluster) (b : Bool) (place k : ℕ) → CopiesWhere b s place k u → Reaches s u
+reaches-copied s u true place k f = reaches-made s u (ev.Pull k ∷ ev.Apply k place ∷ ev.Note k ∷ []) f
+reaches-copied s u false place k f = subst (Reaches s) (sym f) (reaches-itself s)
+
+pub reaches-gathered : (s u : Cluster) (r place n : ℕ) → GathersTo s r place n u → Reaches s u
+reaches-gathered s u r place zero f = reaches-made s u (ev.Note r ∷ []) f
+reaches-gathered s u r place (suc n) f =
+    reaches-then s f.0 u (reaches-gathered s f.0 r place n f.1) (reaches-copied f.0 u (is_asked f.0.table.quorum.pending (ups f.0) (fetching_of f.0) r (suc n)) place (suc n) f.2)
+
+reaches-where : (s u : Cluster) (b : Bool) (r place : ℕ) → GathersWhere b s r place u → Reaches s u
+reaches-where s u true r place f = reaches-gathered s u r place 8 f
+reaches-where s u false r place f = subst (Reaches s) (sym f) (reaches-itself s)
+
+pub reaches-piece : (s u : Cluster) (a : Asked) (piece : Piece) → PieceEvents s a piece u → Reaches s u
+reaches-piece s u a (pieces.Part part) f =
+    reaches-then s f.mid u (reaches-made s f.mid (ev.Allocate a.writer f.block a.need ∷ ev.Stage f.attempt ∷ ev.Commit f.attempt ∷ ev.Pull a.writer ∷ ev.Apply a.writer f.place ∷ []) f.makes)
+    (reaches-where f.mid u (nat_le 2 a.need) a.writer f.place f.gathers)
+reaches-piece s u a (pieces.Duplicate part) f = reaches-tried s u a f
+
+-- more events after some
+pub makes-more : (s m u : Cluster) (xs ys : List Event) → Makes s xs m → Makes m ys u → Makes s (xs ++ ys) u
+makes-more s m u [] ys f g = subst (λ (x : Cluster). Makes x ys u) f g
+makes-more s m u (x ∷ xs) ys f g = (f.0, f.1, f.2, makes-more f.0 m u xs ys f.3 g)
 
 reaches-followed : (s u : Cluster) (r : ℕ) (reply : Reply) → FollowsUp s r reply u → Reaches s u
 reaches-followed s u r (rp.Entry place) f = reaches-synced s u r f.syncs
@@ -123,19 +146,19 @@ at-most-next Once s m u n f (inr k) = inr (m, f, k)
 -- ---- blocks one after the other
 
 -- what comes after some pieces
-abbrev pub AfterPieces : Cluster → ℕ → List Piece → Cluster → Type 0
+abbrev pub AfterPieces : Cluster → Asked → List Piece → Cluster → Type 0
 AfterPieces s r done u = (rest : List Piece) (refused : Option Refusal) (v : Cluster) → InsertEvents u r rest refused v → InsertEvents s r (done ++ rest) refused v
 
-pub after-none : (s : Cluster) (r : ℕ) → AfterPieces s r [] s
+pub after-none : (s : Cluster) (r : Asked) → AfterPieces s r [] s
 after-none s r = λ rest refused v k. k
 
-pub after-piece : (s u v : Cluster) (r : ℕ) (done : List Piece) (piece : Piece) → AfterPieces s r done u → PieceEvents u r piece v → AfterPieces s r (done ++ piece ∷ []) v
+pub after-piece : (s u v : Cluster) (r : Asked) (done : List Piece) (piece : Piece) → AfterPieces s r done u → PieceEvents u r piece v → AfterPieces s r (done ++ piece ∷ []) v
 after-piece s u v r done piece f e = λ rest refused w k. subst (λ (ps : List Piece). InsertEvents s r ps refused w) (sym (append_assoc done (piece ∷ []) rest)) (f (piece ∷ rest) refused w (v, e, k))
 
 -- no block is left
-pub after-last : (s u : Cluster) (r : ℕ) (done : List Piece) → AfterPieces s r done u → InsertEvents s r done None u
+pub after-last : (s u : Cluster) (r : Asked) (done : List Piece) → AfterPieces s r done u → InsertEvents s r done None u
 after-last s u r done f = subst (λ (ps : List Piece). InsertEvents s r ps None u) (append-nil done) (f [] None u refl)
 
 -- the block at which it ends
-pub after-refused : (s u v : Cluster) (r : ℕ) (done : List Piece) (refusal : Refusal) → AfterPieces s r done u → InsertEvents u r [] (Some refusal) v → InsertEvents s r done (Some refusal) v
+pub after-refused : (s u v : Cluster) (r : Asked) (done : List Piece) (refusal : Refusal) → AfterPieces s r done u → InsertEvents u r [] (Some refusal) v → InsertEvents s r done (Some refusal) v
 after-refused s u v r done refusal f e = subst (λ (ps : List Piece). InsertEvents s r ps (Some refusal) v) (append-nil done) (f [] (Some refusal) v e)

@@ -1,7 +1,9 @@
 pub mod EventLists
 pub mod AttemptActs
+pub mod GatherActs
 pub mod InsertActs
 pub mod ReadActs
+pub mod SequentialActs
 pub mod CheckActs
 pub mod SyncActs
 pub mod ChangeActs

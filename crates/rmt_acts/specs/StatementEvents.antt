@@ -1,7 +1,7 @@
 -- The events that a statement makes in its table's cluster, and no others.
 -- No public source: the events are this program's own, one for each call on a table or a replica that ClickHouse's
 -- documentation on Data Replication, OPTIMIZE and ALTER speaks of.
-use Rattle.std.specs.Prelude.{◌≡◌, ◌⊎◌, ℕ, zero, suc, List, [], ◌∷◌, length}
+use Rattle.std.specs.Prelude.{◌≡◌, ◌⊎◌, ℕ, zero, suc, Bool, true, false, nat_le, List, [], ◌∷◌, length}
 use Rattle.std.specs.declared.alloc.Global.{Global}
 use Rattle.std.specs.declared.sync.Arc.{Arc}
 use Rattle.std.specs.declared.option.Option.{Option}
@@ -20,7 +20,10 @@ use Rattle.rmt_cluster.specs.Syncs.{Syncs, HasDone, EndsLacking}
 use Rattle.rmt_reply.specs.declared.piece.Piece.{Piece}
 use Rattle.rmt_reply.specs.declared.piece.Piece.TheVariants as pieces
 use Rattle.rmt_reply.specs.declared.refusal.Refusal.{Refusal}
-use Rattle.rmt_reply.specs.declared.refusal.Refusal.TheVariants.{NoSource}
+use Rattle.rmt_reply.specs.declared.refusal.Refusal.TheVariants.{NoSource, QuorumUnmet}
+use Rattle.rmt_statement_model.specs.QuorumCopies.{is_asked}
+use Rattle.rmt_statement_model.specs.Inserts.{Asked}
+use Rattle.rmt_statement_model.specs.Shows.{fetching_of, ups}
 
 -- these events, the first one first, lead from one cluster to another
 abbrev pub Makes : Cluster → List Event → Cluster → Type 0
@@ -47,38 +50,58 @@ SyncEvents s r (Some refusal) u = ⊥
 abbrev pub Offered : Type 0
 Offered = Arc Block Global
 
--- a block is accepted: it gets a number, is staged and committed, and its replica pulls the log and does its Get
-pub record AcceptsBlock (s : Cluster) (r : ℕ) (u : Cluster) : Type 0 where
+-- one of the other replicas: where it is asked for a copy, it pulls the log, does the entry at the place, and notes the part
+abbrev pub CopiesWhere : Bool → Cluster → ℕ → ℕ → Cluster → Type 0
+CopiesWhere true s place k u = Makes s (ev.Pull k ∷ ev.Apply k place ∷ ev.Note k ∷ []) u
+CopiesWhere false s place k u = u ≡ s
+
+-- the writer of a part notes it, and then the replicas of the first so many numbers are asked for a copy, in order
+abbrev pub GathersTo : Cluster → ℕ → ℕ → ℕ → Cluster → Type 0
+GathersTo s r place zero u = Makes s (ev.Note r ∷ []) u
+GathersTo s r place (suc n) u =
+    (mid : Cluster) × GathersTo s r place n mid × CopiesWhere (is_asked mid.table.quorum.pending (ups mid) (fetching_of mid) r (suc n)) mid place (suc n) u
+
+-- the same where there is to be a quorum; there are at most 8 replicas
+abbrev pub GathersWhere : Bool → Cluster → ℕ → ℕ → Cluster → Type 0
+GathersWhere true s r place u = GathersTo s r place 8 u
+GathersWhere false s r place u = u ≡ s
+
+-- a block is accepted: it gets a number, is staged and committed, and its replica pulls the log and does its Get; then its quorum is
+-- gathered, where it asks for one
+pub record AcceptsBlock (s : Cluster) (a : Asked) (u : Cluster) : Type 0 where
   pub block : Offered
   pub attempt : ℕ
   pub place : ℕ
-  pub makes : Makes s (ev.Allocate r block 0 ∷ ev.Stage attempt ∷ ev.Commit attempt ∷ ev.Pull r ∷ ev.Apply r place ∷ []) u
+  pub mid : Cluster
+  pub makes : Makes s (ev.Allocate a.writer block a.need ∷ ev.Stage attempt ∷ ev.Commit attempt ∷ ev.Pull a.writer ∷ ev.Apply a.writer place ∷ []) mid
+  pub gathers : GathersWhere (nat_le 2 a.need) mid a.writer place u
 
--- a block gets no number: it is a duplicate, or would pass a limit
-pub record TriesBlock (s : Cluster) (r : ℕ) (u : Cluster) : Type 0 where
+-- a block gets no number: there can be no quorum, it is a duplicate, or it would pass a limit
+pub record TriesBlock (s : Cluster) (a : Asked) (u : Cluster) : Type 0 where
   pub block : Offered
-  pub makes : Makes s (ev.Allocate r block 0 ∷ []) u
+  pub makes : Makes s (ev.Allocate a.writer block a.need ∷ []) u
 
 -- a block is refused as it is committed
-pub record LosesBlock (s : Cluster) (r : ℕ) (u : Cluster) : Type 0 where
+pub record LosesBlock (s : Cluster) (a : Asked) (u : Cluster) : Type 0 where
   pub block : Offered
   pub attempt : ℕ
-  pub makes : Makes s (ev.Allocate r block 0 ∷ ev.Stage attempt ∷ ev.Commit attempt ∷ []) u
+  pub makes : Makes s (ev.Allocate a.writer block a.need ∷ ev.Stage attempt ∷ ev.Commit attempt ∷ []) u
 
 -- a block whose piece of the reply is this
-abbrev pub PieceEvents : Cluster → ℕ → Piece → Cluster → Type 0
-PieceEvents s r (pieces.Part a) u = AcceptsBlock s r u
-PieceEvents s r (pieces.Duplicate a) u = TriesBlock s r u
+abbrev pub PieceEvents : Cluster → Asked → Piece → Cluster → Type 0
+PieceEvents s a (pieces.Part part) u = AcceptsBlock s a u
+PieceEvents s a (pieces.Duplicate part) u = TriesBlock s a u
 
--- the block that is refused, where one is
-abbrev pub RefusedEvents : Cluster → ℕ → Option Refusal → Cluster → Type 0
-RefusedEvents s r None u = u ≡ s
-RefusedEvents s r (Some refusal) u = TriesBlock s r u ⊎ LosesBlock s r u
+-- the block that is refused, where one is; one whose quorum isn't met is in
+abbrev pub RefusedEvents : Cluster → Asked → Option Refusal → Cluster → Type 0
+RefusedEvents s a None u = u ≡ s
+RefusedEvents s a (Some (QuorumUnmet have need)) u = AcceptsBlock s a u
+RefusedEvents s a (Some refusal) u = TriesBlock s a u ⊎ LosesBlock s a u
 
 -- blocks one after the other
-abbrev pub InsertEvents : Cluster → ℕ → List Piece → Option Refusal → Cluster → Type 0
-InsertEvents s r [] refused u = RefusedEvents s r refused u
-InsertEvents s r (piece ∷ rest) refused u = (mid : Cluster) × PieceEvents s r piece mid × InsertEvents mid r rest refused u
+abbrev pub InsertEvents : Cluster → Asked → List Piece → Option Refusal → Cluster → Type 0
+InsertEvents s a [] refused u = RefusedEvents s a refused u
+InsertEvents s a (piece ∷ rest) refused u = (mid : Cluster) × PieceEvents s a piece mid × InsertEvents mid a rest refused u
 
 -- ---- ALTER .. DROP PARTITION
 

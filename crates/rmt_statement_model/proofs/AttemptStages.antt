@@ -4,6 +4,7 @@ use Rattle.rmt_model.specs.Words.{Has}
 use Rattle.rmt_model.proofs.LiveLaws.{Pairwise-cases}
 use Rattle.rmt_events.specs.Views.{Block, Staged, Replica, Table}
 use Rattle.rmt_events.specs.TableCalls.{IsLocked, kept_part}
+use Rattle.rmt_events.specs.TableRefusals.{HasQuorum}
 use Rattle.rmt_events.specs.ReplicaCalls.{IsStaged, comes_before, staged_without, staged_with}
 use Rattle.rmt_events.specs.ReplicaCalls as calls
 use Rattle.rmt_events.specs.Clusters.{Attempt, Cluster}
@@ -13,6 +14,7 @@ use Rattle.rmt_events.specs.InsertEvents.{StagesAttempt, NoStage}
 use Rattle.rmt_events.specs.Steps.{Does, Step}
 use Rattle.rmt_statement_model.specs.TableStates.{TableState}
 use Rattle.rmt_statement_model.specs.Shows.{Shows, ups}
+use Rattle.rmt_statement_model.specs.Inserts.{Asked}
 use Rattle.rmt_statement_model.specs.Attempts.{attempt_of, IsOpen, IsStagedAt}
 use Rattle.rmt_statement_model.proofs.Replaced.{numbered-new}
 use Rattle.rmt_statement_model.proofs.UpLaws.{not-down}
@@ -24,9 +26,9 @@ use Rattle.rmt_events.specs.declared.step_refused.StepRefused.{StepRefused}
 use Rattle.rmt_events.specs.declared.step_refused.StepRefused.TheVariants as rf
 
 -- it is open, holds its number, and its block is staged
-pub record IsReady (s : Cluster) (id r : ℕ) (b : Block) (n : ℕ) : Type 0 where
-  pub is_open : IsOpen s id r b n
-  pub staged : IsStagedAt s r b n
+pub record IsReady (s : Cluster) (id : ℕ) (a : Asked) (b : Block) (n : ℕ) : Type 0 where
+  pub is_open : IsOpen s id a b n
+  pub staged : IsStagedAt s a.writer b n
 
 -- two open attempts of one id are one
 pub one-attempt : (s : Cluster) (a b : Attempt) → IsWhole s → Has s.attempts a → Has s.attempts b → a.id ≡ b.id → a ≡ b
@@ -45,20 +47,21 @@ block-new z (y ∷ ys) = go (comes_before y z) (block-new z ys)
     go false h = inl refl
 
 -- nothing keeps the block of an open attempt from being staged at a replica that is up
-refused-stage : (s : Cluster) (id r : ℕ) (b : Block) (n : ℕ) (why : StepRefused) → IsWhole s → ups s r ≡ true → IsOpen s id r b n → NoStage s id why → ⊥
-refused-stage s id r b n rf.NoAttempt w up o c = c (attempt_of id r b n) (record { is_in = o.there; id_is = refl })
-refused-stage s id r b n rf.Down w up o c =
-    let q = one-attempt s c.0 (attempt_of id r b n) w c.1.is_in o.there c.1.id_is in
-    not-down s r w up (subst (λ j. IsDown s j) (ap (λ (x : Attempt). x.replica) q) c.2)
-refused-stage s id r b n why w up o c = c
+refused-stage : (s : Cluster) (id : ℕ) (a : Asked) (b : Block) (n : ℕ) (why : StepRefused) → IsWhole s → ups s a.writer ≡ true → IsOpen s id a b n → NoStage s id why → ⊥
+refused-stage s id a b n rf.NoAttempt w up o c = c (attempt_of id a b n) (record { is_in = o.there; id_is = refl })
+refused-stage s id a b n rf.Down w up o c =
+    let q = one-attempt s c.0 (attempt_of id a b n) w c.1.is_in o.there c.1.id_is in
+    not-down s a.writer w up (subst (λ j. IsDown s j) (ap (λ (x : Attempt). x.replica) q) c.2)
+refused-stage s id a b n why w up o c = c
 
 -- the attempt is open still, and its block is staged
-stages : (s u : Cluster) (id r : ℕ) (b : Block) (n : ℕ) (reply : Reply) → IsOpen s id r b n → (k : Step s (ev.Stage id) reply u) → (d : StagesAttempt s id reply k.after) → d.attempt ≡ attempt_of id r b n → IsReady u id r b n
-stages s u id r b n reply o k d q =
+stages : (s u : Cluster) (id : ℕ) (a : Asked) (b : Block) (n : ℕ) (reply : Reply) → IsOpen s id a b n → (k : Step s (ev.Stage id) reply u) → (d : StagesAttempt s id reply k.after) → d.attempt ≡ attempt_of id a b n → IsReady u id a b n
+stages s u id a b n reply o k d q =
     record {
       is_open = record {
-        there = subst (λ (x : Cluster). Has x.attempts (attempt_of id r b n)) (sym k.stored) (subst (λ (x : Cluster). Has x.attempts (attempt_of id r b n)) (sym d.at.change) o.there);
+        there = subst (λ (x : Cluster). Has x.attempts (attempt_of id a b n)) (sym k.stored) (subst (λ (x : Cluster). Has x.attempts (attempt_of id a b n)) (sym d.at.change) o.there);
         locked = subst (λ (x : Table). IsLocked x.locks b.partition n) (sym table-is) o.locked;
+        quorum = subst (λ (x : Table). HasQuorum x a.need) (sym table-is) o.quorum;
         unkept = ap (λ (x : Table). kept_part x.window b.partition b.digest) table-is ∙ o.unkept;
       };
       staged = record {
@@ -75,13 +78,13 @@ stages s u id r b n reply o k d q =
     staged-are = ap (λ (z : Replica). z.staged) d.at.does ∙ ap (λ (x : Attempt). staged_with d.at.old.staged x.number x.block) q
 
 -- the block is staged, and what is shown stays
-pub staged : (s u : Cluster) (id r : ℕ) (b : Block) (n : ℕ) (reply : Reply) → IsWhole s → ups s r ≡ true → IsOpen s id r b n → Step s (ev.Stage id) reply u → (reply ≡ rp.Done) × IsReady u id r b n × ((t : TableState) → Shows s t → Shows u t)
-staged s u id r b n reply w up o k = go k.does
+pub staged : (s u : Cluster) (id : ℕ) (a : Asked) (b : Block) (n : ℕ) (reply : Reply) → IsWhole s → ups s a.writer ≡ true → IsOpen s id a b n → Step s (ev.Stage id) reply u → (reply ≡ rp.Done) × IsReady u id a b n × ((t : TableState) → Shows s t → Shows u t)
+staged s u id a b n reply w up o k = go k.does
   where
-    go : Does s (ev.Stage id) reply k.after → (reply ≡ rp.Done) × IsReady u id r b n × ((t : TableState) → Shows s t → Shows u t)
+    go : Does s (ev.Stage id) reply k.after → (reply ≡ rp.Done) × IsReady u id a b n × ((t : TableState) → Shows s t → Shows u t)
     go (inl d) = (
       d.answer,
-      stages s u id r b n reply o k d (one-attempt s d.attempt (attempt_of id r b n) w d.is.is_in o.there d.is.id_is),
+      stages s u id a b n reply o k d (one-attempt s d.attempt (attempt_of id a b n) w d.is.is_in o.there d.is.id_is),
       λ t h. shows-quiet s u (ev.Stage id) reply t w tt k (ap (λ (x : Cluster). x.table) d.at.change) (ap (λ (x : Cluster). x.events) d.at.change) (λ xs i. refl) h,
     )
-    go (inr d) = absurd (refused-stage s id r b n d.why w up o d.cause)
+    go (inr d) = absurd (refused-stage s id a b n d.why w up o d.cause)

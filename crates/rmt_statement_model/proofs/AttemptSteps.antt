@@ -1,5 +1,5 @@
 -- A replica pulls the log and looks at an entry of it: why it goes so, and what the cluster shows then.
-use Rattle.std.proofs.Common.{◌≡◌, ℕ, ◌⊎◌, inl, inr, true, List, length, refl, sym, ap, subst, arith, ◌∙◌}
+use Rattle.std.proofs.Common.{◌≡◌, ℕ, ◌⊎◌, ◌≤◌, inl, inr, true, List, length, refl, sym, ap, subst, arith, ◌∙◌}
 use Rattle.std.specs.declared.option.Option.{Option}
 use Rattle.std.specs.declared.option.Option.TheVariants.{Some}
 use Rattle.rmt_names.specs.Names.{Name}
@@ -19,6 +19,7 @@ use Rattle.rmt_events.proofs.WholeTries.{one-replica}
 use Rattle.rmt_events.proofs.Drains.{nat-same}
 use Rattle.rmt_statement_model.specs.TableStates.{TableState, learned}
 use Rattle.rmt_statement_model.specs.Shows.{Shows, ups}
+use Rattle.rmt_statement_model.specs.Inserts.{Asked}
 use Rattle.rmt_statement_model.specs.Attempts.{IsStagedAt, IsAccepted}
 use Rattle.rmt_statement_model.proofs.Replaced.{has-kept, numbered-still, numbered-new}
 use Rattle.rmt_statement_model.proofs.KnowsLaws.{learns-step}
@@ -118,20 +119,20 @@ staged-pulls s u k r b n reply w a st d = go (nat-same a.replica.number k)
     }
 
 -- a block that is accepted stays so
-pub pulled-accepted : (s u : Cluster) (k place r : ℕ) (b : Block) (n : ℕ) (reply : Reply) → IsWhole s → IsAccepted s place r b n → Step s (ev.Pull k) reply u → IsAccepted u place r b n
-pulled-accepted s u k place r b n reply w a st = go st.does
+pub pulled-accepted : (s u : Cluster) (k place : ℕ) (a : Asked) (b : Block) (n : ℕ) (reply : Reply) → IsWhole s → IsAccepted s place a b n → Step s (ev.Pull k) reply u → IsAccepted u place a b n
+pulled-accepted s u k place a b n reply w z st = go st.does
   where
-    entry : st.after.table.log ≡ s.table.log → entry_at u.table.log place ≡ Some (Get b.partition n b.digest r 0)
-    entry e = subst (λ (l : List Entry). entry_at l place ≡ Some (Get b.partition n b.digest r 0)) (sym (ap (λ (x : Cluster). x.table.log) st.stored ∙ e)) a.entry
+    entry : st.after.table.log ≡ s.table.log → entry_at u.table.log place ≡ Some (Get b.partition n b.digest a.writer a.need)
+    entry e = subst (λ (l : List Entry). entry_at l place ≡ Some (Get b.partition n b.digest a.writer a.need)) (sym (ap (λ (x : Cluster). x.table.log) st.stored ∙ e)) z.entry
 
-    go : Does s (ev.Pull k) reply st.after → IsAccepted u place r b n
-    go (inl d) = record { entry = entry (ap (λ (x : Cluster). x.table.log) d.at.change); staged = staged-pulls s u k r b n reply w a.staged st d }
+    go : Does s (ev.Pull k) reply st.after → IsAccepted u place a b n
+    go (inl d) = record { entry = entry (ap (λ (x : Cluster). x.table.log) d.at.change); staged = staged-pulls s u k a.writer b n reply w z.staged st d }
     go (inr d) = record {
       entry = entry (ap (λ (x : Cluster). x.table.log) d.unchanged);
       staged = record {
-        replica = a.staged.replica;
-        at = numbered-still s u r a.staged.replica (ap (λ (x : Cluster). x.replicas) st.stored ∙ ap (λ (x : Cluster). x.replicas) d.unchanged) a.staged.at;
-        staged = a.staged.staged;
+        replica = z.staged.replica;
+        at = numbered-still s u a.writer z.staged.replica (ap (λ (x : Cluster). x.replicas) st.stored ∙ ap (λ (x : Cluster). x.replicas) d.unchanged) z.staged.at;
+        staged = z.staged.staged;
       };
     }
 
@@ -150,35 +151,38 @@ own-block : (s : Cluster) (r : ℕ) (b : Block) (n : ℕ) (x : Replica) → IsWh
 own-block s r b n x w a at = subst (λ (z : Replica). IsStaged z b.partition n b) (one-replica s a.replica x w a.at.is_in at.is_in (a.at.number ∙ sym at.number)) a.staged
 
 -- it has the whole log
-own-log : (s : Cluster) (r : ℕ) (x : Replica) → IsWhole s → HasWholeLog s r → IsNumbered s r x → x.log ≡ s.table.log
+pub own-log : (s : Cluster) (r : ℕ) (x : Replica) → IsWhole s → HasWholeLog s r → IsNumbered s r x → x.log ≡ s.table.log
 own-log s r x w l at = subst (λ (z : Replica). z.log ≡ s.table.log) (one-replica s l.replica x w l.at.is_in at.is_in (l.at.number ∙ sym at.number)) l.whole
 
 -- the entry that waits at the place is the block's Get
-own-entry : (s : Cluster) (place r : ℕ) (b : Block) (n : ℕ) (x : Replica) (e : Entry) → IsWhole s → IsAccepted s place r b n → HasWholeLog s r → WaitsAt s r place x e → e ≡ Get b.partition n b.digest r 0
-own-entry s place r b n x e w a l k =
-    some-same e (Get b.partition n b.digest r 0) (sym k.at ∙ (ap (λ (y : List Entry). entry_at y place) (own-log s r x w l k.is.at) ∙ a.entry))
+pub own-entry : (s : Cluster) (place k : ℕ) (x : Replica) (e get : Entry) → IsWhole s → entry_at s.table.log place ≡ Some get → HasWholeLog s k → WaitsAt s k place x e → e ≡ get
+own-entry s place k x e get w a l z =
+    some-same e get (sym z.at ∙ (ap (λ (y : List Entry). entry_at y place) (own-log s k x w l z.is.at) ∙ a))
+
+-- an entry that is in the log stands in the copy of a replica that has the whole log
+pub never-past : (s : Cluster) (place k : ℕ) (x : Replica) (get : Entry) → IsWhole s → entry_at s.table.log place ≡ Some get → HasWholeLog s k → IsNumbered s k x → length x.log ≤ place → ⊥
+never-past s place k x get w a l at m =
+    let e = ap (λ (y : List Entry). length y) (own-log s k x w l at) in
+    let i = entry-below s.table.log place get a in
+    absurd (omega (arith, e, m, i))
 
 -- a block that is accepted and staged is done at its replica
-refused-apply : (s : Cluster) (place r : ℕ) (b : Block) (n : ℕ) (why : StepRefused) → IsWhole s → ups s r ≡ true → IsAccepted s place r b n → HasWholeLog s r → NoApply s r place why → ⊥
-refused-apply s place r b n rf.Down w up a l c = not-down s r w up c
-refused-apply s place r b n rf.NotLive w up a l c =
-    let e = ap (λ (y : List Entry). length y) (own-log s r c.0 w l c.1.at) in
-    let m = c.2 in
-    let i = entry-below s.table.log place (Get b.partition n b.digest r 0) a.entry in
-    absurd (omega (arith, e, m, i))
-refused-apply s place r b n (rf.NeedsPart name) w up a l c =
-    part-lacks-block s r c.0 b.partition n r 0 b.digest c.1 name (own-entry s place r b n c.0 c.1 w a l c.2) c.3 b (own-block s r b n c.0 w a.staged c.2.is.at)
-refused-apply s place r b n rf.FetchesStopped w up a l c =
-    fetch-lacks-block s r c.0 b.partition n r 0 b.digest c.1 (own-entry s place r b n c.0 c.1 w a l c.2) c.4 b (own-block s r b n c.0 w a.staged c.2.is.at)
-refused-apply s place r b n why w up a l c = c
+refused-apply : (s : Cluster) (place : ℕ) (a : Asked) (b : Block) (n : ℕ) (why : StepRefused) → IsWhole s → ups s a.writer ≡ true → IsAccepted s place a b n → HasWholeLog s a.writer → NoApply s a.writer place why → ⊥
+refused-apply s place a b n rf.Down w up z l c = not-down s a.writer w up c
+refused-apply s place a b n rf.NotLive w up z l c = never-past s place a.writer c.0 (Get b.partition n b.digest a.writer a.need) w z.entry l c.1.at c.2
+refused-apply s place a b n (rf.NeedsPart name) w up z l c =
+    part-lacks-block s a.writer c.0 b.partition n a.writer a.need b.digest c.1 name (own-entry s place a.writer c.0 c.1 (Get b.partition n b.digest a.writer a.need) w z.entry l c.2) c.3 b (own-block s a.writer b n c.0 w z.staged c.2.is.at)
+refused-apply s place a b n rf.FetchesStopped w up z l c =
+    fetch-lacks-block s a.writer c.0 b.partition n a.writer a.need b.digest c.1 (own-entry s place a.writer c.0 c.1 (Get b.partition n b.digest a.writer a.need) w z.entry l c.2) c.4 b (own-block s a.writer b n c.0 w z.staged c.2.is.at)
+refused-apply s place a b n why w up z l c = c
 
 -- the entry of the block is looked at
-pub apply-reply : (s u : Cluster) (place r : ℕ) (b : Block) (n : ℕ) (reply : Reply) → IsWhole s → ups s r ≡ true → IsAccepted s place r b n → HasWholeLog s r → Step s (ev.Apply r place) reply u → IsApplied reply
-apply-reply s u place r b n reply w up a l st = go st.does
+pub apply-reply : (s u : Cluster) (place : ℕ) (a : Asked) (b : Block) (n : ℕ) (reply : Reply) → IsWhole s → ups s a.writer ≡ true → IsAccepted s place a b n → HasWholeLog s a.writer → Step s (ev.Apply a.writer place) reply u → IsApplied reply
+apply-reply s u place a b n reply w up z l st = go st.does
   where
-    go : Does s (ev.Apply r place) reply st.after → IsApplied reply
+    go : Does s (ev.Apply a.writer place) reply st.after → IsApplied reply
     go (inl d) = subst (λ (y : Reply). IsApplied y) (sym d.answer) tt
-    go (inr d) = absurd (refused-apply s place r b n d.why w up a l d.cause)
+    go (inr d) = absurd (refused-apply s place a b n d.why w up z l d.cause)
 
 -- its place is known there then
 pub applied-shows : (s u : Cluster) (k i : ℕ) (comes : Applied) → IsWhole s → Step s (ev.Apply k i) (rp.Applied comes) u → (t : TableState) → Shows s t → Shows u (record t { known = learned t.known k i })

@@ -21,6 +21,7 @@ pub mod DropEntries
 pub mod DropRows
 pub mod RunTurns
 pub mod NoteRows
+pub mod CopyRows
 pub mod SwitchRows
 pub mod RunRows
 pub mod PartitionLaws

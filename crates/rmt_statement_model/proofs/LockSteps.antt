@@ -11,6 +11,7 @@ use Rattle.rmt_events.specs.Whole.{IsWhole}
 use Rattle.rmt_events.specs.InsertEvents.{EndsAttempt, NoCommit}
 use Rattle.rmt_events.specs.Steps.{Does, Step}
 use Rattle.rmt_statement_model.specs.Shows.{HoldsNone}
+use Rattle.rmt_statement_model.specs.Inserts.{Asked}
 use Rattle.rmt_statement_model.specs.Attempts.{IsCommitReply, attempt_of}
 use Rattle.rmt_statement_model.proofs.AttemptBegins.{Offered}
 use Rattle.rmt_statement_model.proofs.AttemptStages.{IsReady, one-attempt}
@@ -76,10 +77,10 @@ none-held s u e r q k h = ap (λ (x : Cluster). x.table.locks) k.stored ∙ none
 -- ---- the lock of an attempt
 
 -- an attempt that begins has the one lock
-pub begun-lock : (s u : Cluster) (r : ℕ) (raw : Offered) (id n : ℕ) → HoldsNone s → Step s (ev.Allocate r raw 0) (rp.Attempt id n) u → u.table.locks ≡ record { partition = (without_kinds (arc_value raw)).partition; number = n; owner = r } ∷ []
-begun-lock s u r raw id n h k = go k.does
+pub begun-lock : (s u : Cluster) (r need : ℕ) (raw : Offered) (id n : ℕ) → HoldsNone s → Step s (ev.Allocate r raw need) (rp.Attempt id n) u → u.table.locks ≡ record { partition = (without_kinds (arc_value raw)).partition; number = n; owner = r } ∷ []
+begun-lock s u r need raw id n h k = go k.does
   where
-    go : Does s (ev.Allocate r raw 0) (rp.Attempt id n) k.after → u.table.locks ≡ record { partition = (without_kinds (arc_value raw)).partition; number = n; owner = r } ∷ []
+    go : Does s (ev.Allocate r raw need) (rp.Attempt id n) k.after → u.table.locks ≡ record { partition = (without_kinds (arc_value raw)).partition; number = n; owner = r } ∷ []
     go (inl d) =
         let m : d.number ≡ n = let q = d.answer in cc in
         ap (λ (x : Cluster). x.table.locks) k.stored
@@ -90,10 +91,10 @@ begun-lock s u r raw id n h k = go k.does
     go (inr d) = let e = d.answer in absurd (cc)
 
 -- a block that gets no number takes none
-pub refused-lock : (s u : Cluster) (r : ℕ) (raw : Offered) (why : StepRefused) → HoldsNone s → Step s (ev.Allocate r raw 0) (rp.Refused why) u → HoldsNone u
-refused-lock s u r raw why h k = go k.does
+pub refused-lock : (s u : Cluster) (r need : ℕ) (raw : Offered) (why : StepRefused) → HoldsNone s → Step s (ev.Allocate r raw need) (rp.Refused why) u → HoldsNone u
+refused-lock s u r need raw why h k = go k.does
   where
-    go : Does s (ev.Allocate r raw 0) (rp.Refused why) k.after → HoldsNone u
+    go : Does s (ev.Allocate r raw need) (rp.Refused why) k.after → HoldsNone u
     go (inl d) = let e = d.answer in absurd (cc)
     go (inr d) = ap (λ (x : Cluster). x.table.locks) k.stored ∙ (ap (λ (x : Cluster). x.table.locks) d.unchanged ∙ h)
 
@@ -118,21 +119,21 @@ no-commit s id (rf.LimitReached limit value) c a = c
 no-commit s id why c a = a
 
 -- the lock of an attempt goes with its commit
-pub committed-lock : (s u : Cluster) (id r : ℕ) (b : Block) (n o : ℕ) (reply : Reply) → IsWhole s → IsReady s id r b n → s.table.locks ≡ record { partition = b.partition; number = n; owner = o } ∷ [] → Step s (ev.Commit id) reply u → IsCommitReply reply → HoldsNone u
-committed-lock s u id r b n o reply w ready h k c = ap (λ (x : Cluster). x.table.locks) k.stored ∙ go k.does
+pub committed-lock : (s u : Cluster) (id : ℕ) (a : Asked) (b : Block) (n o : ℕ) (reply : Reply) → IsWhole s → IsReady s id a b n → s.table.locks ≡ record { partition = b.partition; number = n; owner = o } ∷ [] → Step s (ev.Commit id) reply u → IsCommitReply reply → HoldsNone u
+committed-lock s u id a b n o reply w ready h k c = ap (λ (x : Cluster). x.table.locks) k.stored ∙ go k.does
   where
     -- the locks without that of the attempt are none
-    gone : (a : Attempt) → a ≡ attempt_of id r b n → locks_without s.table.locks a.block.partition a.number ≡ []
-    gone a q =
+    gone : (z : Attempt) → z ≡ attempt_of id a b n → locks_without s.table.locks z.block.partition z.number ≡ []
+    gone z q =
         ap (λ (x : Attempt). locks_without s.table.locks x.block.partition x.number) q
         ∙ (ap (λ (xs : List Lock). locks_without xs b.partition n) h ∙ lock-gone b.partition n o)
 
     go : Does s (ev.Commit id) reply k.after → k.after.table.locks ≡ []
     go (inl d) =
         ap (λ (x : Cluster). x.table.locks) d.change
-        ∙ (ap (λ (x : Table). x.locks) d.call.change ∙ gone d.attempt (one-attempt s d.attempt (attempt_of id r b n) w d.is.is_in ready.is_open.there d.is.id_is))
+        ∙ (ap (λ (x : Table). x.locks) d.call.change ∙ gone d.attempt (one-attempt s d.attempt (attempt_of id a b n) w d.is.is_in ready.is_open.there d.is.id_is))
     go (inr (inl d)) =
         let e = d.ends in
         ap (λ (x : Cluster). x.table.locks) e.change
-        ∙ (ap (λ (x : Table). x.locks) e.unlocks ∙ gone e.attempt (one-attempt s e.attempt (attempt_of id r b n) w e.is.is_in ready.is_open.there e.is.id_is))
+        ∙ (ap (λ (x : Table). x.locks) e.unlocks ∙ gone e.attempt (one-attempt s e.attempt (attempt_of id a b n) w e.is.is_in ready.is_open.there e.is.id_is))
     go (inr (inr d)) = absurd (no-commit s id d.why d.cause (subst (λ (y : Reply). IsCommitReply y) d.answer c))

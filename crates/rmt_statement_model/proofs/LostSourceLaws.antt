@@ -15,25 +15,23 @@ use Rattle.rmt_model.specs.CopiedParts.{Copied, IsCopied, names_of}
 use Rattle.rmt_model.proofs.Lists.{Each-at}
 use Rattle.rmt_model.proofs.Drops.{entry-cases, entry-below}
 use Rattle.rmt_events.specs.Views.{Replica}
-use Rattle.rmt_events.specs.ReplicaCalls.{IsStanding, Waits}
+use Rattle.rmt_events.specs.ReplicaCalls.{IsStanding}
 use Rattle.rmt_events.specs.Clusters.{Cluster}
 use Rattle.rmt_events.specs.Whole.{Follows, IsWhole}
-use Rattle.rmt_events.specs.ClusterChanges.{IsNumbered, IsOther}
-use Rattle.rmt_events.specs.ApplyEvents.{IsHolder, WaitsAt, LacksPart}
+use Rattle.rmt_events.specs.ApplyEvents.{WaitsAt, LacksPart}
 use Rattle.rmt_events.proofs.Copies.{dropped-behind, entry-front}
 use Rattle.rmt_events.proofs.Drains.{nat-same}
 use Rattle.rmt_events.proofs.WholeTries.{one-replica}
-use Rattle.rmt_statement_model.specs.TableStates.{TableState}
-use Rattle.rmt_statement_model.specs.Shows.{Knows, Shows, up_at, ups}
+use Rattle.rmt_statement_model.specs.Shows.{Knows, up_at, ups}
 
 -- a replica that is told to be up is there
-record IsThere (xs : List Replica) (k : ℕ) : Type 0 where
+pub record IsThere (xs : List Replica) (k : ℕ) : Type 0 where
   pub replica : Replica
   pub is_in : Has xs replica
   pub number : replica.number ≡ k
   pub up : replica.up ≡ true
 
-up-there : (xs : List Replica) (k : ℕ) → up_at xs k ≡ true → IsThere xs k
+pub up-there : (xs : List Replica) (k : ℕ) → up_at xs k ≡ true → IsThere xs k
 up-there [] k e = absurd (cc)
 up-there (x ∷ xs) k e = go (nat_eq x.number k) refl e (up-there xs k)
   where
@@ -42,7 +40,7 @@ up-there (x ∷ xs) k e = go (nat_eq x.number k) refl e (up-there xs k)
     go false q h f = let y = f h in record { replica = y.replica; is_in = inr y.is_in; number = y.number; up = y.up }
 
 -- the entry at a marked place makes its result
-made-mark : (log : List Entry) (i : ℕ) (m : ℕ → Bool) (e : Entry) (a : Name) → entry_at log i ≡ Some e → result_name e ≡ Some a → m i ≡ true → MadeAtMark log m a
+pub made-mark : (log : List Entry) (i : ℕ) (m : ℕ → Bool) (e : Entry) (a : Name) → entry_at log i ≡ Some e → result_name e ≡ Some a → m i ≡ true → MadeAtMark log m a
 made-mark [] i m e a q r t = absurd (cc)
 made-mark (x ∷ log) i m e a q r t = elim (entry-cases x log i e q) [
   | inl k ↦ inl (ap m (sym k.0) ∙ t, ap result_name k.1 ∙ r)

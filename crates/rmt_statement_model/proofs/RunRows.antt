@@ -16,7 +16,7 @@ use Rattle.rmt_events.specs.Clusters.{Cluster}
 use Rattle.rmt_events.specs.Whole.{IsWhole}
 use Rattle.rmt_events.specs.ClusterChanges.{Declines}
 use Rattle.rmt_events.specs.Steps.{Does, Step}
-use Rattle.rmt_events.specs.Draws.{turn, Runs, TurnsTo, NotesAfter, noting}
+use Rattle.rmt_events.specs.Draws.{turn, Runs, NotesAfter, noting}
 use Rattle.rmt_events.proofs.WholeSteps.{whole-step}
 use Rattle.rmt_events.proofs.RunLemmas.{whole-runs}
 use Rattle.rmt_statement_model.specs.TableStates.{TableState}

@@ -7,7 +7,7 @@ use Rattle.rmt_model.proofs.Lists.{Each-at}
 use Rattle.rmt_events.specs.Views.{Replica}
 use Rattle.rmt_events.specs.ReplicaCalls.{Settles}
 use Rattle.rmt_events.specs.Clusters.{Cluster, with_replica}
-use Rattle.rmt_events.specs.ClusterChanges.{IsNumbered, AtReplica, IsDown}
+use Rattle.rmt_events.specs.ClusterChanges.{IsNumbered, AtReplica}
 use Rattle.rmt_events.specs.InsertEvents.{EndsAttempt}
 use Rattle.rmt_events.specs.ApplyEvents.{AppliesTo}
 use Rattle.rmt_events.specs.Steps.{Does, Step}

@@ -1,5 +1,6 @@
 pub use Rattle.rmt_events.specs.Steps
 pub mod TableStates
+pub mod QuorumCopies
 pub mod Inserts
 pub mod Reads
 pub mod LostSources
