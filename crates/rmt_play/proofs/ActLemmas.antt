@@ -23,26 +23,25 @@ use Rattle.rmt_query.specs.Answers.{answer_of}
 use Rattle.rmt_query.specs.Explained.{AreExplained}
 use Rattle.rmt_events.specs.Clusters.{Cluster, without_kinds}
 use Rattle.rmt_statement_model.specs.TableStates.{TableState, data_at, plain_rows, synced, shown_at}
-use Rattle.rmt_statement_model.specs.Inserts.{InsertsAll}
+use Rattle.rmt_statement_model.specs.Inserts.{Asked, asked_at, InsertsAll}
 use Rattle.rmt_statement_model.specs.Reads.{KnowsAll}
 use Rattle.rmt_statement_model.specs.Shows.{Shows, Leads, ups}
 use Rattle.rmt_statement_model.proofs.ReadLaws.{synced-knows}
 use Rattle.rmt_acts.specs.Syncing.{SyncsReplica}
 use Rattle.rmt_statements.specs.declared.act.Act.TheVariants as acts
 use Rattle.rmt_statements.specs.declared.insert.Insert.{Insert}
-use Rattle.rmt_sql_rows.specs.InsertedRows.{names_refusal}
 use Rattle.rmt_reply.specs.declared.line.Line.{Line}
 use Rattle.rmt_reply.specs.declared.line.Line.TheVariants as lines
 use Rattle.rmt_reply.specs.declared.piece.Piece.{Piece}
 use Rattle.rmt_reply.specs.declared.refusal.Refusal.{Refusal}
-use Rattle.rmt_play.specs.ActRefusals.{refused_names, refused_query}
-use Rattle.rmt_play.specs.InsertStatement.{InsertsRows}
+use Rattle.rmt_play.specs.ActRefusals.{refused_query}
+use Rattle.rmt_play.specs.InsertStatement.{InsertsRows, need_of}
 use Rattle.rmt_play.specs.SelectStatement.{Syncs, Reads}
 use Rattle.rmt_play.specs.ExplainStatement.{Explains}
 use Rattle.rmt_acts.specs.StatementEvents.{SyncEvents}
 use Rattle.rmt_play.specs.ActEvents.{InsertsBy, refusal_told}
 use Rattle.rmt_play.specs.QueryAnswers.{IsSelection, IsExplained}
-use Rattle.rmt_play.specs.PlayerSteps.{HasRows, RefusesRows, DoesAct, Declines, ExecutesIn, ExecutesQuery}
+use Rattle.rmt_play.specs.PlayerSteps.{insert_refusal, HasRows, RefusesRows, DoesAct, Declines, ExecutesIn, ExecutesQuery}
 
 -- ---- queries
 
@@ -56,7 +55,7 @@ answered s u t v query Answers Events line q h k a m = record {
   shows = k;
 }
 
-checked-in : (s : Cluster) (t : TableState) (query : Query) (checked : CheckedQuery) → Shows s t → IsCheckedQuery s.table.schema query checked → IsCheckedQuery t.schema query checked
+pub checked-in : (s : Cluster) (t : TableState) (query : Query) (checked : CheckedQuery) → Shows s t → IsCheckedQuery s.table.schema query checked → IsCheckedQuery t.schema query checked
 checked-in s t query checked h is = subst (λ (c : Shape). IsCheckedQuery c query checked) (sym h.schema) is
 
 -- ---- what a call found
@@ -146,7 +145,7 @@ query-refused s query Answers Events line why q e = λ t h. record {
 -- ---- INSERT
 
 -- rows that are inserted
-pub inserts-in : (s u : Cluster) (r : ℕ) (insert : Insert) (rows : List Row) (line : Line) → ups s r ≡ true → HasRows s.table.schema insert rows → ((t : TableState) → Shows s t → Leads u (InsertsRows t r rows line)) → InsertsBy s r line u
+pub inserts-in : (s u : Cluster) (r : ℕ) (insert : Insert) (rows : List Row) (line : Line) → ups s r ≡ true → HasRows s.table.schema insert rows → ((t : TableState) → Shows s t → Leads u (InsertsRows (ups s) t (asked_at r (need_of insert.quorum)) rows line)) → InsertsBy s (asked_at r (need_of insert.quorum)) line u
     → ExecutesIn s r (acts.Insert insert) line u
 inserts-in s u r insert rows line up k f m = λ t h.
     let led = f t h in
@@ -154,15 +153,16 @@ inserts-in s u r insert rows line up k f m = λ t h.
     record {
       state = led.state;
       holds = subst (λ (o : Option Refusal). MatchOption o (DoesAct (ups s) s t r (acts.Insert insert) line u led.state) (Declines s t line u led.state))
-          (sym (ap refused_names here.known)) (inl (up, record { rows = rows; read = here.read; inserts = led.holds }), m);
+          (sym here.known) (inl (up, record { rows = rows; read = here.read; inserts = led.holds }), m);
       shows = led.shows;
     }
 
 -- the same of a call
-pub inserts-all-in : {E : Type 0} (result : Result Line E) (s u : Cluster) (r : ℕ) (insert : Insert) (rows : List Row) → ups s r ≡ true → HasRows s.table.schema insert rows
-    → IfOk result (λ line. (t : TableState) → Shows s t → Leads u (InsertsRows t r rows line)) → IfOk result (λ line. InsertsBy s r line u) → IfOk result (λ line. ExecutesIn s r (acts.Insert insert) line u)
-inserts-all-in (Ok line) s u r insert rows up k f m = inserts-in s u r insert rows line up k f m
-inserts-all-in (Err e) s u r insert rows up k f m = tt
+pub inserts-all-in : {E : Type 0} (result : Result Line E) (s u : Cluster) (r need : ℕ) (insert : Insert) (rows : List Row) → need ≡ need_of insert.quorum → ups s r ≡ true → HasRows s.table.schema insert rows
+    → IfOk result (λ line. (t : TableState) → Shows s t → Leads u (InsertsRows (ups s) t (asked_at r need) rows line)) → IfOk result (λ line. InsertsBy s (asked_at r need) line u) → IfOk result (λ line. ExecutesIn s r (acts.Insert insert) line u)
+inserts-all-in (Ok line) s u r need insert rows e up k f m =
+    inserts-in s u r insert rows line up k (λ t h. subst (λ n. Leads u (InsertsRows (ups s) t (asked_at r n) rows line)) e (f t h)) (subst (λ n. InsertsBy s (asked_at r n) line u) e m)
+inserts-all-in (Err x) s u r need insert rows e up k f m = tt
 
 -- the rows of each block fit
 pub split-fits : (shape : Shape) (rows : List Row) (blocks : List BlockView) → IsSplit shape rows blocks → All (λ row. fits shape.columns row ≡ true) rows → All (λ b. All (λ row. fits shape.columns row ≡ true) b.rows) blocks
@@ -172,8 +172,8 @@ split-fits shape rows blocks s f = All-weaker _ _ (λ b k. of b k) blocks s.each
     of b k = subst (λ (x : BlockView). All (λ row. fits shape.columns row ≡ true) x.rows) (sym k.whole) (All-filter (is_in shape.partition b.partition) (λ row. fits shape.columns row ≡ true) rows f)
 
 -- blocks of rows that are inserted
-pub inserts-split : (s u : Cluster) (r : ℕ) (rows : List Row) (blocks : List BlockView) (all : List Piece) (refused : Option Refusal) → IsSplit s.table.schema rows blocks
-    → ((t : TableState) → Shows s t → Leads u (InsertsAll t r (map without_kinds blocks) all refused)) → (t : TableState) → Shows s t → Leads u (InsertsRows t r rows (lines.Inserted all refused))
+pub inserts-split : (s u : Cluster) (r : Asked) (rows : List Row) (blocks : List BlockView) (all : List Piece) (refused : Option Refusal) → IsSplit s.table.schema rows blocks
+    → ((t : TableState) → Shows s t → Leads u (InsertsAll (ups s) t r (map without_kinds blocks) all refused)) → (t : TableState) → Shows s t → Leads u (InsertsRows (ups s) t r rows (lines.Inserted all refused))
 inserts-split s u r rows blocks all refused p f t h =
     let led = f t h in
     record {
@@ -186,8 +186,8 @@ inserts-split s u r rows blocks all refused p f t h =
 pub rows-refused : (s : Cluster) (r : ℕ) (insert : Insert) (line : Line) (why : Refusal) → RefusesRows s.table.schema insert why → line ≡ lines.Refused why → ExecutesIn s r (acts.Insert insert) line s
 rows-refused s r insert line why k e = λ t h. record { state = t; holds = go t (subst (λ (c : Shape). RefusesRows c insert why) (sym h.schema) k); shows = h }
   where
-    go : (t : TableState) → RefusesRows t.schema insert why → MatchOption (refused_names (names_refusal t.schema.columns insert.columns)) (DoesAct (ups s) s t r (acts.Insert insert) line s t) (Declines s t line s t)
+    go : (t : TableState) → RefusesRows t.schema insert why → MatchOption (insert_refusal t.schema insert) (DoesAct (ups s) s t r (acts.Insert insert) line s t) (Declines s t line s t)
     go t (inl q) = subst (λ (o : Option Refusal). MatchOption o (DoesAct (ups s) s t r (acts.Insert insert) line s t) (Declines s t line s t)) (sym q) (e, refl, refl)
     go t (inr b) =
-        subst (λ (o : Option Refusal). MatchOption o (DoesAct (ups s) s t r (acts.Insert insert) line s t) (Declines s t line s t)) (sym (ap refused_names b.known))
-        (inr (inl (record { row = b.row; refused = b.refused; reply = e ∙ ap (λ (w : Refusal). lines.Refused w) b.is; unchanged = refl })), subst (λ (l : Line). InsertsBy s r l s) (sym e) refl)
+        subst (λ (o : Option Refusal). MatchOption o (DoesAct (ups s) s t r (acts.Insert insert) line s t) (Declines s t line s t)) (sym b.known)
+        (inr (inl (record { row = b.row; refused = b.refused; reply = e ∙ ap (λ (w : Refusal). lines.Refused w) b.is; unchanged = refl })), subst (λ (l : Line). InsertsBy s (asked_at r (need_of insert.quorum)) l s) (sym e) refl)

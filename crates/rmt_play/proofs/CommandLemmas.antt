@@ -46,7 +46,7 @@ use Rattle.rmt_acts.specs.Checking.{AreDigests}
 use Rattle.rmt_acts.specs.Syncing.{SyncsReplica}
 
 -- an act that isn't refused
-acts-in : (s u : Cluster) (r : ℕ) (act : Act) (t v : TableState) (line : Line) → refusal_there t act ≡ None → Shows u v → Acts (ups s) t r act line v → ActEvents s r act line u → Leads u (ExecutesAct (ups s) s t r act line u)
+pub acts-in : (s u : Cluster) (r : ℕ) (act : Act) (t v : TableState) (line : Line) → refusal_there t act ≡ None → Shows u v → Acts (ups s) t r act line v → ActEvents s r act line u → Leads u (ExecutesAct (ups s) s t r act line u)
 acts-in s u r act t v line q k a m =
     record { state = v; holds = subst (λ (o : Option Refusal). MatchOption o (DoesAct (ups s) s t r act line u v) (Declines s t line u v)) (sym q) (a, m); shows = k }
 

@@ -6,5 +6,6 @@ pub mod TurnLemmas
 pub mod CreateLemmas
 pub mod ActLemmas
 pub mod CommandLemmas
+pub mod SequentialLemmas
 pub mod RefusedActs
 pub mod ScriptLemmas

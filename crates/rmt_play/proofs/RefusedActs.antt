@@ -14,7 +14,7 @@ use Rattle.rmt_reply.specs.declared.line.Line.TheVariants as lines
 use Rattle.rmt_reply.specs.declared.refusal.Refusal.{Refusal}
 use Rattle.rmt_reply.specs.declared.refusal.Refusal.TheVariants.{ReplicaDown, FetchesStopped}
 use Rattle.rmt_play.specs.Checks.{first_of}
-use Rattle.rmt_play.specs.ActRefusals.{refused_down, refused_names, refused_stopped, act_refusal, act_refusals, down_refusal, id_refusal, stopped_refusal, syncs_first}
+use Rattle.rmt_play.specs.ActRefusals.{refused_down, refused_stopped, act_refusal, act_refusals, down_refusal, id_refusal, stopped_refusal, syncs_first}
 use Rattle.rmt_play.specs.PlayerSteps.{DoesAct, Declines, ExecutesAt, ExecutesThere, IsOwnRefusal, MayFetchFor, held_refusal}
 
 -- ---- what holds a replica
@@ -96,12 +96,12 @@ down-held up r held q = go (up r) refl q
 -- an INSERT is refused for its columns, a bad row, or the replica
 insert-declines : (up : ℕ → Bool) (s : Cluster) (t : TableState) (r : ℕ) (insert : Insert) (held : Refusal) (why : Option Refusal) → (up r ≡ false) × (held ≡ ReplicaDown r) → IsOwnRefusal t.schema (acts.Insert insert) why → ExecutesAt up s t r (acts.Insert insert) (lines.Refused (or_held held why)) s t
 insert-declines up s t r insert held None d k =
-    subst (λ (o : Option Refusal). MatchOption (first_of (o ∷ None ∷ None ∷ None ∷ [])) (DoesAct up s t r (acts.Insert insert) (lines.Refused held) s t) (Declines s t (lines.Refused held) s t)) (sym (ap refused_names k.1.known))
+    subst (λ (o : Option Refusal). MatchOption (first_of (o ∷ None ∷ None ∷ None ∷ [])) (DoesAct up s t r (acts.Insert insert) (lines.Refused held) s t) (Declines s t (lines.Refused held) s t)) (sym k.1.known)
     (inr (inr (record { down = d.0; rows = k.0; read = k.1.read; reply = ap (λ (w : Refusal). lines.Refused w) d.1; unchanged = refl })), refl)
 insert-declines up s t r insert held (Some why) d (inl q) =
     subst (λ (o : Option Refusal). MatchOption (first_of (o ∷ None ∷ None ∷ None ∷ [])) (DoesAct up s t r (acts.Insert insert) (lines.Refused why) s t) (Declines s t (lines.Refused why) s t)) (sym q) (refl, refl, refl)
 insert-declines up s t r insert held (Some why) d (inr b) =
-    subst (λ (o : Option Refusal). MatchOption (first_of (o ∷ None ∷ None ∷ None ∷ [])) (DoesAct up s t r (acts.Insert insert) (lines.Refused why) s t) (Declines s t (lines.Refused why) s t)) (sym (ap refused_names b.known))
+    subst (λ (o : Option Refusal). MatchOption (first_of (o ∷ None ∷ None ∷ None ∷ [])) (DoesAct up s t r (acts.Insert insert) (lines.Refused why) s t) (Declines s t (lines.Refused why) s t)) (sym b.known)
     (inr (inl (record { row = b.row; refused = b.refused; reply = ap (λ (w : Refusal). lines.Refused w) b.is; unchanged = refl })), refl)
 
 each-declines : (up : ℕ → Bool) (s : Cluster) (t : TableState) (r : ℕ) (act : Act) (held : Refusal) (why : Option Refusal) → first_of (refused_down up (Some r) ∷ stopped_refusal t.fetching r act ∷ []) ≡ Some held → IsOwnRefusal t.schema act why → ExecutesAt up s t r act (lines.Refused (or_held held why)) s t

@@ -16,6 +16,8 @@ use Rattle.rmt_events.specs.declared.event.Event.TheVariants as ev
 use Rattle.rmt_reply.specs.declared.line.Line.{Line}
 use Rattle.rmt_reply.specs.declared.line.Line.TheVariants as lines
 use Rattle.rmt_reply.specs.declared.refusal.Refusal.{Refusal}
+use Rattle.rmt_statement_model.specs.Inserts.{Asked, asked_at}
+use Rattle.rmt_play.specs.InsertStatement.{need_of}
 use Rattle.rmt_acts.specs.StatementEvents.{Makes, SyncEvents, InsertEvents, DropEvents, OptimizeEvents, WaitEvents}
 
 -- the refusal that a reply tells, where it tells one
@@ -36,21 +38,22 @@ pub record DropsBy (s : Cluster) (r : ℕ) (word : PartitionWord) (u : Cluster) 
   pub makes : DropEvents s r partition u
 
 -- an INSERT, whose pieces and refusal the reply has
-abbrev pub InsertsBy : Cluster → ℕ → Line → Cluster → Type 0
-InsertsBy s r (lines.Inserted pieces refused) u = InsertEvents s r pieces refused u
-InsertsBy s r (lines.Refused refusal) u = u ≡ s
-InsertsBy s r line u = ⊥
+abbrev pub InsertsBy : Cluster → Asked → Line → Cluster → Type 0
+InsertsBy s a (lines.Inserted pieces refused) u = InsertEvents s a pieces refused u
+InsertsBy s a (lines.Refused refusal) u = u ≡ s
+InsertsBy s a line u = ⊥
 
 -- an OPTIMIZE, whose names and refusal the reply has
 abbrev pub OptimizesBy : Cluster → ℕ → Line → Cluster → Type 0
 OptimizesBy s r (lines.Optimized names refused) u = OptimizeEvents s r names refused u
 OptimizesBy s r line u = ⊥
 
--- the events of an act at a replica that has this reply; the other acts aren't played
+-- the events of an act at a replica that has this reply
 abbrev pub ActEvents : Cluster → ℕ → Act → Line → Cluster → Type 0
-ActEvents s r (acts.Insert insert) line u = InsertsBy s r line u
+ActEvents s r (acts.Insert insert) line u = InsertsBy s (asked_at r (need_of insert.quorum)) line u
 ActEvents s r (acts.Select table query modes.Sync) line u = SyncEvents s r (refusal_told line) u
 ActEvents s r (acts.Select table query modes.Plain) line u = u ≡ s
+ActEvents s r (acts.Select table query (modes.Sequential n)) line u = u ≡ s
 ActEvents s r (acts.Explain table query) line u = u ≡ s
 ActEvents s r (acts.Mutate table command) line u = AlterEvents s command u
 ActEvents s r (acts.DropPartition table word) line u = DropsBy s r word u
@@ -62,4 +65,3 @@ ActEvents s r (acts.SyncReplica table) line u = SyncEvents s r (refusal_told lin
 ActEvents s r (acts.RestartReplica table) line u = Makes s (ev.Kill r ∷ ev.Restart r ∷ []) u
 ActEvents s r (acts.StopFetches table) line u = Makes s (ev.Fetches r false ∷ []) u
 ActEvents s r (acts.StartFetches table) line u = Makes s (ev.Fetches r true ∷ []) u
-ActEvents s r act line u = ⊥

@@ -1,6 +1,6 @@
 -- Why an act is refused in its table.
 -- ClickHouse documentation: INSERT INTO, SELECT, ALTER, OPTIMIZE. The refusals are this program's own.
-use Rattle.std.specs.Prelude.{ℕ, Bool, true, false, cond, nat_lt, List, [], ◌∷◌, codes}
+use Rattle.std.specs.Prelude.{ℕ, Bool, true, false, ◌^◌, cond, nat_le, nat_lt, List, [], ◌∷◌, codes}
 use Rattle.std.specs.declared.option.Option.{Option}
 use Rattle.std.specs.declared.option.Option.TheVariants.{Some, None}
 use Rattle.rmt_values.specs.declared.partition_rule.PartitionRule.{PartitionRule}
@@ -28,6 +28,20 @@ abbrev pub refused_names : Option RowsError → Option Refusal
 refused_names (Some (errors.UnknownColumn name)) = Some (UnknownColumn name)
 refused_names (Some (errors.DoubleColumn name)) = Some (DoubleColumn name)
 refused_names refusal = None
+
+-- one refusal, or else another one
+abbrev pub or_else : Option Refusal → Option Refusal → Option Refusal
+or_else None other = other
+or_else (Some refusal) other = Some refusal
+
+-- the refusal of the number of replicas that an INSERT asks for: it has more than 32 bits
+abbrev pub refused_quorum : Option ℕ → Option Refusal
+refused_quorum None = None
+refused_quorum (Some n) = cond (nat_lt n (2 ^ 32)) None (Some (WrongType (codes "insert_quorum")))
+
+-- the refusal of a SELECT's setting: it is neither 0 nor 1
+abbrev pub refused_setting : ℕ → Option Refusal
+refused_setting n = cond (nat_le n 1) None (Some (WrongType (codes "select_sequential_consistency")))
 
 -- the refusal of a query
 abbrev pub refused_query : Option CheckError → Option Refusal
@@ -77,8 +91,10 @@ refused_stopped fetching r = cond (fetching r) None (Some (FetchesStopped r))
 
 -- why an act is refused in a table, whatever replica it is sent to
 abbrev pub act_refusal : TableState → Act → Option Refusal
-act_refusal t (acts.Insert insert) = refused_names (names_refusal t.schema.columns insert.columns)
-act_refusal t (acts.Select table query mode) = refused_query (query_refusal t.schema query)
+act_refusal t (acts.Insert insert) = or_else (refused_names (names_refusal t.schema.columns insert.columns)) (refused_quorum insert.quorum)
+act_refusal t (acts.Select table query modes.Plain) = refused_query (query_refusal t.schema query)
+act_refusal t (acts.Select table query modes.Sync) = refused_query (query_refusal t.schema query)
+act_refusal t (acts.Select table query (modes.Sequential n)) = or_else (refused_query (query_refusal t.schema query)) (refused_setting n)
 act_refusal t (acts.Explain table query) = refused_query (query_refusal t.schema query)
 act_refusal t (acts.Mutate table command) = refused_command (mutation_refusal t.schema command)
 act_refusal t (acts.DropPartition table word) = refused_partition (partition_named t.schema.partition word)

@@ -13,8 +13,6 @@ use Rattle.rmt_values.specs.Rows.{Shape}
 use Rattle.rmt_values.specs.Schemas.{schema_refusal, shape_of}
 use Rattle.rmt_statements.specs.declared.act.Act.{Act}
 use Rattle.rmt_statements.specs.declared.act.Act.TheVariants as acts
-use Rattle.rmt_statements.specs.declared.mode.Mode.{Mode}
-use Rattle.rmt_statements.specs.declared.mode.Mode.TheVariants as modes
 use Rattle.rmt_statements.specs.declared.sent.Sent.{Sent}
 use Rattle.rmt_statements.specs.declared.statement.Statement.{Statement}
 use Rattle.rmt_statements.specs.declared.statement.Statement.TheVariants as statements
@@ -32,33 +30,6 @@ first_of (Some refusal ∷ rest) = Some refusal
 
 -- ---- forms that nothing plays so far
 
--- there is nothing
-abbrev pub is_absent : {X : Type 0} → Option X → Bool
-is_absent None = true
-is_absent (Some x) = false
-
--- a SELECT without settings
-abbrev pub is_played_mode : Mode → Bool
-is_played_mode modes.Plain = true
-is_played_mode modes.Sync = true
-is_played_mode (modes.Sequential n) = false
-
--- an INSERT or a SELECT without settings, and all else
-abbrev pub is_played_act : Act → Bool
-is_played_act (acts.Insert insert) = is_absent insert.quorum
-is_played_act (acts.Select table query mode) = is_played_mode mode
-is_played_act (acts.Explain table query) = true
-is_played_act (acts.Mutate table command) = true
-is_played_act (acts.DropPartition table partition) = true
-is_played_act (acts.Optimize table partition) = true
-is_played_act (acts.ShowParts table) = true
-is_played_act (acts.CheckTable table) = true
-is_played_act (acts.WaitMutation table id) = true
-is_played_act (acts.SyncReplica table) = true
-is_played_act (acts.RestartReplica table) = true
-is_played_act (acts.StopFetches table) = true
-is_played_act (acts.StartFetches table) = true
-
 -- REPLICAS with 1 to 8 replicas and before all tables, CREATE, KILL, RESTART, RUN, and what is sent to a replica; so many tables
 -- there are
 abbrev pub is_played : ℕ → Statement → Bool
@@ -67,7 +38,7 @@ is_played tables (statements.Create table columns partition key granularity wind
 is_played tables (statements.Kill replica) = true
 is_played tables (statements.Restart replica) = true
 is_played tables (statements.Run table turns seed) = true
-is_played tables (statements.At sent) = is_played_act sent.act
+is_played tables (statements.At sent) = true
 is_played tables statement = false
 
 -- a form that nothing plays, at its first token

@@ -28,7 +28,7 @@ use Rattle.rmt_reply.specs.declared.refusal.Refusal.{Refusal}
 use Rattle.rmt_reply.specs.declared.refusal.Refusal.TheVariants.{BadRow}
 use Rattle.rmt_play.specs.World.{Table, World}
 use Rattle.rmt_play.specs.Checks.{first_of, create_refusals, sent_refusals, kill_refusals, restart_refusals, run_refusals, refusals}
-use Rattle.rmt_play.specs.ActRefusals.{refused_down, refused_names, refused_query, act_refusal, act_refusals, id_refusal, stopped_refusal, syncs_first}
+use Rattle.rmt_play.specs.ActRefusals.{or_else, refused_down, refused_names, refused_quorum, refused_query, act_refusal, act_refusals, id_refusal, stopped_refusal, syncs_first}
 use Rattle.rmt_cluster.specs.NewClusters.{IsNewCluster}
 use Rattle.rmt_cluster.specs.Runs.{RunsAll}
 use Rattle.rmt_acts.specs.StatementEvents.{Makes}
@@ -145,15 +145,19 @@ ExecutesCreate table refusal schema line old new =
 
 -- ---- INSERT
 
+-- the refusal of the columns that the INSERT names, or of its setting
+abbrev pub insert_refusal : Shape → Insert → Option Refusal
+insert_refusal schema insert = or_else (refused_names (names_refusal schema.columns insert.columns)) (refused_quorum insert.quorum)
+
 -- the rows of the INSERT
 pub record HasRows (schema : Shape) (insert : Insert) (rows : List Row) : Type 0 where
-  pub known : names_refusal schema.columns insert.columns ≡ None
+  pub known : insert_refusal schema insert ≡ None
   pub read : AreInsertedRows schema.columns (all_names schema.columns insert.columns) insert.rows rows
   pub fit : All (λ row. fits schema.columns row ≡ true) rows
 
 -- the first bad row of the INSERT
 pub record HasBadRow (schema : Shape) (insert : Insert) (refusal : Refusal) : Type 0 where
-  pub known : names_refusal schema.columns insert.columns ≡ None
+  pub known : insert_refusal schema insert ≡ None
   pub row : ℕ
   pub is : refusal ≡ BadRow row
   pub refused : IsBadInsertRow schema.columns (all_names schema.columns insert.columns) insert.rows (errors.BadRow row)
@@ -161,7 +165,7 @@ pub record HasBadRow (schema : Shape) (insert : Insert) (refusal : Refusal) : Ty
 -- why the rows of the INSERT are refused
 abbrev pub RefusesRows : Shape → Insert → Refusal → Type 0
 RefusesRows schema insert refusal =
-    (refused_names (names_refusal schema.columns insert.columns) ≡ Some refusal) ⊎ HasBadRow schema insert refusal
+    (insert_refusal schema insert ≡ Some refusal) ⊎ HasBadRow schema insert refusal
 
 -- ---- what is sent to a replica
 

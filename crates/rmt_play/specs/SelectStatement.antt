@@ -1,6 +1,7 @@
--- SELECT, with and without SYNC.
--- ClickHouse documentation: SELECT; Data Replication, on what a replica has.
-use Rattle.std.specs.Prelude.{◌≡◌, ◌⊎◌, ℕ, Bool, List, map}
+-- SELECT, with and without SYNC, and a sequential one.
+-- ClickHouse documentation: SELECT; Data Replication, on what a replica has; settings, `select_sequential_consistency`.
+use Rattle.std.specs.Prelude.{◌≡◌, ◌⊎◌, ℕ, zero, suc, Bool, true, List, map}
+use Rattle.std.specs.declared.option.Option.TheVariants.{Some}
 use Rattle.rmt_values.specs.declared.query.Query.{Query}
 use Rattle.rmt_values.specs.declared.checked_query.CheckedQuery.{CheckedQuery}
 use Rattle.rmt_expr.specs.Queries.{IsCheckedQuery}
@@ -8,7 +9,9 @@ use Rattle.rmt_names.specs.Names.{Name}
 use Rattle.rmt_model.specs.Fair.{AreFair}
 use Rattle.rmt_partset.specs.Snapshots.{all_rows}
 use Rattle.rmt_query.specs.Answers.{answer_of}
-use Rattle.rmt_statement_model.specs.TableStates.{TableState, data_at, plain_rows, synced, shown_at}
+use Rattle.rmt_statement_model.specs.TableStates.{TableState, covered_by, data_at, plain_rows, synced, shown_at}
+use Rattle.rmt_statement_model.specs.Reads.{LacksLast, waiting_part, without_part}
+use Rattle.rmt_reply.specs.declared.refusal.Refusal.{Refusal}
 use Rattle.rmt_play.specs.LostParts.{LacksSome}
 use Rattle.rmt_reply.specs.declared.line.Line.{Line}
 use Rattle.rmt_reply.specs.declared.line.Line.TheVariants as lines
@@ -34,3 +37,29 @@ pub record Reads (t : TableState) (r : ℕ) (query : Query) (line : Line) (u : T
   pub fair : AreFair t.log (t.known r) names
   pub reply : line ≡ lines.Read names (answer_of t.schema checked (all_rows (map (data_at t) names)))
   pub change : u ≡ shown_at r names t
+
+-- a sequential SELECT: the answer is the query over what parts hold none of which waits for its quorum, and one of which covers the
+-- last part whose quorum was met; their names are among those that are fair for the places known at the replica, and what they hold
+-- is known there then
+pub record ReadsInQuorum (t : TableState) (r : ℕ) (query : Query) (line : Line) (u : TableState) : Type 0 where
+  pub checked : CheckedQuery
+  pub is : IsCheckedQuery t.schema query checked
+  pub names : List Name
+  pub active : List Name
+  pub fair : AreFair t.log (t.known r) active
+  pub read : names ≡ without_part (waiting_part t.quorum) active
+  pub last : (part : Name) → t.quorum.last ≡ Some part → covered_by names (Some part) ≡ true
+  pub reply : line ≡ lines.Read names (answer_of t.schema checked (all_rows (map (data_at t) names)))
+  pub change : u ≡ shown_at r names t
+
+-- none of them covers the last part, and nothing changes
+pub record MeetsNoQuorum (t : TableState) (r : ℕ) (line : Line) (u : TableState) : Type 0 where
+  pub refusal : Refusal
+  pub lacks : LacksLast t r refusal
+  pub reply : line ≡ lines.Refused refusal
+  pub unchanged : u ≡ t
+
+-- a SELECT with the number of that setting: 0 asks for nothing
+abbrev pub ReadsWith : ℕ → TableState → ℕ → Query → Line → TableState → Type 0
+ReadsWith zero t r query line u = Reads t r query line u
+ReadsWith (suc n) t r query line u = ReadsInQuorum t r query line u ⊎ MeetsNoQuorum t r line u

@@ -3,7 +3,6 @@ ghost use Rattle.std.specs.Prelude.{◌≡◌, true, length, IfOk};
 ghost use Rattle.rmt_sql_acts.specs.Acts.{HasSmallCommand};
 ghost use Rattle.rmt_state.specs.States.{IsNumber};
 ghost use Rattle.rmt_statement_model.specs.Shows.{HoldsNone, IsIdle, KeepsUps, ups};
-ghost use Rattle.rmt_play.specs.Checks.{is_played_act};
 ghost use Rattle.rmt_play.specs.PlayerSteps.{ExecutesIn, ExecutesThere, MayFetchFor};
 
 use crate::insert::insert_in;
@@ -11,7 +10,7 @@ use crate::mutation::alter_in;
 use crate::partition::{drop_in, optimize_in};
 use crate::parts::{check_in, show_in};
 use crate::refusing::{held_refusal, refuse_in};
-use crate::select::{explain_in, read_in, sync_in};
+use crate::select::{explain_in, read_in, read_with, sync_in};
 use crate::system::{drain_in, restart_in, switch_in};
 use crate::wait::wait_in;
 use rmt_cluster::Cluster;
@@ -30,7 +29,6 @@ fn act_in(
     requires here { IsNumber replica (length cluster.old.replicas) }
     requires idle { IsIdle cluster.old replica }
     requires fetches { MayFetchFor cluster.old replica act.now }
-    requires played { is_played_act act.now ≡ true }
     requires small { HasSmallCommand act.now }
     ensures executes { IfOk result (λ line.
         ExecutesIn cluster.old replica act.now line cluster.new) }
@@ -42,7 +40,7 @@ fn act_in(
         Act::Select { query, mode, .. } => match mode {
             Mode::Sync => sync_in(alloc, cluster, replica, query),
             Mode::Plain => read_in(alloc, cluster, replica, query),
-            Mode::Sequential(_) => unreachable!(),
+            Mode::Sequential(setting) => read_with(alloc, cluster, replica, query, *setting),
         },
         Act::Explain { query, .. } => explain_in(alloc, cluster, replica, query),
         Act::Mutate { command, .. } => alter_in(alloc, cluster, command),
@@ -69,7 +67,6 @@ pub(crate) fn act_at(
     requires here { IsNumber replica (length cluster.old.replicas) }
     requires up { ups cluster.old replica ≡ is_up }
     requires free { HoldsNone cluster.old }
-    requires played { is_played_act act.now ≡ true }
     requires small { HasSmallCommand act.now }
     ensures executes { IfOk result (λ line.
         ExecutesThere cluster.old replica act.now line cluster.new) }

@@ -1,34 +1,10 @@
-//! The forms that are played.
+//! What an act names, and whether it brings its replica up to date.
 ghost use Rattle.std.specs.Prelude.{◌≡◌};
 ghost use Rattle.rmt_play.specs.ActRefusals.{syncs_first as sync_test};
-ghost use Rattle.rmt_play.specs.Checks.{is_played_act as act_test, table_named};
+ghost use Rattle.rmt_play.specs.Checks.{table_named};
 
 use rmt_statements::{Act, Mode};
 use rmt_values::Name;
-
-/// Whether an act is played: not an INSERT or a SELECT with a setting.
-pub(crate) fn is_played_act(act: &Act) -> bool
-    ensures { result ≡ act_test act.now }
-{
-    match act {
-        Act::Insert(insert) => insert.quorum.is_none(),
-        Act::Select { mode, .. } => match mode {
-            Mode::Plain | Mode::Sync => true,
-            Mode::Sequential(_) => false,
-        },
-        Act::Explain { .. }
-        | Act::Mutate { .. }
-        | Act::DropPartition { .. }
-        | Act::Optimize { .. }
-        | Act::ShowParts { .. }
-        | Act::CheckTable { .. }
-        | Act::WaitMutation { .. }
-        | Act::SyncReplica { .. }
-        | Act::RestartReplica { .. }
-        | Act::StopFetches { .. }
-        | Act::StartFetches { .. } => true,
-    }
-}
 
 /// Whether an act brings its replica up to date first.
 pub(crate) fn syncs_first(act: &Act) -> bool

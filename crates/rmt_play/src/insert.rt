@@ -1,15 +1,17 @@
 //! INSERT in its table.
-ghost use Rattle.std.specs.Prelude.{◌≡◌, ◌<◌, ◌^◌, true, length, IfOk, IfErr};
+ghost use Rattle.std.specs.Prelude.{◌≡◌, ◌≢◌, ◌<◌, ◌^◌, None, true, length, IfOk, IfErr};
 ghost use Rattle.std.specs.List.{All};
 ghost use Rattle.rmt_values.specs.Rows.{fits};
 ghost use Rattle.rmt_block.specs.Splits.{IsSplit};
 ghost use Rattle.rmt_state.specs.States.{IsNumber};
 ghost use Rattle.rmt_statement_model.specs.TableStates.{TableState};
-ghost use Rattle.rmt_statement_model.specs.Shows.{HoldsNone, IsIdle, Leads, Shows, KeepsUps};
+ghost use Rattle.rmt_statement_model.specs.Shows.{HoldsNone, IsIdle, Leads, Shows, KeepsUps, ups};
+ghost use Rattle.rmt_statement_model.specs.Inserts.{asked_at};
+ghost use Rattle.rmt_play.specs.ActRefusals.{refused_quorum};
 ghost use Rattle.rmt_columns.specs.RowsByColumn.{kinds_in};
 ghost use Rattle.rmt_statements.specs.declared.act.Act.TheVariants as acts;
 ghost use Rattle.rmt_play.specs.ActEvents.{InsertsBy};
-ghost use Rattle.rmt_play.specs.InsertStatement.{InsertsRows};
+ghost use Rattle.rmt_play.specs.InsertStatement.{InsertsRows, need_of};
 ghost use Rattle.rmt_play.specs.PlayerSteps.{HasRows, RefusesRows, ExecutesIn};
 
 use rmt_acts::{insert_blocks, schema_of};
@@ -19,8 +21,21 @@ use rmt_columns::Rows;
 use rmt_reply::{Line, Refusal};
 use rmt_sql_rows::{RowsError, rows_of};
 use rmt_statements::Insert;
-use rmt_values::{ReplicaId, Schema};
+use rmt_values::{Name, ReplicaId, Schema};
 use std::alloc::{AllocError, Global};
+
+/// The refusal of the number of replicas that an INSERT asks for, where it is out of range.
+fn quorum_refusal(alloc: Global, quorum: Option<u128>) -> Result<Option<Refusal>, AllocError>
+    ensures { IfOk result (λ why. why ≡ refused_quorum quorum) }
+{
+    match quorum {
+        Some(count) if count >= 1 << 32 => {
+            let name = Name::from_slice(alloc, b"insert_quorum")?;
+            Ok(Some(Refusal::WrongType(name)))
+        }
+        _ => Ok(None),
+    }
+}
 
 /// The rows of an INSERT, or why they are refused.
 pub(crate) fn rows_to_insert(
@@ -33,12 +48,26 @@ pub(crate) fn rows_to_insert(
     ensures kinds { IfOk result (λ found. IfOk found (λ rows. rows.kinds ≡ kinds_in schema.now.columns)) }
     ensures refused { IfOk result (λ found. IfErr found (RefusesRows schema.now insert.now)) }
 {
-    match rows_of(alloc, insert, schema) {
-        Ok(rows) => Ok(Ok(rows)),
-        Err(RowsError::UnknownColumn(name)) => Ok(Err(Refusal::UnknownColumn(name))),
-        Err(RowsError::DoubleColumn(name)) => Ok(Err(Refusal::DoubleColumn(name))),
-        Err(RowsError::BadRow(row)) => Ok(Err(Refusal::BadRow(row))),
-        Err(RowsError::Memory) => Err(AllocError),
+    let setting = quorum_refusal(alloc, insert.quorum)?;
+    match (rows_of(alloc, insert, schema), setting) {
+        (Err(RowsError::UnknownColumn(name)), _) => Ok(Err(Refusal::UnknownColumn(name))),
+        (Err(RowsError::DoubleColumn(name)), _) => Ok(Err(Refusal::DoubleColumn(name))),
+        (Err(RowsError::Memory), _) => Err(AllocError),
+        (Ok(_) | Err(RowsError::BadRow(_)), Some(refusal)) => Ok(Err(refusal)),
+        (Ok(rows), None) => Ok(Ok(rows)),
+        (Err(RowsError::BadRow(row)), None) => Ok(Err(Refusal::BadRow(row))),
+    }
+}
+
+/// How many replicas an INSERT asks for whose number is in range; fewer than 2 ask for no quorum.
+fn asked(quorum: Option<u128>) -> u32
+    requires { refused_quorum quorum ≡ None }
+    ensures asked { result ≡ need_of quorum }
+    ensures some { result ≢ 1 }
+{
+    match quorum {
+        Some(count) if count >= 2 => count as u32,
+        _ => 0,
     }
 }
 
@@ -60,19 +89,22 @@ fn insert_rows(
     cluster: &mut Cluster,
     replica: ReplicaId,
     rows: Rows,
+    need: u32,
 ) -> Result<Line, AllocError>
     requires here { IsNumber replica (length cluster.old.replicas) }
     requires idle { IsIdle cluster.old replica }
+    requires need { need ≢ 1 }
     requires fit { All (λ row. fits cluster.old.table.schema.columns row ≡ true) rows.rows }
     requires kinds { rows.kinds ≡ kinds_in cluster.old.table.schema.columns }
     ensures inserts { IfOk result (λ line. (t : TableState) → Shows cluster.old t
-        → Leads cluster.new (InsertsRows t replica rows.rows line)) }
-    ensures events { IfOk result (λ line. InsertsBy cluster.old replica line cluster.new) }
+        → Leads cluster.new (InsertsRows (ups cluster.old) t (asked_at replica need) rows.rows line)) }
+    ensures events { IfOk result (λ line.
+        InsertsBy cluster.old (asked_at replica need) line cluster.new) }
     ensures free { IfOk result (λ _. HoldsNone cluster.new) }
     ensures keeps { KeepsUps cluster.old result cluster.new }
 {
     let blocks = blocks_of(alloc, rows, schema_of(cluster))?;
-    let insertion = insert_blocks(alloc, cluster, replica, blocks)?;
+    let insertion = insert_blocks(alloc, cluster, replica, blocks, need)?;
     let (pieces, refused) = (insertion.pieces, insertion.refused);
     Ok(Line::Inserted { pieces, refused })
 }
@@ -92,7 +124,7 @@ pub(crate) fn insert_in(
     ensures keeps { KeepsUps cluster.old result cluster.new }
 {
     match rows_to_insert(alloc, insert, schema_of(cluster))? {
-        Ok(rows) => insert_rows(alloc, cluster, replica, rows),
+        Ok(rows) => insert_rows(alloc, cluster, replica, rows, asked(insert.quorum)),
         Err(refusal) => Ok(Line::Refused(refusal)),
     }
 }

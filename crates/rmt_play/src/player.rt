@@ -8,7 +8,6 @@ ghost use Rattle.rmt_sql.specs.Script.{KeepsLimits};
 ghost use Rattle.rmt_play.specs.Checks.{
   first_of,
   is_played as statement_test,
-  is_played_act as act_test,
   refused_schema,
   refused_columns,
   too_many_tables,
@@ -40,7 +39,7 @@ ghost use Rattle.rmt_play.specs.PlayerSteps.{
 };
 
 use crate::act::act_at;
-use crate::forms::{is_played_act, table_of};
+use crate::forms::table_of;
 use crate::named_table::NamedTable;
 use crate::replicas::replica_named;
 use crate::schema::new_schema;
@@ -298,7 +297,6 @@ impl Player {
     ) -> Result<Line, AllocError>
         requires place { place < length self.old.tables }
         requires replica { IsNumber replica self.old.replicas }
-        requires played { act_test act.now ≡ true }
         requires small { HasSmallCommand act.now }
         ensures { IfOk result (λ line. ActsAt self.old place replica act.now line self.new) }
     {
@@ -362,7 +360,6 @@ impl Player {
 
     /// Plays what is sent to a replica.
     fn send(&mut self, alloc: Global, sent: &Sent) -> Result<Line, AllocError>
-        requires played { act_test sent.now.act ≡ true }
         requires small { HasSmallCommand sent.now.act }
         ensures { IfOk result (λ line. Moves self.old (ExecutesSent sent.now line) self.new) }
     {
@@ -390,8 +387,8 @@ impl Player {
             Statement::Create { .. }
             | Statement::Kill { .. }
             | Statement::Restart { .. }
-            | Statement::Run { .. } => true,
-            Statement::At(sent) => is_played_act(&sent.act),
+            | Statement::Run { .. }
+            | Statement::At(_) => true,
             _ => false,
         }
     }

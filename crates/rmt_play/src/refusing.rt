@@ -1,5 +1,6 @@
 //! Acts that are sent to a replica that is down, or that may not fetch what would bring it up to date.
-ghost use Rattle.std.specs.Prelude.{◌≡◌, length, IfOk};
+ghost use Rattle.std.specs.Prelude.{◌≡◌, ℕ, List as Bytes, length, IfOk};
+ghost use Rattle.rmt_statements.specs.declared.act.Act.TheVariants as acts;
 ghost use Rattle.std.specs.declared.option.Option.TheVariants.{Some};
 ghost use Rattle.rmt_state.specs.States.{IsNumber};
 ghost use Rattle.rmt_statement_model.specs.Shows.{ups};
@@ -10,12 +11,32 @@ use crate::insert::rows_to_insert;
 use crate::mutation::check as check_command;
 use crate::partition::{partition_asked, partition_in};
 use crate::query::check as check_query;
+use crate::select::setting_refusal;
 use rmt_acts::{may_fetch, schema_of};
 use rmt_cluster::Cluster;
 use rmt_reply::{Line, Refusal};
-use rmt_statements::Act;
-use rmt_values::{ReplicaId, Schema};
+use rmt_statements::{Act, Mode};
+use rmt_values::{Query, ReplicaId, Schema};
 use std::alloc::{AllocError, Global};
+
+/// The refusal of a SELECT in a table of this schema, whatever replica it is sent to, where there is one.
+fn select_refusal(
+    alloc: Global,
+    query: &Query,
+    mode: Mode,
+    schema: &Schema,
+) -> Result<Option<Refusal>, AllocError>
+    ensures { IfOk result (λ why. (table : Bytes ℕ)
+        → IsOwnRefusal schema.now (acts.Select table query.now mode) why) }
+{
+    if let Err(refusal) = check_query(alloc, query, schema)? {
+        return Ok(Some(refusal));
+    }
+    match mode {
+        Mode::Sequential(setting) => setting_refusal(alloc, setting),
+        Mode::Plain | Mode::Sync => Ok(None),
+    }
+}
 
 /// The refusal of an act in a table of this schema, whatever replica it is sent to, where there is one.
 fn own_refusal(alloc: Global, schema: &Schema, act: &Act) -> Result<Option<Refusal>, AllocError>
@@ -23,9 +44,8 @@ fn own_refusal(alloc: Global, schema: &Schema, act: &Act) -> Result<Option<Refus
 {
     match act {
         Act::Insert(insert) => Ok(rows_to_insert(alloc, insert, schema)?.err()),
-        Act::Select { query, .. } | Act::Explain { query, .. } => {
-            Ok(check_query(alloc, query, schema)?.err())
-        }
+        Act::Select { query, mode, .. } => select_refusal(alloc, query, *mode, schema),
+        Act::Explain { query, .. } => Ok(check_query(alloc, query, schema)?.err()),
         Act::Mutate { command, .. } => Ok(check_command(alloc, command, schema)?.err()),
         Act::DropPartition { partition, .. } => Ok(partition_in(alloc, partition, schema)?.err()),
         Act::Optimize { partition, .. } => Ok(partition_asked(alloc, partition, schema)?.err()),

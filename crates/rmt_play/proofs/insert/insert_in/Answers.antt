@@ -12,5 +12,5 @@ insert_rows-requires-clause-kinds c =
 
 pub returns-in-Ok-clause-executes : goal.returns-in-Ok-clause-executes
 returns-in-Ok-clause-executes c =
-    inserts-all-in c.insert_rows.result c.args.cluster.now c.insert_rows.new.cluster c.args.replica c.args.insert.now c.in-Ok.rows.rows c.requires.idle.up
+    inserts-all-in c.insert_rows.result c.args.cluster.now c.insert_rows.new.cluster c.args.replica c.asked.result c.args.insert.now c.in-Ok.rows.rows c.asked.ensures.asked c.requires.idle.up
     (found-rows c.in_ok-rows.field-0 (λ rows. rows.rows) c.in-Ok.rows c.schema_of.result.now c.args.cluster.now.table.schema c.args.insert.now c.schema_of.ensures c.in-Ok.is c.in_ok-rows.ensures.ok) c.insert_rows.ensures.inserts c.insert_rows.ensures.events

@@ -14,8 +14,8 @@ create-requires c =
     create-refusable c.in_ok-made-in-Create.made c.in-Create.columns c.in-Create.key (rule_given c.in-Create.partition) (granularity_of c.in-Create.granularity) (window_of c.in-Create.window) some
     c.in_ok-made-in-Create.ensures.refused
 
-pub send-requires-clause-small : goal.send-requires-clause-small
-send-requires-clause-small c = subst KeepsLimits c.in-At.is c.requires.limits
+pub send-requires : goal.send-requires
+send-requires c = record { small = subst KeepsLimits c.in-At.is c.requires.limits }
 
 pub returns-in-Kill : goal.returns-in-Kill
 returns-in-Kill c = subst (λ (s : Statement). IfOk c.kill.result (λ line. Moves c.args.self.now (ExecutesPlayed s line) c.kill.new.self)) (sym c.in-Kill.is) c.kill.ensures
