@@ -2,8 +2,7 @@
 """The language of scripts once more, written from its description and not from the program: reads a script from standard
 input, writes its replies and ends with the program's code. It is slow and shares nothing with the program, so that the
 two can be compared (reference/check). Where the description leaves a choice it is that of docs/DECISIONS.md. What
-happens to a table is in cluster.py. With the word --quorums it plays quorum inserts and sequential SELECTs too, which
-the program doesn't yet."""
+happens to a table is in cluster.py."""
 import hashlib
 import sys
 
@@ -897,13 +896,7 @@ class World:
         self.lines.append(b"ran %d" % turns)
 
 
-def is_played(statement, quorums):
-    """Whether a form is played at all; those of quorums may be left out."""
-    of_quorums = ("quorum_insert", "sequential_select")
-    return statement[0] != "unbuilt" and (quorums or statement[0] != "at" or statement[2][0] not in of_quorums)
-
-
-def played(script, quorums=False):
+def played(script):
     """What is written, and the code."""
     world, at, statements = World(), 0, FIRST_WHOLE
     while True:
@@ -922,7 +915,7 @@ def played(script, quorums=False):
                 at = len(script) if end < 0 else end + 1
                 raise Refusal(1, "Syntax", text.furthest)
             at, (statement, _) = max(ways, key=lambda way: way[0])
-            if not is_played(statement, quorums):
+            if statement[0] == "unbuilt":
                 raise Refusal(1, "Syntax", first.start)
             world.play(statement)
         except Refusal as refusal:
@@ -932,6 +925,6 @@ def played(script, quorums=False):
 
 
 if __name__ == "__main__":
-    output, code = played(sys.stdin.buffer.read(), "--quorums" in sys.argv[1:])
+    output, code = played(sys.stdin.buffer.read())
     sys.stdout.buffer.write(output)
     sys.exit(code)

@@ -1,9 +1,9 @@
 """Random scripts: mostly statements that are played, some that are refused, and some with a token too few, too many or
-out of place. Half of them are INSERTs for the most part, among them some that are sent again, SELECTs and EXPLAINs. The
-other half, the busy ones, change what was inserted, by commands, drops, merges and background work at all replicas.
-Sometimes a replica goes down, and mostly it comes up again a few statements later. In a third of the scripts replicas
-stop fetches, meet statements that want them, and mostly start them again. Where it is asked for, half of the scripts
-have quorum inserts and sequential SELECTs, and such replicas too."""
+out of place. A quarter of them are INSERTs for the most part, among them some that are sent again, SELECTs and
+EXPLAINs. The others, the busy ones, change what was inserted, by commands, drops, merges and background work at all
+replicas. Sometimes a replica goes down, and mostly it comes up again a few statements later. In more than half of the
+scripts there are quorum inserts and sequential SELECTs. In these, and in some of the others, replicas stop fetches,
+meet statements that want them, and mostly start them again."""
 import random
 
 COLUMNS = ["a", "b", "c", "d", "k", "day", "page"]
@@ -28,7 +28,7 @@ BUSY = {
 }  # fmt: skip
 # the same, where replicas stop fetches, and where there are quorums
 SWITCHES = {**BUSY, "switch": 8, "halted": 14, "system": 8}
-QUORUMS = {**BUSY, "switch": 8, "unmet": 15, "met": 12, "lacking": 6, "lost": 4, "system": 8}
+QUORUMS = {**BUSY, "switch": 14, "unmet": 20, "met": 12, "lacking": 6, "lost": 4, "system": 8}
 NO_QUORUMS = ["4294967295", "4294967296", str(2**64), str(2**128 - 1)]
 NO_CONSISTENCIES = ["2", "4294967295", "4294967296", str(2**128 - 1)]
 NOISE = (
@@ -43,7 +43,7 @@ class Raw(str):
 
 
 class Scripts:
-    def __init__(self, seed, quorums=False):
+    def __init__(self, seed):
         self.random = random.Random(seed)
         self.tables, self.replicas, self.down = {}, 2, set()
         self.keys, self.rules = {}, {}  # of each table the columns that no UPDATE sets, and its rule's divisor or None
@@ -51,8 +51,8 @@ class Scripts:
         self.is_busy, self.next = False, []  # and how the statements are made that come next in a busy script
         self.inserts, self.share = {}, 0.45  # the INSERTs of each table so far, and how many of the statements are one
         self.is_wild = False  # whether a statement may have values that are none of their column
-        self.may_have_quorums, self.has_quorums = quorums, False
-        self.has_switches, self.stopped = False, {}  # of each table the replicas that have fetches stopped
+        self.has_quorums, self.has_switches = False, False
+        self.stopped = {}  # of each table the replicas that have fetches stopped
 
     def chance(self, share):
         return self.random.random() < share
@@ -613,8 +613,8 @@ class Scripts:
         if self.chance(0.01):
             return f"REPLICAS {self.random.randint(1, 9)}{self.one(SPACES)}".encode()
         self.is_busy = self.chance(0.5)
-        self.has_quorums = self.may_have_quorums and self.chance(0.5)
-        self.is_busy = self.is_busy or self.has_quorums and self.chance(0.6)
+        self.has_quorums = self.chance(0.6)
+        self.is_busy = self.is_busy or self.has_quorums and self.chance(0.85)
         self.has_switches = self.has_quorums or self.chance(0.5 if self.is_busy else 0.25)
         if self.chance(0.8 if self.is_busy else 0.4):
             self.replicas = self.random.randint(2 if self.has_switches else 1, 4 if self.is_busy else 8)

@@ -178,6 +178,26 @@ def values_and_numbers():
     return case("8,388,608 values and 65,536 numbers", script, output)
 
 
+# ---- quorums at a limit
+
+
+def quorums():
+    """How many replicas are up, a pending part, and that a block is known come before a limit, where a table has all
+    its partitions. A block that the limit refuses is pending nowhere."""
+    quorum = "INSERT INTO t SETTINGS insert_quorum ="
+    script = [table("PARTITION BY k", "k UInt64"), "INSERT INTO t VALUES ", *(f"({k})" for k in range(1024)), ";\n"]
+    script += [f"{quorum} 3 VALUES (1024); {quorum} 2 VALUES (1024),(1023); @r2 SYSTEM STOP FETCHES t;\n"]
+    script += [f"{quorum} 2 VALUES (5),(1024); {quorum} 2 VALUES (1024); INSERT INTO t VALUES (1024);\n"]
+    script += ["@r2 SYSTEM START FETCHES t; @r2 SYSTEM SYNC REPLICA t;\n"]
+    script += [f"{quorum} 2 VALUES (1024); {quorum} 2 VALUES (6); SELECT count() FROM t SYNC;\n"]
+    full = "refused 18 LimitReached partitions 1024\n"
+    output = ["ok\n", *(f"part {k}_0_0_0\n" for k in range(1024))]
+    output += ["refused 12 TooFewLive 2 3\nduplicate 1023_0_0_0\n", full, "ok\n"]
+    output += ["refused 15 QuorumUnmet 1 2\nrefused 13 QuorumPending 5_1_1_0\n", full, "ok\nok\n"]
+    output += [full, "part 6_1_1_0\nrows 1\n1026\n"]
+    yield case("quorums in 1,024 partitions", script, output)
+
+
 # ---- what a small script may cost
 
 
@@ -310,4 +330,6 @@ def digest(rows):
     return hashlib.sha256(body + hashlib.sha256(body).digest()).hexdigest()
 
 
-SUBJECTS = {"calls": calls, "costs": costs, "grammar": grammar, "limits": limits, "merges": merges}
+SUBJECTS = {
+    "calls": calls, "costs": costs, "grammar": grammar, "limits": limits, "merges": merges, "quorum": quorums,
+}  # fmt: skip

@@ -1,8 +1,9 @@
 CREATE TABLE t (c UInt64) ENGINE = ReplicatedMergeTree ORDER BY c;
-INSERT INTO t SETTINGS insert_quorum = 2 VALUES (1);
 LANES;
 LANE;
 INSERT INTO t VALUES (1);
+LANE;
+@r2 SELECT c FROM t SYNC;
 END;
-SELECT c FROM t SETTINGS select_sequential_consistency = 1
--- Forms that nothing plays so far are refused at their first token.
+SELECT c FROM t SYNC
+-- LANES is read up to END, and refused at its first token: nothing of it is played.
