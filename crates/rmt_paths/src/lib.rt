@@ -12,3 +12,4 @@ pub use digits::ten_digits;
 pub use path::Path;
 pub use path_error::PathError;
 pub use place::Place;
+pub use segment::Segment;

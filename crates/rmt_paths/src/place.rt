@@ -90,7 +90,7 @@ impl Place {
     }
 
     /// The place with one more name.
-    pub(crate) fn child(&self, alloc: Global, name: Segment) -> Result<Place, AllocError>
+    pub fn child(&self, alloc: Global, name: Segment) -> Result<Place, AllocError>
         ensures { IfOk result (λ below. below ≡ child self.now name) }
     {
         let mut names = copies(alloc, &self.names)?;
@@ -106,6 +106,13 @@ impl Place {
             (Some((_, above)), Some((_, others))) => above.cmp(others).is_eq(),
             _ => false,
         }
+    }
+
+    /// The names, from the root on.
+    pub fn names(&self) -> &[Segment]
+        ensures { result.now ≡ self.now }
+    {
+        &self.names
     }
 
     /// The last name; nothing at the root.

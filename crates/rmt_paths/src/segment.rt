@@ -10,7 +10,7 @@ use std::marker::Model;
 
 /// One name of a path. Contracts see its bytes.
 #[derive(Debug, Drop)]
-pub(crate) struct Segment {
+pub struct Segment {
     bytes: Vec<u8>,
 }
 
@@ -31,14 +31,14 @@ impl Segment {
     }
 
     /// The bytes.
-    pub(crate) fn as_bytes(&self) -> &[u8]
+    pub fn as_bytes(&self) -> &[u8]
         ensures { result.now ≡ self.now }
     {
         &self.bytes
     }
 
     /// Returns a copy.
-    pub(crate) fn copy(&self) -> Result<Segment, AllocError>
+    pub fn copy(&self) -> Result<Segment, AllocError>
         ensures { IfOk result (λ other. other ≡ self.now) }
     {
         let bytes = self.bytes.clone()?;

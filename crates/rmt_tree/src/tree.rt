@@ -9,7 +9,6 @@ ghost use Rattle.rmt_tree.specs.declared.op.Op.TheVariants as op;
 ghost use Rattle.rmt_tree.specs.Ops.{refusal, after, answer, first_refusal, after_all, answers, IsRefusal, IsCauseOf};
 
 use crate::done::Done;
-use crate::draft::{Slots, names_between, present};
 use crate::multi::{draft_all, draft_one};
 use crate::multi_error::MultiError;
 use crate::op::Op;
@@ -17,13 +16,12 @@ use crate::op_error::OpError;
 use crate::ops::{name_nodes, names_node};
 use crate::session::Session;
 use crate::sessions::{clear, open_at, open_first};
-use crate::siblings::first_sibling;
+use crate::slot_map::Slots;
 use crate::slots::{commit, prepare};
 use crate::tracked_session::TrackedSession;
 use rmt_paths::Path;
 use rmt_values::{Blob, Name};
 use std::alloc::{AllocError, Global};
-use std::collections::BTreeMap;
 use std::marker::Model;
 
 /// A coordination tree. Contracts see its nodes by their paths, and the numbers of the open sessions.
@@ -36,15 +34,16 @@ pub struct Tree {
 impl Model for Tree {
     ghost use Rattle.rmt_tree.specs.Trees.{TreeView, tree_code};
     ghost use Rattle.std.specs.Prelude.{[]};
+    ghost use Rattle.std.specs.FinMap as map;
     ghost use Rattle.rmt_tree.specs.Drafts.{tree_of, IsKept};
 
     ghost Value = { TreeView };
 
     ghost coded = { tree_code };
 
-    ghost view = { λ t. tree_of [] t.slots.entries t.tracker.items };
+    ghost view = { λ t. tree_of [] (map.entries t.slots) t.tracker.items };
 
-    ghost invariant = { λ t. IsKept t.slots.entries t.tracker.items };
+    ghost invariant = { λ t. IsKept (map.entries t.slots) t.tracker.items };
 }
 
 impl Tree {
@@ -53,7 +52,7 @@ impl Tree {
         ensures { result ≡ empty_tree }
     {
         Tree {
-            slots: BTreeMap::new(alloc),
+            slots: Slots::new(alloc),
             tracker: Vec::new(alloc),
         }
     }
@@ -197,13 +196,11 @@ impl Tree {
         ensures { IfOk result (λ names. option_map (λ ns. ns.items) names
             ≡ children_at self.now path.now) }
     {
-        if present(&self.slots, path.place()).is_none() {
+        if self.slots.node(path.place()).is_none() {
             return Ok(None);
         }
         let alloc = *self.tracker.allocator();
-        let low = path.place().children_start(alloc)?;
-        let high = path.place().children_end(alloc)?;
-        let names = names_between(alloc, &self.slots, low, high)?;
+        let names = self.slots.children(alloc, path.place())?;
         Ok(Some(names))
     }
 
@@ -211,7 +208,7 @@ impl Tree {
     pub fn first_child(&self, path: &Path) -> Option<&[u8]>
         ensures { option_copied result ≡ slice_get (children self.now path.now) 0 }
     {
-        first_sibling(&self.slots, path.children_start())
+        self.slots.first_sibling(path.children_start())
     }
 
     /// The least name from this path's name on, among the children of the path's parent. It takes no memory.
@@ -219,7 +216,7 @@ impl Tree {
         ensures { option_copied result
             ≡ first_from (last_name low.now) (children self.now (parent low.now)) }
     {
-        first_sibling(&self.slots, low.place())
+        self.slots.first_sibling(low.place())
     }
 
     /// What holds of every tree: each node is below one that isn't ephemeral, and the session that owns a node is open.
@@ -234,7 +231,7 @@ impl Tree {
         ensures { option_map lent_data result
             ≡ option_map value_and_version (node_at self.now path.now) }
     {
-        let node = present(&self.slots, path.place())?;
+        let node = self.slots.node(path.place())?;
         Some((node.value(), node.version()))
     }
 
@@ -242,7 +239,7 @@ impl Tree {
     pub fn counter(&self, path: &Path) -> Option<u64>
         ensures { result ≡ option_map (λ n. n.counter) (node_at self.now path.now) }
     {
-        let node = present(&self.slots, path.place())?;
+        let node = self.slots.node(path.place())?;
         Some(u64::from(node.counter()))
     }
 

@@ -476,3 +476,69 @@ pub(crate) const CHILDREN: &[Stage] = &[
         ],
     ),
 ];
+
+/// Children made in falling order stand in rising order, as do those that are left and a new one.
+pub(crate) const FALLING: &[Stage] = &[
+    (
+        &[(
+            Multi(&[
+                Persistent("/a", ""),
+                Persistent("/a/b9", ""),
+                Persistent("/a/b8", ""),
+                Persistent("/a/b7", ""),
+                Persistent("/a/b6", ""),
+                Persistent("/a/b5", ""),
+                Persistent("/a/b4", ""),
+                Persistent("/a/b3", ""),
+                Persistent("/a/b2", ""),
+                Persistent("/a/b1", ""),
+                Persistent("/a/b0", ""),
+            ]),
+            Done(&[
+                Created("/a"),
+                Created("/a/b9"),
+                Created("/a/b8"),
+                Created("/a/b7"),
+                Created("/a/b6"),
+                Created("/a/b5"),
+                Created("/a/b4"),
+                Created("/a/b3"),
+                Created("/a/b2"),
+                Created("/a/b1"),
+                Created("/a/b0"),
+            ]),
+        )],
+        &[
+            ("/a", "", 0, 0),
+            ("/a/b0", "", 0, 0),
+            ("/a/b1", "", 0, 0),
+            ("/a/b2", "", 0, 0),
+            ("/a/b3", "", 0, 0),
+            ("/a/b4", "", 0, 0),
+            ("/a/b5", "", 0, 0),
+            ("/a/b6", "", 0, 0),
+            ("/a/b7", "", 0, 0),
+            ("/a/b8", "", 0, 0),
+            ("/a/b9", "", 0, 0),
+        ],
+    ),
+    (
+        &[(
+            Multi(&[Delete("/a/b5", None), Persistent("/a/c", "x")]),
+            Done(&[Deleted, Created("/a/c")]),
+        )],
+        &[
+            ("/a", "", 0, 0),
+            ("/a/b0", "", 0, 0),
+            ("/a/b1", "", 0, 0),
+            ("/a/b2", "", 0, 0),
+            ("/a/b3", "", 0, 0),
+            ("/a/b4", "", 0, 0),
+            ("/a/b6", "", 0, 0),
+            ("/a/b7", "", 0, 0),
+            ("/a/b8", "", 0, 0),
+            ("/a/b9", "", 0, 0),
+            ("/a/c", "x", 0, 0),
+        ],
+    ),
+];
