@@ -9,7 +9,7 @@ use Rattle.rmt_paths.specs.PathOrder.{is_path}
 use Rattle.rmt_tree.specs.Trees.{Node, is_session, is_owned_by}
 use Rattle.rmt_tree.specs.declared.tracked_session.TrackedSession.{TrackedSession}
 use Rattle.rmt_tree.specs.Slots.{Slots, node_in, owner_of, left_of, HaveSameNodes, PutsSlot}
-use Rattle.rmt_tree.specs.SessionTracker.{session_lists, is_tracked, has_owned, IsListedBy, IsListed, StayListed, OthersStayListed, ApartStayListed, OwnedStayListed, TrackOwned, TrackChanged, TrackNoMore, TrackOneMore, TrackMore}
+use Rattle.rmt_tree.specs.SessionTracker.{session_lists, is_tracked, has_owned, IsListedBy, IsListed, OthersStayListed, ApartStayListed, OwnedStayListed, TrackOwned, TrackChanged, TrackNoMore, TrackOneMore, TrackMore}
 use Rattle.rmt_tree.proofs.TrackerLemmas.{inside}
 use Rattle.rmt_paths.proofs.OrderLemmas.{is_path-is}
 
@@ -117,15 +117,6 @@ TrackMore-next whole rest e first old new one within more p s has = or_case (is_
 pub within-next : (whole rest : Slots) (e : Names × Option Node) → ((p : Names) (s : ℕ) → has_owned (e ∷ rest) p s ≡ true → has_owned whole p s ≡ true) → (p : Names) (s : ℕ) → has_owned rest p s ≡ true → has_owned whole p s ≡ true
 within-next whole rest e within p s has = within p s (or_right (is_path p e.0 && is_owned_by s e.1) _ has)
 
--- what was tracked was owned, and what was added is to be
-pub TrackChanged-from : (es es' changes : Slots) (old new : List TrackedSession) → HaveSameNodes es es' → TrackOwned old es → TrackMore old new changes → TrackChanged new es' changes
-TrackChanged-from es es' changes old new same exact more p s has = or_case (is_tracked (slice_get old s) p) _ (more p s has)
-    (λ was. or_left _ _ (ap (is_owned_by s) (same p) ∙ exact p s was))
-    (λ is. or_right (is_owned_by s (node_in es' p)) _ is)
-
-pub TrackOwned-same : (es es' : Slots) (tracker : List TrackedSession) → HaveSameNodes es es' → TrackOwned tracker es → TrackOwned tracker es'
-TrackOwned-same es es' tracker same exact p s has = ap (is_owned_by s) (same p) ∙ exact p s has
-
 no_changes : (a b : Bool) → b ≡ false → (a || b) ≡ true → a ≡ true
 no_changes true b none is = refl
 no_changes false b none is = absurd (true≢false (sym is ∙ none))
@@ -134,9 +125,9 @@ no_changes false b none is = absurd (true≢false (sym is ∙ none))
 pub TrackOwned-end : (tracker : List TrackedSession) (es changes : Slots) → changes ≡ [] → TrackChanged tracker es changes → TrackOwned tracker es
 TrackOwned-end tracker es changes none exact p s has = no_changes _ (has_owned changes p s) (ap (λ c. has_owned c p s) none) (exact p s has)
 
--- what stays listed in all is listed with owners
-pub owned_stay : (es es' : Slots) (old mid new : List TrackedSession) → HaveSameNodes es es' → StayListed old mid → OwnedStayListed es' mid new → OwnedStayListed es old new
-owned_stay es es' old mid new same all stay p s owned has = stay p s (ap (is_owned_by s) (same p) ∙ owned) (all p s has)
+-- what stayed listed before memory was given back stays listed after it
+pub unprepared_stay : (es es' : Slots) (old mid new : List TrackedSession) → HaveSameNodes es es' → OwnedStayListed es old mid → OwnedStayListed es' mid new → OwnedStayListed es old new
+unprepared_stay es es' old mid new same first then p s owned has = then p s (ap (is_owned_by s) (same p) ∙ owned) (first p s owned has)
 
 stray_at : (b c : Bool) (es rest : Slots) (e : Names × Option Node) (new : List TrackedSession) (p : Names) (s : ℕ) → is_path p e.0 ≡ b → is_owned_by s (node_in es e.0) ≡ c → ((s : ℕ) → is_session s (owner_of e.1) ≡ true → is_session s (owner_of (node_in es e.0)) ≡ false → is_tracked (slice_get new s) e.0 ≡ false) → is_tracked (slice_get new s) p ≡ true → (b && is_owned_by s e.1) ≡ true → is_owned_by s (node_in es p) ≡ true
 stray_at false c es rest e new p s at own gone has here = absurd (true≢false (sym here))

@@ -1,4 +1,5 @@
-ghost use Rattle.std.specs.Prelude.{◌≡◌, [], true, false, None, Some, cond, is_some, slice_get, IfOk, IfErr, OnOk, OnErr};
+ghost use Rattle.std.specs.Prelude.{◌≡◌, [], true, false, None, Some, cond, is_some, slice_get, IfOk, IfErr, OnOk, OnErr, ◌⊎◌, Ok, Err};
+ghost use Rattle.std.specs.declared.alloc.AllocError.{AllocError};
 ghost use Rattle.std.specs.Option.{option_map, option_copied};
 ghost use Rattle.rmt_paths.specs.Paths.{parent, last_name};
 ghost use Rattle.std.specs.FinSet as set;
@@ -17,7 +18,7 @@ use crate::ops::{name_nodes, names_node};
 use crate::session::Session;
 use crate::sessions::{clear, open_at, open_first};
 use crate::slot_map::Slots;
-use crate::slots::{commit, prepare};
+use crate::slots::{commit, prepare, untrack_all};
 use crate::tracked_session::TrackedSession;
 use rmt_paths::Path;
 use rmt_values::{Blob, Name};
@@ -76,6 +77,48 @@ impl Tree {
                 Ok(outcome.dones)
             }
             Err(error) => Err(error),
+        }
+    }
+
+    /// Does another thing, which can't be undone, and then these operations one after the other; or none of them. All
+    /// memory is taken before the other thing is done, and nothing is refused after it.
+    ///
+    /// At an error the tree is as it was. The other thing comes back with it where it wasn't done; where nothing comes
+    /// back, it was done and had no memory itself.
+    pub fn multi_after<X, F: FnOnce() -> Result<X, AllocError>>(
+        &mut self,
+        ops: &[Op],
+        other: F,
+    ) -> Result<X, (MultiError, Option<F>)>
+    where
+        F: Drop,
+        requires { F.pre other }
+        ensures all { OnOk result (first_refusal self.old ops.now 0 ≡ None) }
+        ensures ok { OnOk result (self.new ≡ after_all self.old ops.now) }
+        ensures other { IfOk result (λ x. F.post other (Ok x)) }
+        ensures undone { IfErr result (λ e. (e.1 ≡ Some other)
+            ⊎ ((none : AllocError) × F.post other (Err none))) }
+        ensures refused { IfErr result (λ e. IsRefusal (first_refusal self.old ops.now 0) e.0) }
+        ensures err { OnErr result (self.new ≡ self.old) }
+    {
+        let alloc = *self.tracker.allocator();
+        name_nodes(ops);
+        let outcome = match draft_all(alloc, &self.slots, &self.tracker, ops) {
+            Ok(outcome) => outcome,
+            Err(error) => return Err((error, Some(other))),
+        };
+        if prepare(alloc, &mut self.slots, &mut self.tracker, &outcome.changes).is_err() {
+            return Err((MultiError::Memory, Some(other)));
+        }
+        match other() {
+            Ok(made) => {
+                commit(&mut self.slots, &mut self.tracker, outcome.changes);
+                Ok(made)
+            }
+            Err(_) => {
+                untrack_all(&self.slots, &mut self.tracker, &outcome.changes);
+                Err((MultiError::Memory, None))
+            }
         }
     }
 
