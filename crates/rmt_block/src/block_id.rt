@@ -7,7 +7,7 @@ use rmt_values::Name;
 use std::alloc::{AllocError, Global};
 
 /// What a block is known by: a block that is inserted again has the id it had.
-#[derive(Clone, Copy, Debug, PartialEq, Eq)]
+#[derive(Clone, Copy, Debug, PartialEq, Eq, Hash)]
 pub struct BlockId {
     /// The partition of its rows.
     pub partition: PartitionId,

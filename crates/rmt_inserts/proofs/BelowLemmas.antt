@@ -1,23 +1,20 @@
 -- The locks of a partition, the kept ids in their order, and the partitions, by the names below their nodes.
-use Rattle.std.proofs.Common.{◌≡◌, ℕ, inl, inr, ◌⊎◌, ◌<◌, ◌≤◌, ◌^◌, Bool, true, false, cond, is_some, List, [], ◌∷◌, ◌++◌, nat_eq, refl, sym, ap, subst, arith, ◌∙◌}
-use Rattle.std.proofs.lemmas.Bool.Decides.{nat_tests}
+use Rattle.std.proofs.Common.{◌≡◌, ℕ, ◌<◌, ◌≤◌, ◌^◌, true, is_some, List, refl, sym, ap, subst, arith, ◌∙◌}
 use Rattle.std.specs.Option.{option_map}
 use Rattle.std.specs.declared.option.Option.{Option}
 use Rattle.std.specs.declared.option.Option.TheVariants.{Some, None}
-use Rattle.rmt_model.specs.Words.{Has, Each, Pairwise}
-use Rattle.rmt_model.proofs.Lists.{Has-append, Has-left, Has-right, Each-at}
+use Rattle.rmt_model.specs.Words.{Has}
 use Rattle.rmt_paths.specs.Paths.{Names, last_name, parent}
 use Rattle.rmt_tree.specs.Trees.{TreeView, children, first_from}
 use Rattle.rmt_znodes.specs.declared.znode.Znode.{Znode}
 use Rattle.rmt_znodes.specs.declared.znode.Znode.TheVariants.{Log, LogEntry, Blocks, Block, Order, OrderOf, Numbers, Partition, Lock, Mutations, MutationNode, Quorum, Status, LastPart, Replicas, Replica, LogPointer, IsActive}
-use Rattle.rmt_znodes.specs.Znodes.{znode_path, IsZnode, IsPartition, lock_name, id_text}
+use Rattle.rmt_znodes.specs.Znodes.{znode_path, IsZnode, IsPartition, lock_name}
 use Rattle.rmt_znodes.specs.ZnodeStates.{above}
 use Rattle.rmt_table_model.specs.Numbers.{Nexts, Holders, IsLocked}
-use Rattle.rmt_table_model.specs.Kept.{Placed, Differ, with_number}
-use Rattle.rmt_table_model.specs.Inserts.{HasNumbers, HasKeptIds, IsKeptBelow, IsLeastLocked}
-use Rattle.rmt_table_model.specs.Nodes.{owned, plain, next_states, lock_states, kept_states}
-use Rattle.rmt_inserts.proofs.NameLemmas.{order_name, Lower, order-lower, lock-lower, lock-from, lock-not-lower}
-use Rattle.rmt_inserts.proofs.ListLemmas.{rising-same, rising-last, first-from, none-from}
+use Rattle.rmt_table_model.specs.Inserts.{HasNumbers, IsLeastLocked}
+use Rattle.rmt_table_model.specs.Nodes.{owned, next_states, lock_states}
+use Rattle.rmt_inserts.proofs.NameLemmas.{Lower, lock-lower, lock-from, lock-not-lower}
+use Rattle.rmt_inserts.proofs.ListLemmas.{first-from, none-from}
 use Rattle.rmt_inserts.proofs.ChildLemmas.{IsNameBelow, child-znode, znode-child, children-rise}
 
 -- ---- what is below which
@@ -44,26 +41,6 @@ below-partition p Replicas e = absurd (cc)
 below-partition p (Replica r) e = absurd (cc)
 below-partition p (LogPointer r) e = absurd (cc)
 below-partition p (IsActive r) e = absurd (cc)
-
-below-order : (y : Znode) → above y ≡ Some Order → (n : ℕ) × (y ≡ OrderOf n)
-below-order (OrderOf n) e = (n, refl)
-below-order Log e = absurd (cc)
-below-order (LogEntry i) e = absurd (cc)
-below-order Blocks e = absurd (cc)
-below-order (Block q d) e = absurd (cc)
-below-order Order e = absurd (cc)
-below-order Numbers e = absurd (cc)
-below-order (Partition q) e = absurd (cc)
-below-order (Lock q n) e = absurd (cc)
-below-order Mutations e = absurd (cc)
-below-order (MutationNode i) e = absurd (cc)
-below-order Quorum e = absurd (cc)
-below-order Status e = absurd (cc)
-below-order LastPart e = absurd (cc)
-below-order Replicas e = absurd (cc)
-below-order (Replica r) e = absurd (cc)
-below-order (LogPointer r) e = absurd (cc)
-below-order (IsActive r) e = absurd (cc)
 
 pub below-numbers : (y : Znode) → above y ≡ Some Numbers → (p : Option ℕ) × (y ≡ Partition p)
 below-numbers (Partition p) e = (p, refl)
@@ -170,82 +147,3 @@ module _ (t : TreeView) (next : Nexts) (holders : Holders) (has : HasNumbers t n
       let r = first-lock p part low fits name (sym (at-lock p low q path) ∙ sym e) in
       let above = read r.0 r.1 r.2 in
       λ n past most l. r.3.least n past (omega (arith, above, most)) l
-
--- ---- the order
-
--- the names of the kept ids' nodes in the order, the oldest first
-unfoldable pub order_names : List Placed → List (List ℕ)
-order_names [] = []
-order_names (k ∷ ks) = order_names ks ++ order_name k.number ∷ []
-
--- a name in the order is that of a kept id
-pub names-of : (ks : List Placed) (name : List ℕ) → Has (order_names ks) name → (k : Placed) × Has ks k × (name ≡ order_name k.number)
-unfolding order_names
-names-of [] name h = absurd h
-names-of (k ∷ ks) name h = go (Has-append (order_names ks) (order_name k.number ∷ []) name h) (names-of ks name)
-  where
-    go : Has (order_names ks) name ⊎ Has (order_name k.number ∷ []) name → (Has (order_names ks) name → (j : Placed) × Has ks j × (name ≡ order_name j.number)) → (j : Placed) × Has (k ∷ ks) j × (name ≡ order_name j.number)
-    go (inl h) f = let r = f h in (r.0, inr r.1, r.2)
-    go (inr (inl e)) f = (k, inl refl, sym e)
-    go (inr (inr h)) f = absurd h
-
-name-among : (ks : List Placed) (k : Placed) → Has ks k → Has (order_names ks) (order_name k.number)
-unfolding order_names
-name-among [] k h = absurd h
-name-among (j ∷ ks) k (inl e) = Has-right (order_names ks) (order_name j.number ∷ []) (order_name k.number) (inl (ap (λ (i : Placed). order_name i.number) e))
-name-among (j ∷ ks) k (inr h) = Has-left (order_names ks) (order_name j.number ∷ []) (order_name k.number) (name-among ks k h)
-
-order-rises : (count : ℕ) (ks : List Placed) → count ≤ 65536 → Pairwise Differ ks → Each (IsKeptBelow count) ks → Pairwise Lower (order_names ks)
-unfolding order_names
-order-rises count [] small d e = tt
-order-rises count (k ∷ ks) small d e = rising-last (order_names ks) (order_name k.number) (order-rises count ks small d.1 e.1) (λ name h. before name (names-of ks name h))
-  where
-    before : (name : List ℕ) → (j : Placed) × Has ks j × (name ≡ order_name j.number) → Lower name (order_name k.number)
-    before name r = subst (λ (w : List ℕ). Lower w (order_name k.number)) (sym r.2) (order-lower r.0.number k.number (Differ.number (Each-at (Differ k) ks r.0 d.0 r.1)) (let b = IsKeptBelow.below e.0 in omega (arith, b, small)))
-
-number-found : (ks : List Placed) (i : ℕ) → is_some (with_number i ks) ≡ true → (k : Placed) × Has ks k × (k.number ≡ i)
-number-found [] i e = absurd (cc)
-number-found (k ∷ ks) i e = go (nat_eq i k.number) refl e (number-found ks i)
-  where
-    go : (b : Bool) → nat_eq i k.number ≡ b → is_some (cond b (Some k) (with_number i ks)) ≡ true → (is_some (with_number i ks) ≡ true → (j : Placed) × Has ks j × (j.number ≡ i)) → (j : Placed) × Has (k ∷ ks) j × (j.number ≡ i)
-    go true t e f = (k, inl refl, grind (arith, nat_tests))
-    go false t e f = let r = f e in (r.0, inr r.1, r.2)
-
-found-number : (ks : List Placed) (k : Placed) → Has ks k → is_some (with_number k.number ks) ≡ true
-found-number [] k h = absurd h
-found-number (j ∷ ks) k h = go (nat_eq k.number j.number) refl h (found-number ks k)
-  where
-    go : (b : Bool) → nat_eq k.number j.number ≡ b → Has (j ∷ ks) k → (Has ks k → is_some (with_number k.number ks) ≡ true) → is_some (cond b (Some j) (with_number k.number ks)) ≡ true
-    go true t h f = refl
-    go false t (inl e) f = let q = ap (λ (i : Placed). i.number) e in absurd (grind (arith, nat_tests))
-    go false t (inr h) f = f h
-
-some-map : {A B : Type 0} (f : A → B) (o : Option A) → is_some (option_map f o) ≡ is_some o
-some-map f None = refl
-some-map f (Some x) = refl
-
-module _ (t : TreeView) (ks : List Placed) (count : ℕ) (has : HasKeptIds t ks count) where
-  pub kept-small : (k : Placed) → Has ks k → k.number < 2 ^ 32
-  kept-small k h = let b = IsKeptBelow.below (Each-at (IsKeptBelow count) ks k has.each h) in let s = has.small in omega (arith, b, s)
-
-  -- what stands in the order
-  pub order-children : children t (znode_path Order) ≡ order_names ks
-  order-children = rising-same (children t (znode_path Order)) (order_names ks) (children-rise t (znode_path Order)) (order-rises count ks has.small has.differ has.each) one other
-    where
-      one : (name : List ℕ) → Has (children t (znode_path Order)) name → Has (order_names ks) name
-      one name h = found (child-znode t (kept_states ks count has.states) has.limits has.nodes Order tt name h)
-        where
-          found : IsNameBelow (kept_states ks count has.states) Order name → Has (order_names ks) name
-          found r =
-              let w = below-order r.znode r.under in
-              let s : is_some (option_map (λ k. plain (id_text k.kept.part.partition k.kept.digest)) (with_number w.0 ks)) ≡ true = subst (λ (x : Znode). is_some (kept_states ks count has.states x) ≡ true) w.1 r.there in
-              let k = number-found ks w.0 (sym (some-map (λ k. plain (id_text k.kept.part.partition k.kept.digest)) (with_number w.0 ks)) ∙ s) in
-              subst (Has (order_names ks)) (sym (r.name_is ∙ ap (λ (x : Znode). last_name (znode_path x)) w.1 ∙ ap order_name (sym k.2))) (name-among ks k.0 k.1)
-
-      other : (name : List ℕ) → Has (order_names ks) name → Has (children t (znode_path Order)) name
-      other name h = found (names-of ks name h)
-        where
-          found : (k : Placed) × Has ks k × (name ≡ order_name k.number) → Has (children t (znode_path Order)) name
-          found r = subst (Has (children t (znode_path Order))) (sym r.2)
-              (znode-child t (kept_states ks count has.states) has.limits has.nodes (OrderOf r.0.number) Order (kept-small r.0 r.1) refl
-              (some-map (λ k. plain (id_text k.kept.part.partition k.kept.digest)) (with_number r.0.number ks) ∙ found-number ks r.0 r.1))

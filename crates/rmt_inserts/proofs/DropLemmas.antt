@@ -1,15 +1,16 @@
 -- What a drop takes away: the locks below a number, and the kept ids of the blocks below it.
-use Rattle.std.proofs.Common.{◌≡◌, ◌≢◌, ℕ, zero, suc, inl, inr, ◌+◌, ◌<◌, ◌≤◌, ◌^◌, ◌&&◌, Bool, true, false, cond, not, is_some, List, [], ◌∷◌, ◌++◌, length, take, drop, map, get_or, nat_eq, nat_lt, Result, Ok, Err, IfOk, refl, sym, ap, subst, arith, ◌∙◌}
+use Rattle.std.proofs.Common.{◌≡◌, ◌≢◌, ℕ, zero, suc, inl, inr, ◌+◌, ◌<◌, ◌≤◌, ◌^◌, Bool, true, false, cond, is_some, List, [], ◌∷◌, ◌++◌, length, take, drop, map, get_or, nat_lt, Result, Ok, Err, IfOk, refl, sym, ap, subst, arith, ◌∙◌}
 use Rattle.std.proofs.lemmas.Bool.Decides.{nat_tests}
 use Rattle.std.proofs.lemmas.List.{append_assoc, append-nil}
 use Rattle.std.specs.List.{filter}
-use Rattle.std.specs.Option.{option_map, option_eq}
+use Rattle.std.specs.Prelude.{slice_get}
+use Rattle.std.proofs.lemmas.List.{take_all}
+use Rattle.std.specs.Option.{option_map}
 use Rattle.std.specs.Str.Parse.{digits_value}
 use Rattle.std.specs.declared.option.Option.{Option}
 use Rattle.std.specs.declared.option.Option.TheVariants.{Some, None}
-use Rattle.rmt_names.specs.Names.{rank}
 use Rattle.rmt_model.specs.Words.{Has, Pairwise}
-use Rattle.rmt_model.proofs.Lists.{Each-at, Each-all, Has-filter, Has-kept, Pairwise-filter, rank-injective}
+use Rattle.rmt_model.proofs.Lists.{Each-at, Each-all, Has-filter, Has-kept, Pairwise-filter}
 use Rattle.rmt_paths.specs.Paths.{Names}
 use Rattle.rmt_tree.specs.Trees.{Node, TreeView, node_at, children, children_at}
 use Rattle.rmt_tree.specs.declared.op.Op.{Op}
@@ -163,52 +164,32 @@ forget-append p n (k ∷ xs) ys = go (outlives p n k) (forget-append p n xs ys)
     go true e = e
     go false e = ap (λ (os : List Op). leave_ops (Some k) ++ os) e
 
-pub forget-stays : (p : Option ℕ) (n : ℕ) (k : Placed) → outlives p n k ≡ true → forget_ops p n (k ∷ []) ≡ []
-forget-stays p n k e = ap (λ (b : Bool). cond b [] (leave_ops (Some k) ++ [])) e
-
 pub forget-goes : (p : Option ℕ) (n : ℕ) (k : Placed) → outlives p n k ≡ false → forget_ops p n (k ∷ []) ≡ leave_ops (Some k)
 forget-goes p n k e = ap (λ (b : Bool). cond b [] (leave_ops (Some k) ++ [])) e
 
-pub outlives-other : (p : Option ℕ) (n : ℕ) (k : Placed) → (k.kept.part.partition ≡ p → ⊥) → outlives p n k ≡ true
-outlives-other p n k f = go (nat_eq (rank k.kept.part.partition) (rank p)) refl
+pub same-some : (j k : Placed) → Some j ≡ Some k → j ≡ k
+same-some j k e = cc
+
+-- a place that is within has an id
+pub one-there : (ks : List Placed) (i : ℕ) → i < length ks → (k : Placed) × (slice_get ks i ≡ Some k)
+one-there [] i within = absurd (omega (arith, within))
+one-there (k ∷ ks) zero within = (k, refl)
+one-there (k ∷ ks) (suc i) within = one-there ks i (omega (arith, within))
+
+-- the ids up to a place, and the one there
+pub forget-step : (p : Option ℕ) (n : ℕ) (ks : List Placed) (i : ℕ) (k : Placed) → slice_get ks i ≡ Some k → forget_ops p n (take (i + 1) ks) ≡ forget_ops p n (take i ks) ++ forget_ops p n (k ∷ [])
+forget-step p n ks i k is =
+    let one : i + 1 ≡ suc i = omega arith in
+    ap (λ (m : ℕ). forget_ops p n (take m ks)) one ∙ ap (forget_ops p n) (taken ks i is) ∙ forget-append p n (take i ks) (k ∷ [])
   where
-    go : (b : Bool) → nat_eq (rank k.kept.part.partition) (rank p) ≡ b → not (b && nat_lt k.kept.part.min n) ≡ true
-    go true e = absurd (f (rank-injective k.kept.part.partition p (grind (arith, nat_tests))))
-    go false e = refl
+    taken : (ks : List Placed) (i : ℕ) → slice_get ks i ≡ Some k → take (suc i) ks ≡ take i ks ++ k ∷ []
+    taken [] i is = absurd (cc)
+    taken (j ∷ ks) zero is = let w : j ≡ k = cc in ap (λ (x : Placed). x ∷ []) w
+    taken (j ∷ ks) (suc i) is = ap (λ (xs : List Placed). j ∷ xs) (taken ks i is)
 
-pub outlives-above : (p : Option ℕ) (n : ℕ) (k : Placed) → n ≤ k.kept.part.min → outlives p n k ≡ true
-outlives-above p n k l = go (nat_eq (rank k.kept.part.partition) (rank p)) (let t : nat_lt k.kept.part.min n ≡ false = grind (arith, nat_tests) in t)
-  where
-    go : (b : Bool) → nat_lt k.kept.part.min n ≡ false → not (b && nat_lt k.kept.part.min n) ≡ true
-    go true e = ap not e
-    go false e = refl
-
-pub outlives-not : (p : Option ℕ) (n : ℕ) (k : Placed) → k.kept.part.partition ≡ p → k.kept.part.min < n → outlives p n k ≡ false
-outlives-not p n k e l =
-    let u : nat_eq (rank k.kept.part.partition) (rank p) ≡ true = let q = ap rank e in grind (arith, nat_tests) in
-    let t : nat_lt k.kept.part.min n ≡ true = grind (arith, nat_tests) in
-    ap (λ (b : Bool). not (b && nat_lt k.kept.part.min n)) u ∙ ap not t
-
--- a test and its opposite
-pub turned : (b c : Bool) → b ≡ not c → c ≡ not b
-turned true true e = absurd (cc)
-turned true false e = refl
-turned false true e = refl
-turned false false e = absurd (cc)
-
--- partitions that a test tells apart
-pub apart : (a b : Option ℕ) → option_eq nat_eq a b ≡ false → a ≡ b → ⊥
-apart a b e f = go b (subst (λ (x : Option ℕ). option_eq nat_eq x b ≡ false) f e)
-  where
-    go : (x : Option ℕ) → option_eq nat_eq x x ≡ false → ⊥
-    go None e = absurd (cc)
-    go (Some n) e = absurd (grind (arith, nat_tests))
-
-pub alike : (a b : Option ℕ) → option_eq nat_eq a b ≡ true → a ≡ b
-alike None None e = refl
-alike None (Some n) e = absurd (cc)
-alike (Some m) None e = absurd (cc)
-alike (Some m) (Some n) e = ap Some (grind (arith, nat_tests))
+-- ids up to a place past them all are all of them
+pub forget-whole : (p : Option ℕ) (n : ℕ) (ks : List Placed) (i : ℕ) → length ks ≤ i → forget_ops p n (take i ks) ≡ forget_ops p n ks
+forget-whole p n ks i past = ap (forget_ops p n) (take_all i ks past)
 
 -- ---- one more of a loop
 

@@ -6,5 +6,5 @@ pub mod BelowLemmas
 mod KeptLemmas
 mod DropLemmas
 mod LimitLemmas
-mod ForgetLemmas
 mod TakeLemmas
+mod WindowLemmas

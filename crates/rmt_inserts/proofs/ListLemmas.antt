@@ -1,9 +1,9 @@
 -- Lists that rise are told by what they have, and how long lists are that have the same.
-use Rattle.std.proofs.Common.{◌≡◌, ◌≢◌, inl, inr, ◌⊎◌, ℕ, suc, ◌≤◌, Bool, true, false, cond, List, [], ◌∷◌, ◌++◌, length, map, refl, sym, ap, subst, arith, ◌∙◌}
+use Rattle.std.proofs.Common.{◌≡◌, ◌≢◌, inl, inr, ◌⊎◌, ℕ, suc, ◌≤◌, Bool, true, false, cond, List, [], ◌∷◌, length, map, refl, sym, ap, subst, arith, ◌∙◌}
 use Rattle.std.specs.Ordering.{is_lt}
 use Rattle.std.specs.declared.option.Option.TheVariants.{Some, None}
 use Rattle.rmt_model.specs.Words.{Has, Pairwise}
-use Rattle.rmt_model.proofs.Lists.{Has-append, Each-at, Each-all}
+use Rattle.rmt_model.proofs.Lists.{Each-at}
 use Rattle.rmt_paths.specs.PathOrder.{name_cmp}
 use Rattle.rmt_tree.specs.Trees.{first_from}
 use Rattle.rmt_inserts.proofs.NameLemmas.{Lower, lower-irreflexive, lower-asymmetric, lower-test, test-lower}
@@ -20,43 +20,6 @@ map-Has f (z ∷ xs) x (inl e) = inl (ap f e)
 map-Has f (z ∷ xs) x (inr h) = inr (map-Has f xs x h)
 
 -- ---- lists that rise
-
-pub rising-same : (xs ys : List (List ℕ)) → Pairwise Lower xs → Pairwise Lower ys → ((x : List ℕ) → Has xs x → Has ys x) → ((y : List ℕ) → Has ys y → Has xs y) → xs ≡ ys
-rising-same [] [] p q f g = refl
-rising-same [] (y ∷ ys) p q f g = absurd (g y (inl refl))
-rising-same (x ∷ xs) [] p q f g = absurd (f x (inl refl))
-rising-same (x ∷ xs) (y ∷ ys) p q f g =
-    let e : x ≡ y = first (f x (inl refl)) (g y (inl refl)) in
-    let r : xs ≡ ys = rising-same xs ys p.1 q.1 (λ z h. later-x z e h (f z (inr h))) (λ z h. later-y z e h (g z (inr h))) in
-    cc
-  where
-    first : Has (y ∷ ys) x → Has (x ∷ xs) y → x ≡ y
-    first (inl e) k = sym e
-    first (inr h) (inl e) = e
-    first (inr h) (inr k) = absurd (lower-asymmetric x y (Each-at (Lower x) xs y p.0 k) (Each-at (Lower y) ys x q.0 h))
-
-    later-x : (z : List ℕ) → x ≡ y → Has xs z → Has (y ∷ ys) z → Has ys z
-    later-x z e h (inl k) = absurd (lower-irreflexive z (subst (λ (w : List ℕ). Lower w z) (e ∙ k) (Each-at (Lower x) xs z p.0 h)))
-    later-x z e h (inr k) = k
-
-    later-y : (z : List ℕ) → x ≡ y → Has ys z → Has (x ∷ xs) z → Has xs z
-    later-y z e h (inl k) = absurd (lower-irreflexive z (subst (λ (w : List ℕ). Lower w z) (sym e ∙ k) (Each-at (Lower y) ys z q.0 h)))
-    later-y z e h (inr k) = k
-
--- one more, after all of them
-pub rising-last : (xs : List (List ℕ)) (y : List ℕ) → Pairwise Lower xs → ((x : List ℕ) → Has xs x → Lower x y) → Pairwise Lower (xs ++ y ∷ [])
-rising-last [] y p f = (tt, tt)
-rising-last (x ∷ xs) y p f = (
-  Each-all (Lower x) (xs ++ y ∷ []) (λ z h. either z (Has-append xs (y ∷ []) z h)),
-  rising-last xs y p.1 (λ z h. f z (inr h)),
-)
-  where
-    either : (z : List ℕ) → Has xs z ⊎ Has (y ∷ []) z → Lower x z
-    either z (inl h) = Each-at (Lower x) xs z p.0 h
-    either z (inr (inl e)) = subst (Lower x) e (f x (inl refl))
-    either z (inr (inr h)) = absurd h
-
--- ---- the first name from one on
 
 pub record IsFirstFrom (name : List ℕ) (ns : List (List ℕ)) (n : List ℕ) : Type 0 where
   pub here : Has ns n

@@ -1,13 +1,11 @@
 -- Names with ten digits: their order is that of their numbers, and what is read of them.
-use Rattle.std.proofs.Common.{◌≡◌, inl, inr, ◌⊎◌, ℕ, zero, suc, ◌+◌, ◌-◌, ◌/◌, ◌%◌, ◌^◌, ◌<◌, ◌≤◌, Bool, true, false, List, [], ◌∷◌, ◌++◌, length, take, drop, length-drop, codes, cond, nat_eq, slice_index, refl, sym, ap, subst, arith, ◌∙◌, length-append}
+use Rattle.std.proofs.Common.{◌≡◌, inl, inr, ◌⊎◌, ℕ, zero, suc, ◌+◌, ◌-◌, ◌/◌, ◌%◌, ◌^◌, ◌<◌, ◌≤◌, true, List, [], ◌∷◌, ◌++◌, length, take, drop, length-drop, slice_index, refl, sym, ap, subst, arith, ◌∙◌, length-append}
 use Rattle.std.proofs.lemmas.List.{drop_at, take_all}
 use Rattle.std.proofs.lemmas.Str.{digit_value_digit, IsAscii-append, IsUtf8-from_ascii}
 use Rattle.std.proofs.lemmas.Str.Ascii.{IsAscii-nil}
 use Rattle.std.proofs.lemmas.Str.Parse.{IsNumeralModel, numerals_by_value, tells_digits, parse_gives}
-use Rattle.std.proofs.lemmas.Fmt.{IsAscii-decimal}
 use Rattle.std.proofs.Math.Nat.{pow-succ'}
 use Rattle.std.specs.Char.{digit_value}
-use Rattle.std.specs.Fmt.{decimal}
 use Rattle.std.specs.Str.{IsAscii, IsUtf8}
 use Rattle.std.specs.Str.Parse.{AllDigits, digits_value, ParsesUnsigned}
 use Rattle.std.specs.Result.{result_ok}
@@ -15,14 +13,11 @@ use Rattle.std.specs.Ordering.{is_lt, nat_cmp, ordering_then}
 use Rattle.std.specs.Cmp.Lexicographic.{slice_cmp, nat_list_cmp_total}
 use Rattle.std.specs.declared.cmp.Ordering.{Ordering}
 use Rattle.std.specs.declared.cmp.Ordering.TheVariants.{Less, Equal, Greater}
-use Rattle.std.specs.declared.option.Option.{Option}
-use Rattle.std.specs.declared.option.Option.TheVariants.{Some, None}
+use Rattle.std.specs.declared.option.Option.TheVariants.{Some}
 use Rattle.std.specs.declared.result.Result.{Result}
-use Rattle.rmt_names.specs.Names.{Name, IsName}
-use Rattle.rmt_names.specs.Texts.{partition_text, field, mutation_text, text_of}
 use Rattle.rmt_paths.specs.Paths.{digits}
 use Rattle.rmt_paths.specs.PathOrder.{name_cmp}
-use Rattle.rmt_znodes.specs.Znodes.{lock_name, IsPartition}
+use Rattle.rmt_znodes.specs.Znodes.{lock_name}
 use Rattle.rmt_znodes.proofs.ZnodeLemmas.{digits-value}
 
 -- ---- order
@@ -105,14 +100,6 @@ pub lock-lower : (a b : ℕ) → a < b → b < 2 ^ 32 → Lower (lock_name a) (l
 unfolding Lower
 lock-lower a b l h = digits-lower 10 a b l (omega arith)
 
--- the name of a kept id's node in the order
-abbrev pub order_name : ℕ → List ℕ
-order_name n = codes "id-" ++ digits 10 n
-
-pub order-lower : (a b : ℕ) → a < b → b < 2 ^ 32 → Lower (order_name a) (order_name b)
-unfolding Lower
-order-lower a b l h = digits-lower 10 a b l (omega arith)
-
 -- a lock's name that isn't before another has no lower number
 pub lock-from : (a b : ℕ) → b < 2 ^ 32 → (Lower (lock_name a) (lock_name b) → ⊥) → b ≤ a
 lock-from a b h f = elim (cases a b) [ inl l ↦ absurd (f (lock-lower a b l h)) | inr l ↦ l ]
@@ -168,27 +155,3 @@ ascii-digits (suc w) n = IsAscii-append (digits w (n / 10)) ((48 + n % 10) ∷ [
 
 pub utf8-digits : (w n : ℕ) → IsUtf8 (digits w n)
 utf8-digits w n = IsUtf8-from_ascii (digits w n) (ascii-digits w n)
-
-ascii-one : (b : ℕ) → b < 128 → IsAscii (b ∷ [])
-ascii-one b h zero = h
-ascii-one b h (suc i) = omega arith
-
-ascii-partition : (p : Option ℕ) → IsPartition p → IsAscii (partition_text p)
-ascii-partition None small = IsAscii-append (codes "al") (codes "l") (IsAscii-append (codes "a") (codes "l") (ascii-one 97 (omega arith)) (ascii-one 108 (omega arith))) (ascii-one 108 (omega arith))
-ascii-partition (Some n) small = IsAscii-decimal n small
-
-ascii-field : (n : ℕ) → n < 2 ^ 32 → IsAscii (field n)
-ascii-field n small = IsAscii-append (codes "_") (decimal n) (ascii-one 95 (omega arith)) (IsAscii-decimal n (omega arith))
-
-ascii-mutation : (m : ℕ) → m < 2 ^ 32 → IsAscii (mutation_text m)
-ascii-mutation m small = go (nat_eq m 0)
-  where
-    go : (b : Bool) → IsAscii (cond b [] (field m))
-    go true = IsAscii-nil
-    go false = ascii-field m small
-
-pub utf8-name : (a : Name) → IsName a → IsUtf8 (text_of a)
-utf8-name a is = IsUtf8-from_ascii (text_of a)
-    (IsAscii-append _ (mutation_text a.mutation)
-    (IsAscii-append _ (field a.level) (IsAscii-append _ (field a.max) (IsAscii-append _ (field a.min) (ascii-partition a.partition is.partition) (ascii-field a.min (let o = is.ordered in let m = is.max in omega (arith, o, m)))) (ascii-field a.max is.max)) (ascii-field a.level is.level))
-    (ascii-mutation a.mutation is.mutation))

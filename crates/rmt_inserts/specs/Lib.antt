@@ -1,4 +1,5 @@
 pub use Rattle.rmt_table_model.specs.Inserts
+pub mod Inside
 pub mod Numbers
-pub mod OrderNumbers
 pub mod Unlocks
+pub mod Windows

@@ -1,8 +1,9 @@
 //! Block numbers and kept ids as znodes: what they say, and the operations that change them.
 #![tactic(auto)]
 
-mod drop_result;
 mod drops;
+mod kept_block;
+mod kept_ids;
 mod locks;
 mod names;
 mod number;
@@ -10,9 +11,9 @@ mod number_error;
 mod ops;
 mod window;
 
-pub use drop_result::DropOps;
 pub use drops::drop_ops;
+pub use kept_ids::{keep_ops, kept};
 pub use locks::in_flight;
 pub use number::{next_number, number_ops, take_number};
 pub use number_error::NumberError;
-pub use window::{keep_ops, kept};
+pub use window::Window;

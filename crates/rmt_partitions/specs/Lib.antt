@@ -1,3 +1,2 @@
 pub use Rattle.rmt_model.specs.BlockNumbers
-pub mod KeptNumbers
 pub mod NumbersInOrder

@@ -1,8 +1,6 @@
-//! What is kept of each partition of a table: the block number that it gives next, and some more numbers.
+//! The block number that each partition of a table gives next.
 #![tactic(auto)]
 
-mod kept_numbers;
 mod partitions;
 
-pub use kept_numbers::KeptNumbers;
 pub use partitions::Partitions;

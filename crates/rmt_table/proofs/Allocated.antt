@@ -230,7 +230,7 @@ module _ (h : Held) (tokens : List (Token Entry)) (counts : Counts) (k : IsTable
         pub allocated-tree : IsTableTree after tokens counts
         allocated-tree = record {
           held = held-held entry_bytes after (after_allocate id.partition s v) table same;
-          counted = record { clients = k.counted.clients; workers = k.counted.workers; mutations = k.counted.mutations; blocks = k.counted.blocks; kept = k.counted.kept; numbers = k.counted.numbers };
+          counted = record { clients = k.counted.clients; workers = k.counted.workers; mutations = k.counted.mutations; blocks = k.counted.blocks; window = k.counted.window };
           places = k.places;
         }
 

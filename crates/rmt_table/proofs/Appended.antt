@@ -41,17 +41,6 @@ take-most zero xs = omega arith
 take-most (suc w) [] = omega arith
 take-most (suc w) (x ∷ xs) = let l = take-most w xs in omega (arith, l)
 
-take-all : {A : Type 0} (w : ℕ) (xs : List A) → length xs ≤ w → length (take w xs) ≡ length xs
-take-all zero [] l = refl
-take-all zero (x ∷ xs) l = absurd (omega (arith, l))
-take-all (suc w) [] l = refl
-take-all (suc w) (x ∷ xs) l = let q = take-all w xs (omega (arith, l)) in omega (arith, q)
-
-take-full : {A : Type 0} (w : ℕ) (xs : List A) → w ≤ length xs → length (take w xs) ≡ w
-take-full zero xs l = refl
-take-full (suc w) [] l = absurd (omega (arith, l))
-take-full (suc w) (x ∷ xs) l = let q = take-full w xs (omega (arith, l)) in omega (arith, q)
-
 -- no more ids are kept than the window has
 pub window-most : (w : ℕ) (log : List Entry) → length (in_order w log) ≤ w
 window-most w [] = omega arith
@@ -60,13 +49,3 @@ window-most w (Merge new sources count ∷ log) = window-most w log
 window-most w (Mutate old new upto count mcount ∷ log) = window-most w log
 window-most w (Mutation id numbers command ∷ log) = window-most w log
 window-most w (DropRange p n ∷ log) = let l = window-most w log in let f = length-filter (outlives p n) (in_order w log) in let c = count_by-le-length (outlives p n) (in_order w log) in omega (arith, l, f, c)
-
--- how many ids are kept after one more block
-pub window-next : (w : ℕ) (log : List Entry) (p : Option ℕ) (n : ℕ) (digest : List ℕ) (source need : ℕ) → length (in_order w log) < w → length (in_order w (Get p n digest source need ∷ log)) ≡ suc (length (in_order w log))
-window-next w log p n digest source need l = take-all w (record { number = get_count log; kept = record { digest = digest; part = block_name p n } } ∷ in_order w log) (omega (arith, l))
-
-pub window-full : (w : ℕ) (log : List Entry) (p : Option ℕ) (n : ℕ) (digest : List ℕ) (source need : ℕ) → w ≤ length (in_order w log) → length (in_order w (Get p n digest source need ∷ log)) ≡ length (in_order w log)
-window-full w log p n digest source need l =
-    let a = take-full w (record { number = get_count log; kept = record { digest = digest; part = block_name p n } } ∷ in_order w log) (omega (arith, l)) in
-    let b = window-most w log in
-    omega (arith, a, b, l)

@@ -1,5 +1,5 @@
 -- What an accepted block makes of a table.
-use Rattle.std.proofs.Common.{◌≡◌, ◌≢◌, is_some, ℕ, ◌+◌, ◌<◌, ◌≤◌, Bool, true, false, cond, nat_le, nat_lt, List, [], ◌∷◌, ◌++◌, length, refl, sym, ap, subst, arith, ◌∙◌}
+use Rattle.std.proofs.Common.{◌≡◌, ◌≢◌, is_some, ℕ, ◌+◌, ◌<◌, ◌≤◌, Bool, true, false, cond, nat_le, nat_lt, List, [], ◌∷◌, ◌++◌, length, take, refl, sym, ap, subst, arith, ◌∙◌}
 use Rattle.std.proofs.lemmas.Bool.Decides.{nat_tests}
 use Rattle.std.proofs.lemmas.List.{append-nil}
 use Rattle.std.specs.declared.option.Option.{Option}
@@ -26,11 +26,11 @@ use Rattle.rmt_znodes.specs.declared.znode.Znode.TheVariants as nodes
 use Rattle.rmt_znodes.specs.Znodes.{znode_path, entry_path}
 use Rattle.rmt_znodes.specs.ZnodeStates.{Makes}
 use Rattle.rmt_table_model.specs.Numbers.{IsLocked}
-use Rattle.rmt_table_model.specs.Kept.{Placed, in_order, get_count, with_id}
-use Rattle.rmt_table_model.specs.Inserts.{HasKeptIds, part_of}
+use Rattle.rmt_table_model.specs.Kept.{Placed, in_order, get_count, is_get, with_id}
+use Rattle.rmt_table_model.specs.Inserts.{part_of}
 use Rattle.rmt_table_model.specs.Tables.{TableView}
 use Rattle.rmt_table_model.specs.Changes.{MayCommit, after_commit}
-use Rattle.rmt_table_model.specs.Nodes.{IsTable, order_count, keep_ops, status_text, status_ops, commit_ops}
+use Rattle.rmt_table_model.specs.Nodes.{IsTable, keep_ops, status_text, status_ops, commit_ops}
 use Rattle.rmt_table_model.specs.Steps.{Steps}
 use Rattle.rmt_table_model.specs.Held.{Held, table_of, holders_in}
 use Rattle.rmt_table_model.proofs.TableLemmas.{commit-steps}
@@ -38,7 +38,6 @@ use Rattle.rmt_table_model.proofs.HeldLemmas.{held-table, held-held}
 use Rattle.std.proofs.lemmas.List.Sums.{count_by-le-length}
 use Rattle.rmt_events.specs.TableRefusals.{HasQuorum}
 use Rattle.rmt_events.specs.TableCalls.{Commits}
-use Rattle.rmt_partitions.specs.KeptNumbers.{NumbersOf, numbers_of}
 use Rattle.rmt_table.specs.SeenTable.{shown}
 use Rattle.rmt_table.proofs.NumberLemmas as view
 use Rattle.rmt_table.proofs.SessionLemmas.{opened-count}
@@ -47,10 +46,9 @@ use Rattle.rmt_table.specs.declared.lock.Lock.{Lock}
 use Rattle.rmt_table.specs.declared.commit_error.CommitError.{CommitError}
 use Rattle.rmt_table.specs.declared.commit_error.CommitError.TheVariants as commit
 use Rattle.rmt_table.specs.Refusals.{IsAcceptable, TakesLock}
-use Rattle.rmt_table.specs.TableTrees.{table_at, IsReplica, Counts, ArePlaced, IsTableTree, IsUnlocked, AfterNoCommit, next_token, kept_after, order_numbers}
-use Rattle.rmt_table.proofs.Appended.{placed-more, clients-next, workers-next, mutations-next, blocks-next, window-most, window-next, window-full}
-use Rattle.rmt_table.proofs.HeldNodes.{held-kept}
-use Rattle.rmt_table.proofs.SoundRanges.{commit-range}
+use Rattle.rmt_table.specs.TableTrees.{table_at, IsReplica, Counts, ArePlaced, IsTableTree, IsUnlocked, AfterNoCommit, next_token}
+use Rattle.rmt_table.proofs.Appended.{placed-more, clients-next, workers-next, mutations-next, blocks-next}
+use Rattle.rmt_table.proofs.SoundRanges.{commit-range, sound-length}
 use Rattle.rmt_table.proofs.Allocated.{unkept}
 
 record FitsLimits (log : List Entry) (held values : ℕ) : Type 0 where
@@ -78,9 +76,6 @@ module _ (h : Held) (tokens : List (Token Entry)) (counts : Counts) (k : IsTable
 
   pub id-unkept : with_id lock.id.partition lock.id.digest (in_order h.schema.window h.log) ≡ None
   id-unkept = unkept (part_of lock.id.partition lock.id.digest (in_order h.schema.window h.log)) (sym (view.kept-same h.schema.window h.log lock.id.partition lock.id.digest) ∙ fine.unkept) lock.id.partition lock.id.digest h refl
-
-  pub unkept-now : with_id lock.id.partition lock.id.digest (in_order now.schema.window now.log) ≡ None
-  unkept-now = subst (λ (w : Held). with_id lock.id.partition lock.id.digest (in_order w.schema.window w.log) ≡ None) e id-unkept
 
   pub in-range : IsReplica now lock.replica → EntryInRange entry
   in-range here =
@@ -139,24 +134,15 @@ module _ (h : Held) (tokens : List (Token Entry)) (counts : Counts) (k : IsTable
           (subst (λ (u : TableView). Commits (table_at h) lock.id.partition lock.number lock.id.digest lock.replica need values (shown u)) (sym (held-table entry_bytes after (after_commit lock.id.partition lock.number lock.id.digest lock.replica need values (table_of h)) table same))
           (commit-bridge (table_of h) k.held.sound lock.id.partition lock.number lock.id.digest lock.replica need values may))
 
-      module _ (clients blocks kept : ℕ) (clients-is : clients ≡ counts.clients + 1) (blocks-is : blocks ≡ counts.blocks + 1) (kept-is : kept ≡ kept_after counts.kept h.schema.window)
-          (numbers : List NumbersOf) (numbers-are : (p : Option ℕ) → numbers_of numbers p ≡ order_numbers (entry ∷ h.log) p) where
-        kept-count : kept ≡ length (in_order h.schema.window (entry ∷ h.log))
-        kept-count = go (nat_lt counts.kept h.schema.window) refl kept-is
-          where
-            go : (b : Bool) → nat_lt counts.kept h.schema.window ≡ b → kept ≡ cond b (counts.kept + 1) counts.kept → kept ≡ length (in_order h.schema.window (entry ∷ h.log))
-            go true f q =
-                let c = k.counted.kept in
-                let l : counts.kept < h.schema.window = grind (arith, nat_tests) in
-                let w = window-next h.schema.window h.log lock.id.partition lock.number lock.id.digest lock.replica need (omega (arith, c, l)) in
-                omega (arith, q, c, w)
-            go false f q =
-                let c = k.counted.kept in
-                let l : h.schema.window ≤ counts.kept = grind (arith, nat_tests) in
-                let w = window-full h.schema.window h.log lock.id.partition lock.number lock.id.digest lock.replica need (omega (arith, c, l)) in
-                omega (arith, q, c, w)
+      module _ (clients blocks : ℕ) (clients-is : clients ≡ counts.clients + 1) (blocks-is : blocks ≡ counts.blocks + 1)
+          (window : List Placed) (window-is : window ≡ take h.schema.window (record { number = counts.blocks; kept = record { digest = lock.id.digest; part = block_name lock.id.partition lock.number } } ∷ counts.window)) where
+        window-now : window ≡ in_order h.schema.window (entry ∷ h.log)
+        window-now =
+            window-is
+            ∙ ap (λ (n : ℕ). take h.schema.window (record { number = n; kept = record { digest = lock.id.digest; part = block_name lock.id.partition lock.number } } ∷ counts.window)) k.counted.blocks
+            ∙ ap (λ (ks : List Placed). take h.schema.window (record { number = get_count h.log; kept = record { digest = lock.id.digest; part = block_name lock.id.partition lock.number } } ∷ ks)) k.counted.window
 
-        pub committed-tree : IsTableTree after more (record counts { clients = clients; blocks = blocks; kept = kept; numbers = numbers })
+        pub committed-tree : IsTableTree after more (record counts { clients = clients; blocks = blocks; window = window })
         committed-tree = record {
           held = held-held entry_bytes after (after_commit lock.id.partition lock.number lock.id.digest lock.replica need values (table_of h)) table same;
           counted = record {
@@ -164,22 +150,26 @@ module _ (h : Held) (tokens : List (Token Entry)) (counts : Counts) (k : IsTable
             workers = let c = k.counted.workers in let n = workers-next entry h.log in (omega (arith, c, n) ∙ ap worker_count (sym log-is));
             mutations = let c = k.counted.mutations in let n = mutations-next entry h.log in (omega (arith, c, n) ∙ ap mutation_count (sym log-is));
             blocks = let c = k.counted.blocks in let n = blocks-next entry h.log in (omega (arith, blocks-is, c, n) ∙ ap get_count (sym log-is));
-            kept = kept-count ∙ ap (λ (log : List Entry). length (in_order h.schema.window log)) (sym log-is);
-            numbers = λ p. numbers-are p ∙ ap (λ (log : List Entry). order_numbers log p) (sym log-is);
+            window = window-now ∙ ap (in_order h.schema.window) (sym log-is);
           };
           places = subst ArePlaced (sym more-is) (placed-more tokens token k.places (ap (λ (v : Token Entry). v.place) token-is ∙ ap length of ∙ length-entries tokens));
         }
 
 -- the ops that keep the id of a commit
-pub ids-of : (h : Held) {tokens : List (Token Entry)} {counts : Counts} (now : Held) → h ≡ now → IsTableTree h tokens counts → (lock : Lock) → with_id lock.id.partition lock.id.digest (in_order now.schema.window now.log) ≡ None
+pub ids-of : (h : Held) {tokens : List (Token Entry)} {counts : Counts} (now : Held) → h ≡ now → IsTableTree h tokens counts → (lock : Lock)
     → (part : Name) → part ≡ block_name lock.id.partition lock.number
-    → (window : ℕ) → window ≡ h.schema.window → (keep : List Op) → ((ks : List Placed) (count : ℕ) → HasKeptIds h.tree ks count → with_id lock.id.partition lock.id.digest ks ≡ None → counts.kept ≡ length ks → counts.kept ≤ window → keep ≡ keep_ops window ks lock.id.partition lock.id.digest part)
+    → (window : ℕ) → window ≡ h.schema.window → (keep : List Op) → keep ≡ keep_ops window counts.window lock.id.partition lock.id.digest part
     → keep ≡ keep_ops now.schema.window (in_order now.schema.window now.log) lock.id.partition lock.id.digest (block_name lock.id.partition lock.number)
-ids-of h {tokens} {counts} now q is lock new part part-is window window-is keep keep-is =
+ids-of h {tokens} {counts} now q is lock part part-is window window-is keep keep-is =
     subst (λ (w : Held). keep ≡ keep_ops w.schema.window (in_order w.schema.window w.log) lock.id.partition lock.id.digest (block_name lock.id.partition lock.number)) q
-    (keep-is (in_order h.schema.window h.log) (order_count h.schema.window h.log) (held-kept h is.held) (subst (λ (w : Held). with_id lock.id.partition lock.id.digest (in_order w.schema.window w.log) ≡ None) (sym q) new) is.counted.kept
-    (let a = is.counted.kept in let b = window-most h.schema.window h.log in omega (arith, a, b, window-is))
+    (keep-is
+    ∙ ap (λ (ks : List Placed). keep_ops window ks lock.id.partition lock.id.digest part) is.counted.window
     ∙ ap (λ (w : ℕ). keep_ops w (in_order h.schema.window h.log) lock.id.partition lock.id.digest part) window-is ∙ ap (keep_ops h.schema.window (in_order h.schema.window h.log) lock.id.partition lock.id.digest) part-is)
+
+-- the window with one more id, by equal parts
+pub window-as : (digest : List ℕ) (w v : ℕ) (a b : Name) (m n : ℕ) (js ks new : List Placed) → w ≡ v → a ≡ b → m ≡ n → js ≡ ks
+    → new ≡ take w (record { number = m; kept = record { digest = digest; part = a } } ∷ js) → new ≡ take v (record { number = n; kept = record { digest = digest; part = b } } ∷ ks)
+window-as digest w v a b m n js ks new e f g h is = is ∙ (λ i. take (e i) (record { number = g i; kept = record { digest = digest; part = f i } } ∷ h i))
 
 -- the ops of a commit, put together
 pub ops-of : (lock : Lock) (need : ℕ) (path : Names) → path ≡ znode_path (nodes.Lock lock.id.partition lock.number)
@@ -200,22 +190,30 @@ after-refusal old new lock (commit.Duplicate a) t u = u
 after-refusal old new lock (commit.LimitReached limit value) t u = u
 after-refusal old new lock commit.Memory t u = absurd t
 
--- a table to which nothing was written, with other room for the numbers of its blocks
-pub unwritten : (h : Held) (tokens : List (Token Entry)) (counts : Counts) → IsTableTree h tokens counts → h.log ≡ entries tokens → (all : List (Token Entry)) → all ≡ tokens → (tree : TreeView) → tree ≡ h.tree → (numbers : List NumbersOf) → ((p : Option ℕ) → numbers_of numbers p ≡ numbers_of counts.numbers p)
-    → IsTableTree (record h { log = entries all; tree = tree }) all (record counts { numbers = numbers })
-unwritten h tokens counts k logged all all-is tree tree-is numbers numbers-are =
-    subst (λ (ts : List (Token Entry)). IsTableTree (record h { log = entries ts; tree = tree }) ts (record counts { numbers = numbers })) (sym all-is)
-    (subst (λ (t : TreeView). IsTableTree (record h { log = entries tokens; tree = t }) tokens (record counts { numbers = numbers })) (sym tree-is)
-    (subst (λ (log : List Entry). IsTableTree (record h { log = log }) tokens (record counts { numbers = numbers })) logged
+-- a table to which nothing was written, whose window has other room
+pub unwritten : (h : Held) (tokens : List (Token Entry)) (counts : Counts) → IsTableTree h tokens counts → h.log ≡ entries tokens → (all : List (Token Entry)) → all ≡ tokens → (tree : TreeView) → tree ≡ h.tree
+    → (blocks : ℕ) → blocks ≡ counts.blocks → (window : List Placed) → window ≡ counts.window
+    → IsTableTree (record h { log = entries all; tree = tree }) all (record counts { blocks = blocks; window = window })
+unwritten h tokens counts k logged all all-is tree tree-is blocks blocks-is window window-is =
+    subst (λ (ts : List (Token Entry)). IsTableTree (record h { log = entries ts; tree = tree }) ts (record counts { blocks = blocks; window = window })) (sym all-is)
+    (subst (λ (t : TreeView). IsTableTree (record h { log = entries tokens; tree = t }) tokens (record counts { blocks = blocks; window = window })) (sym tree-is)
+    (subst (λ (log : List Entry). IsTableTree (record h { log = log }) tokens (record counts { blocks = blocks; window = window })) logged
     (record {
       held = k.held;
       counted = record {
         clients = k.counted.clients;
         workers = k.counted.workers;
         mutations = k.counted.mutations;
-        blocks = k.counted.blocks;
-        kept = k.counted.kept;
-        numbers = λ p. numbers-are p ∙ k.counted.numbers p;
+        blocks = blocks-is ∙ k.counted.blocks;
+        window = window-is ∙ k.counted.window;
       };
       places = k.places;
     })))
+
+-- there are fewer blocks than a u32 counts
+pub blocks-few : (h : Held) (tokens : List (Token Entry)) (counts : Counts) → IsTableTree h tokens counts → counts.blocks ≤ 65536
+blocks-few h tokens counts is =
+    let a = count_by-le-length is_get h.log in
+    let b = sound-length (table_of h) is.held.sound in
+    let c = is.counted.blocks in
+    omega (arith, a, b, c)

@@ -21,26 +21,25 @@ use Rattle.rmt_table_model.specs.Numbers.{Nexts, Holders, next_of, taken}
 use Rattle.rmt_table_model.specs.Kept.{Placed, outlives, in_order}
 use Rattle.rmt_table_model.specs.Tables.{TableView}
 use Rattle.rmt_table_model.specs.Changes.{MayDrop, after_drop}
-use Rattle.rmt_table_model.specs.Inserts.{HasNumbers, HasKeptIds, AreDropOps}
-use Rattle.rmt_table_model.specs.Nodes.{IsTable, AreLocks, order_count, number_ops, unlock_ops, forget_ops, pending_drop_ops, last_drop_ops, drop_ops}
+use Rattle.rmt_table_model.specs.Inserts.{HasNumbers, AreDropOps}
+use Rattle.rmt_table_model.specs.Nodes.{IsTable, AreLocks, number_ops, unlock_ops, forget_ops, pending_drop_ops, last_drop_ops, drop_ops}
 use Rattle.rmt_table_model.specs.Held.{Held, table_of, holders_in}
 use Rattle.rmt_znodes.specs.ZnodeStates.{Makes}
 use Rattle.rmt_table_model.specs.Steps.{Steps}
 use Rattle.rmt_table_model.proofs.NumberLemmas.{next-has}
 use Rattle.rmt_table_model.proofs.TableLemmas.{drop-steps}
 use Rattle.rmt_table_model.proofs.HeldLemmas.{held-table, held-held}
-use Rattle.rmt_partitions.specs.KeptNumbers.{NumbersOf, numbers_of}
 use Rattle.rmt_table.specs.SeenTable.{shown}
 use Rattle.rmt_table.proofs.NumberLemmas.{taken-same}
 use Rattle.rmt_table.proofs.CallBridge.{drop-bridge}
 use Rattle.rmt_events.specs.TableCalls.{DropsPartition}
 use Rattle.rmt_events.specs.TableRefusals.{NoDrop}
-use Rattle.rmt_table.specs.TableTrees.{table_at, Counts, ArePlaced, IsTableTree, next_token, order_numbers, Drops}
+use Rattle.rmt_table.specs.TableTrees.{table_at, Counts, ArePlaced, IsTableTree, next_token, Drops}
 use Rattle.rmt_table.specs.Causes.{change_cause}
 use Rattle.rmt_table.specs.declared.change_error.ChangeError.{ChangeError}
 use Rattle.rmt_table.specs.declared.change_error.ChangeError.TheVariants.{LimitReached, Memory}
 use Rattle.rmt_table.proofs.LookupLemmas.{lookup-same, number-where}
-use Rattle.rmt_table.proofs.HeldNodes.{held-numbers, held-kept}
+use Rattle.rmt_table.proofs.HeldNodes.{held-numbers}
 use Rattle.rmt_table.proofs.Appended.{clients-next, workers-next, mutations-next, blocks-next}
 use Rattle.rmt_table.proofs.ChangeLimits.{limit_error, no-error, error-limit, drop-free}
 
@@ -96,22 +95,13 @@ module _ (h : Held) (tokens : List (Token Entry)) (counts : Counts) (is : IsTabl
     pub drop-small : (next : Nexts) → next ≡ h.next → next_number next p + 1 < 2 ^ 32
     drop-small next e = let a = ap (λ (ns : Nexts). next_number ns p) e in let n = number-is in let l = few in omega (arith, a, n, l)
 
-    pub drop-forgets : (forgotten : ℕ) → ((ks : List Placed) (count : ℕ) → HasKeptIds h.tree ks count → forgotten + length (filter (outlives p number) ks) ≡ length ks)
-        → forgotten + length (filter (outlives p (next_number h.next p)) (in_order h.schema.window h.log)) ≡ counts.kept
-    drop-forgets forgotten f =
-        ap (λ (n : ℕ). forgotten + length (filter (outlives p n) (in_order h.schema.window h.log))) (sym number-is)
-        ∙ f (in_order h.schema.window h.log) (order_count h.schema.window h.log) (held-kept h is.held)
-        ∙ sym is.counted.kept
-
-    -- no more ids go than are kept
-    pub drop-fewer : (forgotten : ℕ) → ((ks : List Placed) (count : ℕ) → HasKeptIds h.tree ks count → forgotten + length (filter (outlives p number) ks) ≡ length ks) → forgotten ≤ counts.kept
-    drop-fewer forgotten f = let e = drop-forgets forgotten f in omega (arith, e)
-
     -- the ops, and the locks that they take away
-    module _ (ops : List Op) (told : (next : Nexts) (holders : Holders) (ks : List Placed) (count : ℕ) → HasNumbers h.tree next holders → HasKeptIds h.tree ks count → next_of next p ≡ Some number
-        → (removals : List Op) × AreDropOps holders ks p number removals × (ops ≡ number_ops p number ++ (removals ++ op.Create entry_path (entry_bytes (DropRange p number)) true None ∷ (pending_drop_ops p number h.quorum.pending ++ last_drop_ops p number h.quorum.last)))) where
+    module _ (ops : List Op) (told : (next : Nexts) (holders : Holders) → HasNumbers h.tree next holders → next_of next p ≡ Some number
+        → (removals : List Op) × AreDropOps holders counts.window p number removals × (ops ≡ number_ops p number ++ (removals ++ op.Create entry_path (entry_bytes (DropRange p number)) true None ∷ (pending_drop_ops p number h.quorum.pending ++ last_drop_ops p number h.quorum.last)))) where
       abbrev removals : (removals : List Op) × AreDropOps (holders_in h.tree) (in_order h.schema.window h.log) p number removals × (ops ≡ number_ops p number ++ (removals ++ op.Create entry_path (entry_bytes (DropRange p number)) true None ∷ (pending_drop_ops p number h.quorum.pending ++ last_drop_ops p number h.quorum.last)))
-      removals = told h.next (holders_in h.tree) (in_order h.schema.window h.log) (order_count h.schema.window h.log) (held-numbers h is.held) (held-kept h is.held) exists
+      removals =
+          let r = told h.next (holders_in h.tree) (held-numbers h is.held) exists in
+          (r.0, subst (λ (ks : List Placed). AreDropOps (holders_in h.tree) ks p number r.0) is.counted.window r.1, r.2)
 
       abbrev locks : List ℕ
       locks = AreDropOps.locks removals.1
@@ -149,18 +139,17 @@ module _ (h : Held) (tokens : List (Token Entry)) (counts : Counts) (is : IsTabl
         after-is : ◌≡◌ {A = TableView} (record (after_drop p (table_of h)) { holders = holders_in t }) (table_of new)
         after-is = refl
 
-        pub drop-kept : (all : List (Token Entry)) → ArePlaced all → (numbers : List NumbersOf) → ((q : Option ℕ) → numbers_of numbers q ≡ order_numbers (DropRange p (next_number h.next p) ∷ h.log) q) → (forgotten : ℕ) → forgotten + length (filter (outlives p (next_number h.next p)) (in_order h.schema.window h.log)) ≡ counts.kept
-            → IsTableTree (record h { log = log; next = next; quorum = waits; tree = t }) all (record { clients = counts.clients + 1; workers = counts.workers; mutations = counts.mutations; blocks = counts.blocks; kept = counts.kept - forgotten; numbers = numbers })
-        drop-kept all placed numbers numbers-are forgotten fewer = subst (λ (k : Held). IsTableTree k all (record { clients = counts.clients + 1; workers = counts.workers; mutations = counts.mutations; blocks = counts.blocks; kept = counts.kept - forgotten; numbers = numbers })) (sym new-is)
+        pub drop-kept : (all : List (Token Entry)) → ArePlaced all → (blocks : ℕ) → blocks ≡ counts.blocks → (window : List Placed) → window ≡ filter (outlives p number) counts.window
+            → IsTableTree (record h { log = log; next = next; quorum = waits; tree = t }) all (record { clients = counts.clients + 1; workers = counts.workers; mutations = counts.mutations; blocks = blocks; window = window })
+        drop-kept all placed blocks blocks-are window window-is = subst (λ (k : Held). IsTableTree k all (record { clients = counts.clients + 1; workers = counts.workers; mutations = counts.mutations; blocks = blocks; window = window })) (sym new-is)
             (record {
               held = held-held entry_bytes new (after_drop p (table_of h)) stepped after-is;
               counted = record {
                 clients = let a = clients-next (DropRange p (next_number h.next p)) h.log in let b = is.counted.clients in omega (arith, a, b);
                 workers = let a = workers-next (DropRange p (next_number h.next p)) h.log in let b = is.counted.workers in omega (arith, a, b);
                 mutations = let a = mutations-next (DropRange p (next_number h.next p)) h.log in let b = is.counted.mutations in omega (arith, a, b);
-                blocks = let a = blocks-next (DropRange p (next_number h.next p)) h.log in let b = is.counted.blocks in omega (arith, a, b);
-                kept = omega (arith, fewer);
-                numbers = numbers-are;
+                blocks = let a = blocks-next (DropRange p (next_number h.next p)) h.log in let b = is.counted.blocks in omega (arith, a, b, blocks-are);
+                window = window-is ∙ ap (filter (outlives p number)) is.counted.window ∙ ap (λ (n : ℕ). filter (outlives p n) (in_order h.schema.window h.log)) number-is;
               };
               places = placed;
             })

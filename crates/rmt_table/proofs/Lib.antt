@@ -14,7 +14,6 @@ pub mod HeldNodes
 pub mod Unlocked
 pub mod Allocated
 pub mod Appended
-pub mod OrderNumbers
 pub mod Committed
 pub mod Laid
 pub mod LengthLemmas

@@ -123,8 +123,8 @@ module _ (h : Held) (tokens : List (Token Entry)) (counts : Counts) (is : IsTabl
     stepped : IsTable entry_bytes t (after_mutation command (table_of h))
     stepped = subst (λ (u : TreeView). IsTable entry_bytes u (after_mutation command (table_of h))) (sym (t-is ∙ ap (after_all h.tree) ops-are)) (Steps.table (mutation-steps entry_bytes h.tree (table_of h) is.held command may))
 
-    pub mutation-kept : (all : List (Token Entry)) → ArePlaced all → IsTableTree (record h { log = log; next = next; tree = t }) all (record { clients = counts.clients + 1; workers = counts.workers; mutations = counts.mutations + 1; blocks = counts.blocks; kept = counts.kept; numbers = counts.numbers })
-    mutation-kept all placed = subst (λ (k : Held). IsTableTree k all (record { clients = counts.clients + 1; workers = counts.workers; mutations = counts.mutations + 1; blocks = counts.blocks; kept = counts.kept; numbers = counts.numbers })) (sym new-is)
+    pub mutation-kept : (all : List (Token Entry)) → ArePlaced all → IsTableTree (record h { log = log; next = next; tree = t }) all (record { clients = counts.clients + 1; workers = counts.workers; mutations = counts.mutations + 1; blocks = counts.blocks; window = counts.window })
+    mutation-kept all placed = subst (λ (k : Held). IsTableTree k all (record { clients = counts.clients + 1; workers = counts.workers; mutations = counts.mutations + 1; blocks = counts.blocks; window = counts.window })) (sym new-is)
         (record {
           held = held-held entry_bytes new (after_mutation command (table_of h)) stepped refl;
           counted = record {
@@ -132,8 +132,7 @@ module _ (h : Held) (tokens : List (Token Entry)) (counts : Counts) (is : IsTabl
             workers = let a = workers-next (Mutation (mutation_count h.log) h.next command) h.log in let b = is.counted.workers in omega (arith, a, b);
             mutations = let a = mutations-next (Mutation (mutation_count h.log) h.next command) h.log in let b = is.counted.mutations in omega (arith, a, b);
             blocks = let a = blocks-next (Mutation (mutation_count h.log) h.next command) h.log in let b = is.counted.blocks in omega (arith, a, b);
-            kept = is.counted.kept;
-            numbers = is.counted.numbers;
+            window = is.counted.window;
           };
           places = placed;
         })

@@ -22,15 +22,15 @@ use Rattle.rmt_table_model.specs.Steps.{Steps}
 use Rattle.rmt_table_model.proofs.HeldLemmas.{held-table, held-held}
 use Rattle.rmt_table_model.proofs.NewLemmas.{new-steps}
 use Rattle.rmt_table.specs.SeenTable.{opened_from, shown}
-use Rattle.rmt_partitions.specs.KeptNumbers.{NumbersOf}
+use Rattle.rmt_table_model.specs.Kept.{Placed}
 use Rattle.rmt_table.specs.TableTrees.{table_at, Counts, IsTableTree}
 
 -- what is kept of a new table, in this tree
 abbrev pub new_held : Shape → ℕ → TreeView → Held
 new_held schema count t = record { schema = schema; log = []; next = []; sessions = replicate count None; pulled = replicate count 0; quorum = record { pending = None; last = None }; values = 0; tree = t }
 
-abbrev pub no_counts : List NumbersOf → Counts
-no_counts numbers = record { clients = 0; workers = 0; mutations = 0; blocks = 0; kept = 0; numbers = numbers }
+abbrev pub no_counts : ℕ → List Placed → Counts
+no_counts blocks window = record { clients = 0; workers = 0; mutations = 0; blocks = blocks; window = window }
 
 -- an empty list that has grown to a length
 pub resized : {A : Type 0} (xs ys : List A) (n k m : ℕ) (a : A) → ys ≡ [] → k ≡ 0 → n ≡ m → xs ≡ take n ys ++ replicate (n - k) a → xs ≡ replicate m a
@@ -65,16 +65,22 @@ module _ (schema : Shape) (count : ℕ) (few : count ≤ 8) (t : TreeView) (ops 
         ∙ ap (λ (xs : List (Option ℕ)). record (new_held schema count t) { log = entries tokens; next = next; sessions = xs }) (sym sessions-are)
         ∙ ap (λ (xs : List ℕ). record (new_held schema count t) { log = entries tokens; next = next; sessions = sessions; pulled = xs }) (sym pulled-are)
 
-    new-none : IsTableTree (new_held schema count t) [] (no_counts [])
+    new-none : IsTableTree (new_held schema count t) [] (no_counts 0 [])
     new-none = record {
       held = held-held entry_bytes (new_held schema count t) (new_table schema count) new-stepped refl;
-      counted = record { clients = refl; workers = refl; mutations = refl; blocks = refl; kept = refl; numbers = λ p. refl };
+      counted = record { clients = refl; workers = refl; mutations = refl; blocks = refl; window = refl };
       places = λ i x e. absurd (cc);
     }
 
-    pub new-kept : (quorum : Quorum) → quorum ≡ record { pending = None; last = None } → (numbers : List NumbersOf) → numbers ≡ [] → IsTableTree (record { schema = schema; log = entries tokens; next = next; sessions = sessions; pulled = pulled; quorum = quorum; values = 0; tree = t }) tokens (no_counts numbers)
-    new-kept quorum no-quorum numbers no-numbers = subst (λ (q : Quorum). IsTableTree (record { schema = schema; log = entries tokens; next = next; sessions = sessions; pulled = pulled; quorum = q; values = 0; tree = t }) tokens (no_counts numbers)) (sym no-quorum) (subst (λ (ns : List NumbersOf). IsTableTree (record { schema = schema; log = entries tokens; next = next; sessions = sessions; pulled = pulled; quorum = record { pending = None; last = None }; values = 0; tree = t }) tokens (no_counts ns)) (sym no-numbers)
-        (subst (λ (h : Held). IsTableTree h tokens (no_counts [])) new-same (subst (λ (xs : List (Token Entry)). IsTableTree (new_held schema count t) xs (no_counts [])) (sym no-tokens) new-none)))
+    abbrev new_table_held : Quorum → Held
+    new_table_held q = record { schema = schema; log = entries tokens; next = next; sessions = sessions; pulled = pulled; quorum = q; values = 0; tree = t }
+
+    pub new-kept : (quorum : Quorum) → quorum ≡ record { pending = None; last = None } → (blocks : ℕ) → blocks ≡ 0 → (window : List Placed) → window ≡ [] → IsTableTree (record { schema = schema; log = entries tokens; next = next; sessions = sessions; pulled = pulled; quorum = quorum; values = 0; tree = t }) tokens (no_counts blocks window)
+    new-kept quorum no-quorum blocks no-blocks window no-window =
+        subst (λ (q : Quorum). IsTableTree (new_table_held q) tokens (no_counts blocks window)) (sym no-quorum)
+        (subst (λ (n : ℕ). IsTableTree (new_table_held (record { pending = None; last = None })) tokens (no_counts n window)) (sym no-blocks)
+        (subst (λ (ks : List Placed). IsTableTree (new_table_held (record { pending = None; last = None })) tokens (no_counts 0 ks)) (sym no-window)
+        (subst (λ (h : Held). IsTableTree h tokens (no_counts 0 [])) new-same (subst (λ (xs : List (Token Entry)). IsTableTree (new_held schema count t) xs (no_counts 0 [])) (sym no-tokens) new-none))))
 
     pub new-shown : (quorum : Quorum) → quorum ≡ record { pending = None; last = None } → table_at (record { schema = schema; log = entries tokens; next = next; sessions = sessions; pulled = pulled; quorum = quorum; values = 0; tree = t }) ≡ starts.new_table schema []
     new-shown quorum no-quorum =

@@ -107,7 +107,7 @@ module _ (h : Held) (tokens : List (Token Entry)) (counts : Counts) (is : IsTabl
       pub noted-tree : IsTableTree noted_held tokens counts
       noted-tree = record {
         held = held-held entry_bytes noted_held (after_note r (table_of h)) table after-is;
-        counted = record { clients = is.counted.clients; workers = is.counted.workers; mutations = is.counted.mutations; blocks = is.counted.blocks; kept = is.counted.kept; numbers = is.counted.numbers };
+        counted = record { clients = is.counted.clients; workers = is.counted.workers; mutations = is.counted.mutations; blocks = is.counted.blocks; window = is.counted.window };
         places = is.places;
       }
 

@@ -86,7 +86,7 @@ module _ (h : Held) (tokens : List (Token Entry)) (counts : Counts) (is : IsTabl
     pub pull-kept : IsTableTree (record h { pulled = set h.pulled (at - 1) len; tree = t }) tokens counts
     pull-kept = subst (λ (k : Held). IsTableTree k tokens counts) pull-moved (record {
       held = held-held entry_bytes (record h { pulled = set h.pulled (r - 1) (length h.log); tree = t }) (after_pull (r - 1) (table_of h)) pull-stepped refl;
-      counted = record { clients = is.counted.clients; workers = is.counted.workers; mutations = is.counted.mutations; blocks = is.counted.blocks; kept = is.counted.kept; numbers = is.counted.numbers };
+      counted = record { clients = is.counted.clients; workers = is.counted.workers; mutations = is.counted.mutations; blocks = is.counted.blocks; window = is.counted.window };
       places = is.places;
     })
 

@@ -159,7 +159,7 @@ module _ (h : Held) (tokens : List (Token Entry)) (counts : Counts) (is : IsTabl
         pub open-kept : IsTableTree (record h { sessions = set h.sessions (at - 1) (Some n); tree = t }) tokens counts
         open-kept = subst (λ (k : Held). IsTableTree k tokens counts) open-moved (record {
           held = held-held entry_bytes (record h { sessions = set h.sessions (r - 1) (Some n); tree = t }) (after_open (r - 1) n (table_of h)) open-stepped refl;
-          counted = record { clients = is.counted.clients; workers = is.counted.workers; mutations = is.counted.mutations; blocks = is.counted.blocks; kept = is.counted.kept; numbers = is.counted.numbers };
+          counted = record { clients = is.counted.clients; workers = is.counted.workers; mutations = is.counted.mutations; blocks = is.counted.blocks; window = is.counted.window };
           places = is.places;
         })
 
@@ -204,7 +204,7 @@ module _ (h : Held) (tokens : List (Token Entry)) (counts : Counts) (is : IsTabl
     pub close-kept : IsTableTree (record h { sessions = set h.sessions (at - 1) None; tree = t }) tokens counts
     close-kept = subst (λ (k : Held). IsTableTree k tokens counts) close-moved (record {
       held = held-held entry_bytes (record h { sessions = set h.sessions (r - 1) None; tree = t }) (after_close (r - 1) s (table_of h)) close-stepped refl;
-      counted = record { clients = is.counted.clients; workers = is.counted.workers; mutations = is.counted.mutations; blocks = is.counted.blocks; kept = is.counted.kept; numbers = is.counted.numbers };
+      counted = record { clients = is.counted.clients; workers = is.counted.workers; mutations = is.counted.mutations; blocks = is.counted.blocks; window = is.counted.window };
       places = is.places;
     })
 

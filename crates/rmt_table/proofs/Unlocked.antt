@@ -36,7 +36,7 @@ read-is (Some x) (Some m) e = refl
 
 -- the counts are those of a table with another tree
 pub recounted : (h : Held) (counts : Counts) (t : TreeView) → AreCounts h counts → AreCounts (record h { tree = t }) counts
-recounted h counts t c = record { clients = c.clients; workers = c.workers; mutations = c.mutations; blocks = c.blocks; kept = c.kept; numbers = c.numbers }
+recounted h counts t c = record { clients = c.clients; workers = c.workers; mutations = c.mutations; blocks = c.blocks; window = c.window }
 
 module _ (h : Held) (tokens : List (Token Entry)) (counts : Counts) (k : IsTableTree h tokens counts) (now : Held) (e : h ≡ now) (p : Option ℕ) (n : ℕ) (znode : IsZnode (Lock p n)) (path : Names) (at : path ≡ znode_path (Lock p n))
     (found : Option (Bor (List ℕ) × ℕ)) (get : option_map lent_data found ≡ option_map value_and_version (node_at h.tree path)) (b : Bool) (test : is_some found ≡ not b) where

@@ -20,7 +20,7 @@ use Rattle.rmt_table_model.specs.Held.{Held, table_of}
 use Rattle.rmt_table_model.specs.Steps.{Steps}
 use Rattle.rmt_table_model.proofs.HeldLemmas.{held-table, held-held}
 use Rattle.rmt_table.specs.SeenTable.{shown}
-use Rattle.rmt_table.specs.TableTrees.{Counts, order_numbers, IsTableTree, IsCopyOf, table_at, next_token, entry_ops}
+use Rattle.rmt_table.specs.TableTrees.{Counts, IsTableTree, IsCopyOf, table_at, next_token, entry_ops}
 use Rattle.rmt_table.proofs.PrefixLemmas.{prefix-whole, prefix-length}
 use Rattle.rmt_table.proofs.LengthLemmas.{tokens-few}
 use Rattle.rmt_table.proofs.Appended.{clients-next, workers-next, mutations-next, blocks-next}
@@ -47,7 +47,7 @@ short-copy h tokens counts logged is len here q l = let k = tokens-few h tokens 
 -- an entry that isn't a client's, and what its multi makes of the table
 module _ (h : Held) (tokens : List (Token Entry)) (logged : h.log ≡ entries tokens) (counts : Counts) (is : IsTableTree h tokens counts) (e : Entry)
     (worker : is_client e ≡ false) (other : is_mutation e ≡ false) (window : in_order h.schema.window (e ∷ h.log) ≡ in_order h.schema.window h.log)
-    (no-block : is_get e ≡ false) (accepted : (p : Option ℕ) → order_numbers (e ∷ h.log) p ≡ order_numbers h.log p)
+    (no-block : is_get e ≡ false)
     (steps : Steps entry_bytes h.tree (entry_ops e) (record (table_of h) { log = e ∷ h.log }))
     (t : Token Entry) (t-is : t ≡ record { place = length tokens; value = e; cell = length tokens })
     (more : List (Token Entry)) (more-is : more ≡ tokens ++ t ∷ []) (tree : TreeView) (tree-is : tree ≡ after_all h.tree (entry_ops e)) where
@@ -73,8 +73,7 @@ module _ (h : Held) (tokens : List (Token Entry)) (logged : h.log ≡ entries to
       workers = ap (λ (n : ℕ). n + 1) is.counted.workers ∙ one-more;
       mutations = is.counted.mutations ∙ no-mutation;
       blocks = is.counted.blocks ∙ no-more;
-      kept = is.counted.kept ∙ ap (λ xs. length xs) (sym window);
-      numbers = λ p. is.counted.numbers p ∙ sym (accepted p);
+      window = is.counted.window ∙ sym window;
     };
     places = placed-snoc tokens more t more-is (ap (λ (u : Token Entry). u.place) t-is) is.places;
   }

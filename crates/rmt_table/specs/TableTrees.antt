@@ -9,8 +9,7 @@ use Rattle.rmt_entries.specs.declared.entry.Entry.TheVariants.{Get, Merge, Mutat
 use Rattle.rmt_entries.specs.EntryBytes.{entry_bytes}
 use Rattle.rmt_model.specs.Lawful.{IsPrefix, mutation_count}
 use Rattle.rmt_model.specs.EntryLimits.{client_count, worker_count}
-use Rattle.rmt_table_model.specs.Kept.{in_order, get_count}
-use Rattle.rmt_partitions.specs.KeptNumbers.{NumbersOf, numbers_of}
+use Rattle.rmt_table_model.specs.Kept.{Placed, in_order, get_count}
 use Rattle.rmt_table_model.specs.Tables.{session_of}
 use Rattle.rmt_table_model.specs.Held.{Held, IsHeld, table_of, holders_in}
 use Rattle.std.specs.Fmt.{decimal}
@@ -40,24 +39,13 @@ pub record IsReplica (h : Held) (r : ℕ) : Type 0 where
   pub first : 1 ≤ r
   pub last : r ≤ length h.sessions
 
--- the numbers that the blocks of p got in the order of acceptance since its last drop, rising
-abbrev pub order_numbers : List Entry → Option ℕ → List ℕ
-order_numbers [] p = []
-order_numbers (Get q n digest source need ∷ log) p = cond (nat_eq (rank q) (rank p)) (order_numbers log p ++ get_count log ∷ []) (order_numbers log p)
-order_numbers (Merge new sources count ∷ log) p = order_numbers log p
-order_numbers (Mutate old new upto count mcount ∷ log) p = order_numbers log p
-order_numbers (Mutation id numbers command ∷ log) p = order_numbers log p
-order_numbers (DropRange q n ∷ log) p = cond (nat_eq (rank q) (rank p)) [] (order_numbers log p)
-
--- how many entries of clients, of workers, of mutations and of blocks the log has, how many ids are kept, and for each
--- partition the numbers of its blocks in their order
+-- how many entries of clients, of workers, of mutations and of blocks the log has, and the kept ids
 pub record Counts : Type 0 where
   pub clients : ℕ
   pub workers : ℕ
   pub mutations : ℕ
   pub blocks : ℕ
-  pub kept : ℕ
-  pub numbers : List NumbersOf
+  pub window : List Placed
 
 -- they are those of the log
 pub record AreCounts (h : Held) (counts : Counts) : Type 0 where
@@ -65,8 +53,7 @@ pub record AreCounts (h : Held) (counts : Counts) : Type 0 where
   pub workers : counts.workers ≡ worker_count h.log
   pub mutations : counts.mutations ≡ mutation_count h.log
   pub blocks : counts.blocks ≡ get_count h.log
-  pub kept : counts.kept ≡ length (in_order h.schema.window h.log)
-  pub numbers : (p : Option ℕ) → numbers_of counts.numbers p ≡ order_numbers h.log p
+  pub window : counts.window ≡ in_order h.schema.window h.log
 
 -- each token is at its place
 abbrev pub ArePlaced : List (Token Entry) → Type 0
@@ -163,7 +150,3 @@ pub record IsMutateOf (old : Held) (part : Name) (upto : ℕ) (token : Token Ent
   pub token_is : token ≡ next_token old (Mutate part name upto count mcount)
   pub seen : AssignsMutate (table_at old) part name upto count mcount (table_at new)
   pub tree : new.tree ≡ after_all old.tree (entry_ops (Mutate part name upto count mcount))
-
--- how many ids are kept after one more block, where a window of this size had so many
-abbrev pub kept_after : ℕ → ℕ → ℕ
-kept_after kept window = cond (nat_lt kept window) (kept + 1) kept

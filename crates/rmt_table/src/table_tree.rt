@@ -24,7 +24,8 @@ mod sessions;
 use crate::layout::new_ops;
 use crate::ops::multi;
 use rmt_history::TableLog;
-use rmt_partitions::{KeptNumbers, Partitions};
+use rmt_inserts::Window;
+use rmt_partitions::Partitions;
 use rmt_quorum::QuorumState;
 use rmt_tree::Tree;
 use rmt_values::{ReplicaId, Schema};
@@ -52,12 +53,8 @@ pub struct TableTree {
     workers: u32,
     /// How many mutations the log has.
     mutations: u32,
-    /// How many blocks the log has.
-    blocks: u32,
-    /// How many ids are kept.
-    kept: u32,
-    /// The numbers that the blocks of each partition got in the order of acceptance since its last drop.
-    numbers: KeptNumbers,
+    /// The ids of the blocks accepted last, as the tree has them too.
+    window: Window,
     tree: Tree,
 }
 
@@ -76,7 +73,7 @@ impl Model for TableTree {
 
     ghost view = { λ t. record { schema = arc_value t.schema; log = entries t.log; next = t.partitions.numbers; sessions = t.sessions.items; pulled = t.pulled.items; quorum = t.quorum; values = t.values; tree = t.tree } };
 
-    ghost invariant = { λ t. IsTableTree (record { schema = arc_value t.schema; log = entries t.log; next = t.partitions.numbers; sessions = t.sessions.items; pulled = t.pulled.items; quorum = t.quorum; values = t.values; tree = t.tree }) t.log (record { clients = t.clients; workers = t.workers; mutations = t.mutations; blocks = t.blocks; kept = t.kept; numbers = t.numbers }) };
+    ghost invariant = { λ t. IsTableTree (record { schema = arc_value t.schema; log = entries t.log; next = t.partitions.numbers; sessions = t.sessions.items; pulled = t.pulled.items; quorum = t.quorum; values = t.values; tree = t.tree }) t.log (record { clients = t.clients; workers = t.workers; mutations = t.mutations; blocks = t.window.count; window = t.window.placed }) };
 }
 
 impl TableTree {
@@ -111,9 +108,7 @@ impl TableTree {
             clients: 0,
             workers: 0,
             mutations: 0,
-            blocks: 0,
-            kept: 0,
-            numbers: KeptNumbers::new(alloc),
+            window: Window::new(alloc),
             tree,
         })
     }

@@ -25,11 +25,11 @@ use Rattle.rmt_table_model.specs.Changes.{after_commit, after_abandon, MayCommit
 use Rattle.std.specs.Prelude.{take}
 use Rattle.rmt_table_model.specs.Kept.{Placed, in_order, get_count, with_id, Differ, IsIdZnode, AreKept}
 use Rattle.std.proofs.lemmas.List.{nil_from_length}
-use Rattle.rmt_table_model.specs.Nodes.{plain, counting, owned, status_text, numbered_of, order_count, expected, noted_count, met_count, version_limits, IsTreeOf, kept_states, keep_ops, status_ops, commit_ops}
+use Rattle.rmt_table_model.specs.Nodes.{plain, counting, owned, status_text, numbered_of, order_count, expected, noted_count, met_count, version_limits, IsTreeOf, keep_ops, status_ops, commit_ops}
 use Rattle.rmt_table_model.proofs.NodeLemmas.{does-as, makes-one}
 use Rattle.rmt_table_model.proofs.StepNodes.{lock-znode, unlocks, appends, appended, no-entry}
 use Rattle.rmt_table_model.proofs.KeptLemmas.{placed, gets-next, in_order-most}
-use Rattle.rmt_table_model.proofs.KeptNodes.{makes-append, keeps}
+use Rattle.rmt_table_model.proofs.KeptNodes.{kept_states, makes-append, keeps}
 
 -- a block is kept, whatever the window
 pub keep-any : (t : TreeView) (w : ℕ) (ks : List Placed) (gets : ℕ) (p : Option ℕ) (digest : List ℕ) (part : Name) (states : ZnodeStates) (limits : Limits) → HasZnodes t (kept_states ks (numbered_of w gets) states) limits → Pairwise Differ ks → Each IsIdZnode ks → Each (λ k. k.number < gets) ks → length ks ≤ w → gets < 4294967295

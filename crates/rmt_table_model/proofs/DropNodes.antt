@@ -33,11 +33,11 @@ use Rattle.rmt_znodes.proofs.ZnodeStateLemmas.{same-znode, znode-itself, has_zno
 use Rattle.rmt_tree.specs.Trees.{Node, node_at}
 use Rattle.rmt_model.proofs.Lists.{Each-all}
 use Rattle.rmt_model.specs.Quorum.{is_dropped_by, pending_after_drop, last_after_drop}
-use Rattle.rmt_table_model.specs.Nodes.{plain, counting, owned, status_text, numbered_of, order_count, expected, noted_count, met_count, version_limits, IsTreeOf, kept_states, forget_ops, number_ops, unlock_ops, pending_drop_ops, last_drop_ops, drop_ops, lock_states, AreLocks}
+use Rattle.rmt_table_model.specs.Nodes.{plain, counting, owned, status_text, numbered_of, order_count, expected, noted_count, met_count, version_limits, IsTreeOf, forget_ops, number_ops, unlock_ops, pending_drop_ops, last_drop_ops, drop_ops, lock_states, AreLocks}
 use Rattle.rmt_table_model.proofs.NodeLemmas.{does-as, makes-one, next-taken, not-locked}
 use Rattle.rmt_table_model.proofs.StepNodes.{unlocks, appends, appended, no-entry}
 use Rattle.rmt_table_model.proofs.KeptLemmas.{gets-next}
-use Rattle.rmt_table_model.proofs.KeptNodes.{makes-append, forgets}
+use Rattle.rmt_table_model.proofs.KeptNodes.{kept_states, makes-append, forgets}
 
 -- the nodes with this pending part in place of their own
 abbrev status_states : Option Pending → ZnodeStates → ZnodeStates

@@ -23,9 +23,17 @@ use Rattle.std.proofs.lemmas.List.{append-nil, append_assoc, take_all}
 use Rattle.std.specs.List.{filter}
 use Rattle.std.specs.Prelude.{take}
 use Rattle.rmt_table_model.specs.Kept.{Placed, outlives, has_id, with_id, with_number, Differ, IsIdZnode}
-use Rattle.rmt_table_model.specs.Nodes.{plain, counting, kept_states, oldest, leave_ops, keep_ops, forget_ops}
+use Rattle.rmt_table_model.specs.Nodes.{plain, counting, oldest, leave_ops, keep_ops, forget_ops}
 use Rattle.rmt_table_model.proofs.NodeLemmas.{does-as, makes-one}
 use Rattle.rmt_table_model.proofs.KeptLemmas.{placed, id-without, number-without, id-found, number-found, number-none, split-last, new-differs}
+
+-- the nodes with those of the kept blocks in place of their own: c were numbered
+abbrev pub kept_states : List Placed → ℕ → ZnodeStates → ZnodeStates
+kept_states ks c states Blocks = Some (plain [])
+kept_states ks c states (Block p digest) = option_map (λ k. plain (text_of k.kept.part)) (with_id p digest ks)
+kept_states ks c states Order = Some (counting c)
+kept_states ks c states (OrderOf i) = option_map (λ k. plain (id_text k.kept.part.partition k.kept.digest)) (with_number i ks)
+kept_states ks c states y = states y
 
 -- ops, and then others
 pub makes-append : (t : TreeView) (xs ys : List Op) (f g : ZnodeStates) (l m : Limits) → Makes t xs f l → (HasZnodes (after_all t xs) f l → Makes (after_all t xs) ys g m) → Makes t (xs ++ ys) g m

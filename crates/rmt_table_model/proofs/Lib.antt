@@ -13,6 +13,5 @@ pub mod NoteNodes
 pub mod TableLemmas
 pub mod HeldLemmas
 pub mod StartNodes
-pub mod ReadLemmas
 pub mod UndoneLemmas
 pub mod NewLemmas

@@ -1,4 +1,4 @@
--- What the nodes of a tree have of a table's block numbers and of its kept ids, whatever else it has.
+-- What the nodes of a tree have of a table's block numbers, whatever else it has, and what is told of kept ids.
 -- ClickHouse documentation, Data Replication: block numbers, and the checksums of the blocks inserted last.
 use Rattle.std.specs.Prelude.{◌≡◌, ℕ, ◌<◌, ◌≤◌, List, [], ◌++◌}
 use Rattle.std.specs.declared.option.Option.{Option}
@@ -13,7 +13,7 @@ use Rattle.rmt_znodes.specs.ZnodeStates.{ZnodeStates, Limits, HasZnodes}
 use Rattle.rmt_table_model.specs.Numbers.{Nexts, Holders, IsLocked, IsPast, AreNexts}
 use Rattle.rmt_table_model.specs.Kept.{Placed, Differ, IsIdZnode, with_id}
 use Rattle.rmt_tree.specs.declared.op.Op.{Op}
-use Rattle.rmt_table_model.specs.Nodes.{plain, kept_states, next_states, lock_states, unlock_ops, forget_ops, AreLocks}
+use Rattle.rmt_table_model.specs.Nodes.{plain, next_states, lock_states, unlock_ops, forget_ops, AreLocks}
 
 -- the node above the partitions is there; the partitions that exist are these, each with the number that it gives next, and the locks are these
 pub record HasNumbers (t : TreeView) (next : Nexts) (holders : Holders) : Type 0 where
@@ -25,21 +25,6 @@ pub record HasNumbers (t : TreeView) (next : Nexts) (holders : Holders) : Type 0
   pub partitions : (p : Option ℕ) (m : ℕ) → Has next (p, m) → IsPartition p
   pub numbers : (p : Option ℕ) (m : ℕ) → Has next (p, m) → m ≤ 65536
   pub given : (p : Option ℕ) (n : ℕ) → IsLocked holders p n → IsPast next p n
-
--- a kept id is one that a block may have, with a part that has a name, and its number in the order is below this one
-pub record IsKeptBelow (count : ℕ) (k : Placed) : Type 0 where
-  pub id : IsIdZnode k
-  pub name : IsName k.kept.part
-  pub below : k.number < count
-
--- the kept ids are these, the newest first, of so many that were kept so far
-pub record HasKeptIds (t : TreeView) (ks : List Placed) (count : ℕ) : Type 0 where
-  pub states : ZnodeStates
-  pub limits : Limits
-  pub nodes : HasZnodes t (kept_states ks count states) limits
-  pub differ : Pairwise Differ ks
-  pub each : Each (IsKeptBelow count) ks
-  pub small : count ≤ 65536
 
 -- the part that the block with this id got, where the id is kept
 abbrev pub part_of : Option ℕ → List ℕ → List Placed → Option Name

@@ -131,14 +131,6 @@ take_ops p s next = partition_ops p next ++ op.Create (lock_path p) [] true (Som
 abbrev pub allocate_ops : Option ℕ → ℕ → TableView → List Op
 allocate_ops p s v = take_ops p s (next_of v.next p)
 
--- the nodes with those of the kept blocks in place of their own: c were numbered
-abbrev pub kept_states : List Placed → ℕ → ZnodeStates → ZnodeStates
-kept_states ks c states Blocks = Some (plain [])
-kept_states ks c states (Block p digest) = option_map (λ k. plain (text_of k.kept.part)) (with_id p digest ks)
-kept_states ks c states Order = Some (counting c)
-kept_states ks c states (OrderOf i) = option_map (λ k. plain (id_text k.kept.part.partition k.kept.digest)) (with_number i ks)
-kept_states ks c states y = states y
-
 -- the kept block that has to leave so that at most suc w stay: the last of suc w or more
 abbrev pub oldest : List Placed → Option Placed
 oldest [] = None

@@ -85,7 +85,7 @@ impl TableTree {
         if let Some(error) = self.quorum_refusal(need) {
             return Err(AllocateError::of_quorum(error));
         }
-        if let Some(part) = kept(&self.tree, alloc, id)? {
+        if let Some(part) = kept(&self.window, id) {
             return Err(AllocateError::Duplicate(part));
         }
         if self.clients >= 32_768 {

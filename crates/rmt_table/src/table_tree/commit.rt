@@ -12,7 +12,7 @@ ghost use Rattle.rmt_events.specs.TableRefusals.{HasQuorum};
 ghost use Rattle.rmt_table_model.specs.Held.{table_of, holders_in};
 ghost use Rattle.rmt_table_model.specs.Numbers.{IsLocked as IsHeldBy};
 ghost use Rattle.rmt_table_model.specs.Nodes.{commit_ops as commit_ops_of, keep_ops as keep_ops_of, status_ops};
-ghost use Rattle.rmt_table.specs.TableTrees.{table_at, IsReplica, AfterNoCommit, kept_after as kept_after_of};
+ghost use Rattle.rmt_table.specs.TableTrees.{table_at, IsReplica, AfterNoCommit};
 ghost use Rattle.rmt_table.specs.Causes.{commit_cause};
 ghost use Rattle.rmt_table.specs.Refusals.{NoCommit, IsAcceptable, TakesLock};
 
@@ -29,13 +29,6 @@ use rmt_tree::{Op, Path};
 use rmt_values::Limit;
 use rmt_znodes::{Znode, is_id};
 use std::alloc::{AllocError, Global};
-
-/// How many ids are kept after one more block, where a window of this size had so many.
-fn kept_after(kept: u32, window: u32) -> u32
-    ensures { result ≡ kept_after_of kept window }
-{
-    if kept < window { kept + 1 } else { kept }
-}
 
 /// The entry of the block of a lock.
 fn entry_of(lock: &Lock, need: u32) -> Entry
@@ -82,7 +75,7 @@ impl TableTree {
         if let Some(error) = self.quorum_refusal(need) {
             return Ok(Some(CommitError::of_quorum(error)));
         }
-        if let Some(part) = kept(&self.tree, alloc, &lock.id)? {
+        if let Some(part) = kept(&self.window, &lock.id) {
             return Ok(Some(CommitError::Duplicate(part)));
         }
         if self.clients >= 32_768 {
@@ -110,7 +103,6 @@ impl TableTree {
     ) -> Result<Vec<Op>, AllocError>
         requires path { path ≡ znode_path (ZnodeOf.Lock lock.now.id.partition lock.now.number) }
         requires in_range { EntryInRange (Get lock.now.id.partition lock.now.number lock.now.id.digest lock.now.replica need) }
-        requires unkept { with_id lock.now.id.partition lock.now.id.digest (in_order self.now.schema.window self.now.log) ≡ None }
         ensures { IfOk result (λ ops. ops.items ≡ op.Delete (znode_path (ZnodeOf.Lock lock.now.id.partition lock.now.number)) None ∷ op.Create entry_path (entry_bytes (Get lock.now.id.partition lock.now.number lock.now.id.digest lock.now.replica need)) true None ∷ (keep_ops_of self.now.schema.window (in_order self.now.schema.window self.now.log) lock.now.id.partition lock.now.id.digest (block_name_of lock.now.id.partition lock.now.number) ++ status_ops (block_name_of lock.now.id.partition lock.now.number) need)) }
     {
         let mut ops = block_ops(alloc, lock, path, need)?;
@@ -123,18 +115,11 @@ impl TableTree {
 
     /// The operations that keep the id of the block of a lock. At an error no memory was left.
     fn id_ops(&self, alloc: Global, lock: &Lock) -> Result<Vec<Op>, AllocError>
-        requires unkept { with_id lock.now.id.partition lock.now.id.digest (in_order self.now.schema.window self.now.log) ≡ None }
         ensures { IfOk result (λ ops. ops.items ≡ keep_ops_of self.now.schema.window (in_order self.now.schema.window self.now.log) lock.now.id.partition lock.now.id.digest (block_name_of lock.now.id.partition lock.now.number)) }
     {
         let part = block_name(lock.id.partition, lock.number);
-        let keep = keep_ops(
-            &self.tree,
-            alloc,
-            &lock.id,
-            &part,
-            self.schema.window(),
-            self.kept,
-        )?;
+        let window = self.schema.window();
+        let keep = keep_ops(&self.window, alloc, &lock.id, &part, window)?;
         Ok(keep)
     }
 
@@ -203,16 +188,14 @@ impl TableTree {
     {
         is_id(&lock.id);
         let ops = self.commit_ops(alloc, lock, path, need)?;
-        self.numbers.reserve(alloc, lock.id.partition)?;
+        self.window.reserve()?;
         let entry = entry_of(lock, need);
         let token = append(&mut self.tree, &mut self.log, alloc, &ops, entry)?;
-        self.numbers.push(lock.id.partition, self.blocks);
         let part = block_name(lock.id.partition, lock.number);
+        self.window.keep(lock.id, part, self.schema.window());
         self.quorum.open(alloc, part, need);
         self.clients += 1;
-        self.blocks += 1;
         self.values += values;
-        self.kept = kept_after(self.kept, self.schema.window());
         Ok(token)
     }
 }

@@ -1,4 +1,4 @@
-ghost use Rattle.std.specs.Prelude.{◌≡◌, ◌<◌, ◌+◌, ◌∷◌, ◌++◌, [], ℕ, List, length, filter, true, None, Some, IfOk, IfErr, IfSome, OnErr};
+ghost use Rattle.std.specs.Prelude.{◌≡◌, ◌∷◌, ◌++◌, [], ℕ, List, length, true, None, Some, IfOk, IfErr, IfSome, OnErr};
 ghost use Rattle.std.specs.Option.{option_map};
 ghost use Rattle.std.specs.declared.option.Option.{Option};
 ghost use Rattle.rmt_tree.specs.declared.op.Op.{Op};
@@ -6,11 +6,8 @@ ghost use Rattle.rmt_entries.specs.declared.entry.Entry.TheVariants.{DropRange};
 ghost use Rattle.rmt_tree.specs.declared.op.Op.TheVariants as op;
 ghost use Rattle.rmt_entries.specs.EntryBytes.{entry_bytes, EntryInRange};
 ghost use Rattle.rmt_znodes.specs.Znodes.{entry_path};
-ghost use Rattle.rmt_model.specs.Words.{Pairwise};
-ghost use Rattle.rmt_inserts.specs.OrderNumbers.{IncludeKept};
 ghost use Rattle.rmt_table_model.specs.Numbers.{Nexts, Holders, next_of};
-ghost use Rattle.rmt_table_model.specs.Kept.{Placed, outlives};
-ghost use Rattle.rmt_table_model.specs.Inserts.{HasNumbers, HasKeptIds, AreDropOps};
+ghost use Rattle.rmt_table_model.specs.Inserts.{HasNumbers, AreDropOps};
 ghost use Rattle.rmt_table_model.specs.Nodes.{number_ops as ops_of_number, pending_drop_ops, last_drop_ops};
 ghost use Rattle.rmt_model.specs.BlockNumbers.{next_number};
 ghost use Rattle.rmt_model.specs.EntryLimits.{drop_limit};
@@ -23,45 +20,37 @@ use crate::change_error::ChangeError;
 use crate::ops::{append, write_op};
 use crate::table_tree::TableTree;
 use rmt_entries::Entry;
-use rmt_inserts::{DropOps, drop_ops, number_ops};
+use rmt_inserts::{Window, drop_ops, number_ops};
 use rmt_names::PartitionId;
 use rmt_quorum::QuorumState;
 use rmt_row::Seen;
-use rmt_tree::Tree;
+use rmt_tree::{Op, Tree};
 use rmt_values::Limit;
 use std::alloc::{AllocError, Global};
 
 /// The operations that drop the numbers of a partition below its next one, which is this, write the entry of the drop, and
-/// take away what it takes of the quorum; and how many kept ids go. `numbers` are the partition's numbers in the order of
-/// acceptance. At an error no memory was left.
+/// take away what it takes of the quorum. At an error no memory was left.
 fn ops_of_drop(
+    window: &Window,
     tree: &Tree,
     quorum: &QuorumState,
     alloc: Global,
     partition: PartitionId,
     number: u32,
-    numbers: &[u32],
-) -> Result<DropOps, AllocError>
+) -> Result<Vec<Op>, AllocError>
     requires in_range { EntryInRange (DropRange partition number) }
-    requires rising { Pairwise ◌<◌ numbers.now }
-    requires kept { (ks : List Placed) × (count : ℕ) × HasKeptIds tree.now ks count × IncludeKept ks partition numbers.now }
-    ensures ops { (next : Nexts) (holders : Holders) (ks : List Placed) (count : ℕ) → HasNumbers tree.now next holders → HasKeptIds tree.now ks count → next_of next partition ≡ Some number
-        → IfOk result (λ d. (removals : List Op) × AreDropOps holders ks partition number removals
-        × (d.ops.items ≡ ops_of_number partition number ++ (removals ++ op.Create entry_path (entry_bytes (DropRange partition number)) true None ∷ (pending_drop_ops partition number quorum.now.pending ++ last_drop_ops partition number quorum.now.last)))) }
-    ensures forgotten { (ks : List Placed) (count : ℕ) → HasKeptIds tree.now ks count
-        → IfOk result (λ d. d.forgotten + length (filter (outlives partition number) ks) ≡ length ks) }
+    ensures { (next : Nexts) (holders : Holders) → HasNumbers tree.now next holders → next_of next partition ≡ Some number
+        → IfOk result (λ ops. (removals : List Op) × AreDropOps holders window.now.placed partition number removals
+        × (ops.items ≡ ops_of_number partition number ++ (removals ++ op.Create entry_path (entry_bytes (DropRange partition number)) true None ∷ (pending_drop_ops partition number quorum.now.pending ++ last_drop_ops partition number quorum.now.last)))) }
 {
     let mut ops = number_ops(tree, alloc, partition)?;
-    let mut dropped = drop_ops(tree, alloc, partition, number, numbers)?;
-    ops.append(&mut dropped.ops)?;
+    let mut removals = drop_ops(window, tree, alloc, partition, number)?;
+    ops.append(&mut removals)?;
     let write = write_op(alloc, Entry::DropRange { partition, number })?;
     ops.push(write)?;
     let mut gone = quorum.drop_ops(alloc, partition, number)?;
     ops.append(&mut gone)?;
-    Ok(DropOps {
-        ops,
-        forgotten: dropped.forgotten,
-    })
+    Ok(ops)
 }
 
 impl TableTree {
@@ -88,16 +77,14 @@ impl TableTree {
             return Err(error);
         }
         self.partitions.reserve()?;
-        let numbers = self.numbers.of(partition);
         let quorum = &self.quorum;
-        let drop = ops_of_drop(&self.tree, quorum, alloc, partition, number, numbers)?;
+        let ops = ops_of_drop(&self.window, &self.tree, quorum, alloc, partition, number)?;
         let entry = Entry::DropRange { partition, number };
-        let token = append(&mut self.tree, &mut self.log, alloc, &drop.ops, entry)?;
+        let token = append(&mut self.tree, &mut self.log, alloc, &ops, entry)?;
         self.partitions.take(partition);
-        self.numbers.clear(partition);
+        self.window.forget(partition, number);
         self.quorum.drop_below(partition, number);
         self.clients += 1;
-        self.kept -= drop.forgotten;
         Ok(Some(token))
     }
 

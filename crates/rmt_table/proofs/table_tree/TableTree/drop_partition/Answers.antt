@@ -1,8 +1,5 @@
 use Rattle.std.proofs.Common.{◌≡◌, ◌+◌, List, None, refl, sym, ap, subst, ◌∙◌}
 use Rattle.rmt_tree.specs.declared.op.Op.{Op}
-use Rattle.rmt_table_model.specs.Kept.{in_order}
-use Rattle.rmt_table_model.specs.Nodes.{order_count}
-use Rattle.rmt_table.proofs.HeldNodes.{held-kept}
 use Rattle.rmt_row.specs.Token.{Token}
 use Rattle.rmt_entries.specs.declared.entry.Entry.{Entry}
 use Rattle.rmt_entries.specs.declared.entry.Entry.TheVariants.{DropRange}
@@ -11,10 +8,9 @@ use Rattle.rmt_model.specs.BlockNumbers.{next_number, with_next}
 use Rattle.rmt_tree.specs.Ops.{after_all, first_refusal}
 use Rattle.rmt_table_model.specs.Numbers.{Nexts}
 use Rattle.rmt_table_model.specs.Held.{Held}
-use Rattle.rmt_table.proofs.OrderNumbers.{order-rising, order-includes, numbers-dropped}
 use Rattle.rmt_table.specs.contracts.table_tree.TableTree.{the_view}
 use Rattle.rmt_table.proofs.AppendLemmas.{placed-snoc, entries-more, token-next}
-use Rattle.rmt_table.proofs.Drops.{drop-fine, number-nowhere, drop-refused, drop-small, drop-fewer, drop-forgets, drop-kept, drop-done}
+use Rattle.rmt_table.proofs.Drops.{drop-fine, number-nowhere, drop-refused, drop-small, drop-kept, drop-done}
 use Rattle.rmt_table.proofs.table_tree.TableTree.drop_partition.Goals as goal
 
 pub returns-in_default-clause-done : goal.returns-in_default-clause-done
@@ -33,30 +29,22 @@ take-requires-clause-small c =
     drop-small (the_view c.self.inside) c.self.inside.log _ c.self.invariant c.args.self.now c.self.view_is c.args.partition c.number.result c.number.ensures c.in-Some.number c.in-Some.is c.drop_refusal.result c.drop_refusal.ensures c.in_default-drop_refusal.is
     c.reserve.new.self.numbers c.in_ok-reserve.ensures.numbers
 
-pub overflow_sub-self : goal.overflow_sub-self
-overflow_sub-self c =
-    drop-fewer (the_view c.self.inside) c.self.inside.log _ c.self.invariant c.args.self.now c.self.view_is c.args.partition c.number.result c.number.ensures c.in-Some.number c.in-Some.is c.drop_refusal.result c.drop_refusal.ensures c.in_default-drop_refusal.is
-    c.in_ok-drop.drop.forgotten c.in_ok-drop.ensures.forgotten
-
 pub invariant_of-self-2 : goal.invariant_of-self-2
 invariant_of-self-2 c =
     drop-kept (the_view c.self.inside) c.self.inside.log _ c.self.invariant c.args.self.now c.self.view_is c.args.partition c.number.result c.number.ensures c.in-Some.number c.in-Some.is c.drop_refusal.result c.drop_refusal.ensures c.in_default-drop_refusal.is
-    c.in_ok-drop.drop.ops.items c.in_ok-drop.ensures.ops c.append.new.tree (c.in_ok-token.ensures.tree ∙ ap (after_all c.self.inside.tree) c.deref.ensures.value)
+    c.in_ok-ops.ops.items c.in_ok-ops.ensures c.append.new.tree (c.in_ok-token.ensures.tree ∙ ap (after_all c.self.inside.tree) c.deref.ensures.value)
     (entries c.append.new.log)
     (entries-more c.self.inside.log c.append.new.log c.in_ok-token.token (DropRange c.args.partition c.in-Some.number) c.in_ok-token.ensures.log (ap (λ (t : Token Entry). t.value) c.in_ok-token.ensures.token))
     c.take.new.self.numbers
     (c.take.ensures ∙ ap (λ (ns : Nexts). with_next ns c.args.partition (next_number ns c.args.partition + 1)) c.in_ok-reserve.ensures.numbers)
     c.drop_below.new.self c.drop_below.ensures c.append.new.log
     (placed-snoc c.self.inside.log c.append.new.log c.in_ok-token.token c.in_ok-token.ensures.log (ap (λ (t : Token Entry). t.place) c.in_ok-token.ensures.token) c.self.invariant.places)
-    c.clear.new.self (numbers-dropped (the_view c.self.inside).log c.args.partition (next_number (the_view c.self.inside).next c.args.partition) c.self.inside.numbers c.clear.new.self c.self.invariant.counted.numbers c.clear.ensures.numbers c.clear.ensures.others)
-    c.in_ok-drop.drop.forgotten
-    (drop-forgets (the_view c.self.inside) c.self.inside.log _ c.self.invariant c.args.self.now c.self.view_is c.args.partition c.number.result c.number.ensures c.in-Some.number c.in-Some.is c.drop_refusal.result c.drop_refusal.ensures c.in_default-drop_refusal.is
-    c.in_ok-drop.drop.forgotten c.in_ok-drop.ensures.forgotten)
+    _ c.forget.ensures.count _ c.forget.ensures.placed
 
 pub returns-clause-done : goal.returns-clause-done
 returns-clause-done c =
     drop-done (the_view c.self.inside) c.self.inside.log _ c.self.invariant c.args.self.now c.self.view_is c.args.partition c.number.result c.number.ensures c.in-Some.number c.in-Some.is c.drop_refusal.result c.drop_refusal.ensures c.in_default-drop_refusal.is
-    c.in_ok-drop.drop.ops.items c.in_ok-drop.ensures.ops c.append.new.tree (c.in_ok-token.ensures.tree ∙ ap (after_all c.self.inside.tree) c.deref.ensures.value)
+    c.in_ok-ops.ops.items c.in_ok-ops.ensures c.append.new.tree (c.in_ok-token.ensures.tree ∙ ap (after_all c.self.inside.tree) c.deref.ensures.value)
     (entries c.append.new.log)
     (entries-more c.self.inside.log c.append.new.log c.in_ok-token.token (DropRange c.args.partition c.in-Some.number) c.in_ok-token.ensures.log (ap (λ (t : Token Entry). t.value) c.in_ok-token.ensures.token))
     c.take.new.self.numbers
@@ -67,16 +55,5 @@ returns-clause-done c =
 pub append-requires : goal.append-requires
 append-requires c = record {
   fine = subst (λ (xs : List Op). first_refusal c.self.inside.tree xs 0 ≡ None) (sym c.deref.ensures.value) (drop-fine (the_view c.self.inside) c.self.inside.log _ c.self.invariant c.args.self.now c.self.view_is c.args.partition c.number.result c.number.ensures c.in-Some.number c.in-Some.is c.drop_refusal.result c.drop_refusal.ensures c.in_default-drop_refusal.is
-      c.in_ok-drop.drop.ops.items c.in_ok-drop.ensures.ops);
+      c.in_ok-ops.ops.items c.in_ok-ops.ensures);
 }
-
-pub ops_of_drop-requires-clause-kept : goal.ops_of_drop-requires-clause-kept
-ops_of_drop-requires-clause-kept c = (
-  in_order (the_view c.self.inside).schema.window (the_view c.self.inside).log,
-  order_count (the_view c.self.inside).schema.window (the_view c.self.inside).log,
-  held-kept (the_view c.self.inside) c.self.invariant.held,
-  order-includes (the_view c.self.inside).schema (the_view c.self.inside).schema.window (the_view c.self.inside).log c.self.invariant.held.sound.lawful c.args.partition c.of-numbers.result.now (c.of-numbers.ensures ∙ c.self.invariant.counted.numbers c.args.partition),
-)
-
-pub ops_of_drop-requires-clause-rising : goal.ops_of_drop-requires-clause-rising
-ops_of_drop-requires-clause-rising c = order-rising (the_view c.self.inside).log c.args.partition c.of-numbers.result.now (c.of-numbers.ensures ∙ c.self.invariant.counted.numbers c.args.partition)

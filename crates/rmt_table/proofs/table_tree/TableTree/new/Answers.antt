@@ -10,7 +10,7 @@ invariant_of-result c =
     c.new.result c.new-2.result.numbers c.resize.new.self.items c.resize-2.new.self.items c.new.ensures c.new-2.ensures
     (resized c.resize.new.self.items c.new-sessions.result.items c.from-count.result _ c.args.replicas None c.new-sessions.ensures.items c.new-sessions.ensures.len c.from-count.ensures c.in_ok-resize.ensures.items)
     (resized c.resize-2.new.self.items c.new-pulled.result.items c.from-count.result _ c.args.replicas 0 c.new-pulled.ensures.items c.new-pulled.ensures.len c.from-count.ensures c.in_ok-resize-2.ensures.items)
-    c.new-3.result c.new-3.ensures c.new-4.result c.new-4.ensures
+    c.new-3.result c.new-3.ensures _ c.new-4.ensures.count _ c.new-4.ensures.placed
 
 pub returns : goal.returns
 returns c = record {
