@@ -1,6 +1,14 @@
-//! Tokens of what a cell holds.
+//! Cells that are each set once, in a row, and tokens of what they hold.
 #![tactic(auto)]
 
+mod put_error;
+mod row;
 mod seen;
+mod shown;
 
-pub use seen::Seen;
+pub use put_error::PutError;
+pub use row::Row;
+pub use seen::{Seen, agree};
+
+#[cfg(test)]
+mod tests;

@@ -1,33 +1,42 @@
 ghost use Rattle.std.specs.Prelude.{◌≡◌, IfOk};
 ghost use Rattle.std.specs.Arc.{arc_value};
 
+use crate::shown::Shown;
 use std::alloc::{AllocError, Global};
 use std::marker::Model;
 use std::sync::Arc;
 
-/// A token of what a cell holds. Contracts see the cell's place, its value and its name, which is the place so far.
+/// A token of what a cell of a row holds. Contracts see the cell's place, its value and its name.
 #[derive(Drop)]
 pub struct Seen<T: Drop> {
     place: usize,
     value: Arc<T, Global>,
+    shown: Shown<Arc<T, Global>>,
 }
 
 impl<T: Drop> Model for Seen<T> {
     ghost use Rattle.rmt_row.specs.Token.{Token};
+    ghost use Rattle.std.specs.Prelude.{◌≡◌};
 
     ghost Value = { Token T };
 
     ghost use Rattle.std.specs.Arc.{arc_value};
 
-    ghost view = { λ s. record { place = s.place; value = arc_value s.value; cell = s.place } };
+    ghost view = { λ s. record { place = s.place; value = arc_value s.value; cell = s.shown.cell } };
+
+    ghost invariant = { λ s. arc_value s.shown.value ≡ arc_value s.value };
 }
 
 impl<T: Drop> Seen<T> {
-    /// The token of the cell at this place, which holds this value.
-    pub fn of(place: usize, value: Arc<T, Global>) -> Seen<T>
-        ensures { result ≡ record { place = place; value = arc_value value; cell = place } }
+    pub(crate) fn new(place: usize, value: Arc<T, Global>, shown: Shown<Arc<T, Global>>) -> Seen<T>
+        requires { arc_value shown.value ≡ arc_value value }
+        ensures { result ≡ record { place = place; value = arc_value value; cell = shown.cell } }
     {
-        Seen { place, value }
+        Seen {
+            place,
+            value,
+            shown,
+        }
     }
 
     /// The cell's place, counted from 0.
@@ -52,6 +61,15 @@ impl<T: Drop> Seen<T> {
         Ok(Seen {
             place: self.place,
             value,
+            shown: self.shown.again(),
         })
     }
+}
+
+/// Two tokens of one cell hold one value.
+pub fn agree<T: Drop>(a: &Seen<T>, b: &Seen<T>)
+    requires { a.now.cell ≡ b.now.cell }
+    ensures { a.now.value ≡ b.now.value }
+{
+    a.shown.agrees(&b.shown);
 }

@@ -1,0 +1,9 @@
+use denote.RattleType.{RattleType}
+use denote.Param.Send.{IsSync, sendable}
+use denote.Struct.Owning
+use denote.Struct.Struct
+use Rattle.rmt_row.specs.contracts.shown.Shown.{the_row, the_type}
+
+pub sync : (T : RattleType) → IsSync (the_row T)
+sync T = let fields : IsSync (denote.Struct.Struct.Struct (denote.Struct.Owning.shape (the_type T))) = search sendable depth 20 in
+    record { shared = λ d b o κ. (fields.shared (tt, tt) b o κ, tt) }
