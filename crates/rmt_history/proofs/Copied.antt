@@ -13,7 +13,7 @@ use Rattle.rmt_entries.specs.Entries.{result_name}
 use Rattle.rmt_entries.specs.declared.entry.Entry.{Entry}
 use Rattle.rmt_model.specs.Live.{live, live_after}
 use Rattle.rmt_model.specs.Lawful.{Lawful, entry_at, is_mutation}
-use Rattle.rmt_history.specs.Copies.{entries, cells_of, IsMadeBy, maker_after, drop_after, last_drop, partition_cmp, ArePrefixes, AreNumbered, AreNamed, mutation_tokens, IsCopy, name_cmp}
+use Rattle.rmt_history.specs.Copies.{entries, cells_of, IsMadeBy, maker_after, drop_after, last_drop, partition_cmp, ArePrefixes, AreNumbered, mutation_tokens, IsCopy, name_cmp}
 use Rattle.rmt_history.specs.Mutations.{last_list}
 use Rattle.rmt_history.proofs.ListLemmas.{get-snoc}
 use Rattle.rmt_history.proofs.SharedLemmas.{shared-more}
@@ -71,17 +71,16 @@ at-more f tokens next at is i t e = go (nat_eq i (length tokens)) refl (sym (get
 
 -- a copy with its next token is a copy
 pub IsCopy-more : (schema : Shape) (tokens more : List (Token Entry)) (names after : List Name) (next : Token Entry) (index newer : BTreeMap Name ℕ) (drops later : BTreeMap (Option ℕ) LastDrop) (lists longer : List (List (Token Entry))) (list : Option (List (Token Entry)))
-    → IsCopy schema tokens names index drops lists → next.place ≡ length (entries tokens) → next.cell ≡ next.place → Lawful schema (next.value ∷ entries tokens)
+    → IsCopy schema tokens names index drops lists → next.place ≡ length (entries tokens) → Lawful schema (next.value ∷ entries tokens)
     → more ≡ tokens ++ next ∷ [] → after ≡ live_after next.value names
     → ((a : Name) → get name_cmp newer a ≡ maker_after (result_name next.value) (length tokens) (get name_cmp index a) a)
     → ((q : Option ℕ) → get partition_cmp later q ≡ drop_after next.value (length tokens) (get partition_cmp drops q) q)
     → list ≡ cond (is_mutation next.value) (Some (last_list lists ++ next ∷ [])) None → longer ≡ lists ++ option_to_list list
     → IsCopy schema more after newer later longer
-IsCopy-more schema tokens more names after next index newer drops later lists all list c p o l m a n d s w =
+IsCopy-more schema tokens more names after next index newer drops later lists all list c p l m a n d s w =
     record {
       lawful = subst (Lawful schema) longer l;
       numbered = subst AreNumbered (sym m) (at-more (λ t. t.place) tokens next c.numbered (p ∙ length-entries tokens));
-      named = subst AreNamed (sym m) (at-more (λ t. t.cell) tokens next c.named (o ∙ p ∙ length-entries tokens));
       living = a ∙ (ap (live_after next.value) c.living ∙ ap live longer);
       indexed = λ b. subst (λ (log : List Entry). IsMadeBy log b (get name_cmp newer b)) longer
           (subst (IsMadeBy (next.value ∷ entries tokens) b) (sym (n b))

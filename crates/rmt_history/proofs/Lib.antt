@@ -10,3 +10,4 @@ pub mod VersionLemmas
 pub mod SharedLemmas
 pub mod NeighbourLemmas
 pub mod FollowLemmas
+pub mod RowLemmas

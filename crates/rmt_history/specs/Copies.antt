@@ -8,7 +8,7 @@ use Rattle.std.specs.Option.{option_cmp}
 use Rattle.std.specs.BTreeMap.{BTreeMap, get}
 use Rattle.rmt_names.specs.Names.{Name, rank}
 use Rattle.rmt_values.specs.Rows.{Shape}
-use Rattle.rmt_row.specs.Token.{Token}
+use Rattle.rmt_row.specs.Token.{Token, IsOf}
 use Rattle.rmt_entries.specs.declared.entry.Entry.{Entry}
 use Rattle.rmt_entries.specs.declared.entry.Entry.TheVariants.{Get, Merge, Mutate, Mutation, DropRange}
 use Rattle.rmt_model.specs.Words.{Has}
@@ -29,6 +29,18 @@ entries tokens = reverse (map (λ t. t.value) tokens)
 -- the cells of tokens
 abbrev pub cells_of : List (Token Entry) → List ℕ
 cells_of tokens = map (λ t. t.cell) tokens
+
+-- the copy is of this cell row, whose cells have these names: its entries are in the first of them
+abbrev pub IsLogOf : List ℕ → History → Type 0
+IsLogOf row copy = copy.cells ≡ take (length copy.log) row
+
+-- both are of one row
+abbrev pub AreOfOneRow : History → History → Type 0
+AreOfOneRow a b = (row : List ℕ) × IsLogOf row a × IsLogOf row b
+
+-- the copy and the token are of one row
+abbrev pub HasRowOf : History → Token Entry → Type 0
+HasRowOf copy t = (row : List ℕ) × IsLogOf row copy × IsOf row t
 
 -- the place of the entry that makes the name; none where no entry does
 abbrev pub IsMadeBy : List Entry → Name → Option ℕ → Type 0
@@ -84,21 +96,16 @@ mutation_tokens tokens = filter (λ t. is_mutation t.value) tokens
 abbrev pub AreNumbered : List (Token Entry) → Type 0
 AreNumbered tokens = (i : ℕ) (t : Token Entry) → slice_get tokens i ≡ Some t → t.place ≡ i
 
--- the name of each token's cell is its place
-abbrev pub AreNamed : List (Token Entry) → Type 0
-AreNamed tokens = (i : ℕ) (t : Token Entry) → slice_get tokens i ≡ Some t → t.cell ≡ i
-
 -- a list for each of these elements, which has all up to it
 pub record ArePrefixes {A : Type 0} (lists : List (List A)) (all : List A) : Type 0 where
   pub counted : length lists ≡ length all
   pub upto : (k : ℕ) (xs : List A) → slice_get lists k ≡ Some xs → xs ≡ take (k + 1) all
 
--- tokens of a lawful log, each of the cell at its place, with its live names, the places at which its names were made,
--- the last drop of each partition, and a list of mutations for each mutation
+-- tokens of a lawful log, each at its place, with its live names, the places at which its names were made, the last drop of
+-- each partition, and a list of mutations for each mutation
 pub record IsCopy (schema : Shape) (tokens : List (Token Entry)) (names : List Name) (index : BTreeMap Name ℕ) (drops : BTreeMap (Option ℕ) LastDrop) (lists : List (List (Token Entry))) : Type 0 where
   pub lawful : Lawful schema (entries tokens)
   pub numbered : AreNumbered tokens
-  pub named : AreNamed tokens
   pub living : names ≡ live (entries tokens)
   pub indexed : (a : Name) → IsMadeBy (entries tokens) a (get name_cmp index a)
   pub dropped : (p : Option ℕ) → get partition_cmp drops p ≡ last_drop (entries tokens) p

@@ -4,8 +4,9 @@ ghost use Rattle.std.specs.declared.option.Option.TheVariants.{Some};
 ghost use Rattle.std.specs.Arc.{arc_value};
 ghost use Rattle.rmt_model.specs.Live.{live as live_of, DroppedAfter};
 ghost use Rattle.rmt_model.specs.Lawful.{Lawful, IsPrefix, entry_at, ver as ver_of, AreNeighbours};
-ghost use Rattle.rmt_history.specs.Copies.{IsMadeBy, entries};
-ghost use Rattle.rmt_history.specs.TableLogs.{Follows};
+ghost use Rattle.rmt_model.specs.Words.{Each};
+ghost use Rattle.rmt_history.specs.Copies.{AreOfOneRow, HasRowOf, IsMadeBy, entries};
+ghost use Rattle.rmt_history.specs.TableLogs.{HaveRowOf, KeepsRow, Follows};
 ghost use Rattle.rmt_history.specs.Mutations.{AreTokensBelow, HasOrder, mutations_below, pending_below};
 ghost use Rattle.rmt_model.specs.Choices.{last_pending as last_pending_of};
 
@@ -20,7 +21,7 @@ use rmt_entries::Entry;
 use rmt_list::List;
 use rmt_names::{PartName, PartitionId};
 use rmt_nameset::NameSet;
-use rmt_row::Seen;
+use rmt_row::{Seen, agree};
 use rmt_values::Schema;
 use std::alloc::{AllocError, Global};
 use std::collections::BTreeMap;
@@ -118,15 +119,17 @@ impl LogCopy {
     ///
     /// When memory runs out. The copy stays as it was.
     pub fn follow(&mut self, log: &TableLog) -> Result<(), AllocError>
-        requires lawful { Lawful self.old.schema (entries log.now) }
-        requires prefix { IsPrefix self.old.log (entries log.now) }
-        requires longer { length self.old.log < length log.now }
-        ensures ok { OnOk result (Follows self.old log.now self.new) }
+        requires lawful { Lawful self.old.schema (entries log.now.tokens) }
+        requires prefix { IsPrefix self.old.log (entries log.now.tokens) }
+        requires longer { length self.old.log < length log.now.tokens }
+        requires row { HaveRowOf self.old log.now.tokens }
+        ensures ok { OnOk result (Follows self.old log.now.tokens self.new) }
+        ensures of_row { OnOk result (KeepsRow self.old log.now.tokens self.new) }
         ensures err { OnErr result (self.new ≡ self.old) }
     {
         let place = self.seen.len();
         let next = log.token(place).copy()?;
-        let list = log.list(self.mutations.len(), &next)?;
+        let list = log.list(&self.mutations, &next)?;
         room_for(&mut self.seen, &mut self.live, &mut self.mutations)?;
         note(&mut self.makers, &mut self.drops, next.value(), place)?;
         bring_up(&mut self.live, next.value());
@@ -154,6 +157,38 @@ impl LogCopy {
         push_list(&mut self.mutations, list);
         self.seen.push(next).unwrap();
         Ok(())
+    }
+
+    /// Where the token is of the copy's row, it is of the entry at its place, if the copy has that place. It takes no memory.
+    pub fn meet_token(&self, token: &Seen<Entry>)
+        requires row { HasRowOf self.now token.now }
+        ensures { token.now.place < length self.now.log → entry_at self.now.log token.now.place ≡ Some token.now.value }
+    {
+        if let Some(own) = self.entry(token.place()) {
+            agree(own, token);
+        }
+    }
+
+    /// The same of all these tokens. It takes no memory.
+    pub fn meet_tokens(&self, tokens: &[Seen<Entry>])
+        requires row { Each (HasRowOf self.now) tokens.now }
+        ensures { Each (λ t. t.place < length self.now.log → entry_at self.now.log t.place ≡ Some t.value) tokens.now }
+    {
+        'tokens: for token in tokens {
+            self.meet_token(token);
+        }
+    }
+
+    /// Of two copies of one row the shorter is a prefix of the longer. It takes no memory.
+    pub fn meet(&self, other: &LogCopy)
+        requires row { AreOfOneRow self.now other.now }
+        ensures shorter { length self.now.log ≤ length other.now.log → IsPrefix self.now.log other.now.log }
+        ensures longer { length other.now.log ≤ length self.now.log → IsPrefix other.now.log self.now.log }
+    {
+        let common = self.len().min(other.len());
+        'places: for i in 0..common {
+            agree(self.entry(i).unwrap(), other.entry(i).unwrap());
+        }
     }
 
     /// The live names, in order of partition and number.

@@ -1,20 +1,19 @@
 -- What a part keeps of its lineage, and what it comes from, are what a log says of its name.
-use Rattle.std.proofs.Common.{◌≡◌, ℕ, suc, ◌+◌, ◌-◌, ◌<◌, ◌≤◌, ◌⊎◌, inl, inr, ◌&&◌, ◌||◌, Bool, true, false, not, cond, List, [], ◌∷◌, length, map, refl, sym, ap, subst, arith, ◌∙◌, nat_eq, nat_lt, nat_le}
+use Rattle.std.proofs.Common.{◌≡◌, ℕ, ◌+◌, ◌-◌, ◌<◌, ◌≤◌, ◌⊎◌, inl, inr, ◌&&◌, ◌||◌, Bool, true, false, not, cond, List, [], ◌∷◌, length, map, refl, ap, arith, ◌∙◌, nat_eq, nat_lt, nat_le}
 use Rattle.std.proofs.lemmas.Bool.Decides.{nat_tests}
 use Rattle.std.specs.declared.option.Option.{Option}
 use Rattle.rmt_values.specs.Rows.{Shape}
 use Rattle.rmt_names.specs.Names.{Name, Spans}
 use Rattle.rmt_entries.specs.declared.entry.Entry.{Entry}
-use Rattle.rmt_entries.specs.declared.entry.Entry.TheVariants.{Get}
 use Rattle.rmt_model.specs.Words.{Has, Each, Pairwise}
-use Rattle.rmt_model.specs.Lawful.{Lawful, block_count}
-use Rattle.rmt_model.specs.Content.{Row, has_block}
+use Rattle.rmt_model.specs.Lawful.{Lawful}
+use Rattle.rmt_model.specs.Content.{has_block}
 use Rattle.rmt_model.specs.Parts.{NumberedBlock, Lineage, IsLineage, IsOf, ComesFrom}
 use Rattle.rmt_model.specs.CopiedParts.{blocks_of, HasNumber, AreBlocksOf, IsCopied}
 use Rattle.rmt_model.proofs.Lists.{Each-at, Each-all}
 use Rattle.rmt_model.proofs.VersionLaws.{made-sized}
 use Rattle.rmt_laws.proofs.PlainRows.{total-same}
-use Rattle.rmt_part.specs.Lineages.{AcceptedView, PartValue, numbered, number_got, lineage_of, IsPart, IsOfLog}
+use Rattle.rmt_part.specs.Lineages.{PartValue, numbered, lineage_of, IsPart, IsOfLog}
 use Rattle.rmt_part.specs.CopiedPart.{copied}
 use Rattle.rmt_part.proofs.LineageLaws.{has-block-at, passing, passing-more, count-passing, has-made, told-count, fewer, Each-map}
 use Rattle.rmt_part.proofs.PartLaws.{rows-content, of-log-has}

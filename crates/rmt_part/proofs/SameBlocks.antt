@@ -1,5 +1,5 @@
 -- Parts of one name that were made in one log are of the same blocks.
-use Rattle.std.proofs.Common.{◌≡◌, ℕ, ◌+◌, ◌-◌, ◌<◌, ◌≤◌, ◌⊎◌, inl, inr, ◌&&◌, ◌||◌, Bool, true, false, cond, List, [], ◌∷◌, ◌++◌, map, length, refl, sym, ap, subst, arith, ◌∙◌, nat_eq}
+use Rattle.std.proofs.Common.{◌≡◌, ℕ, ◌+◌, ◌-◌, ◌<◌, ◌≤◌, inl, inr, ◌&&◌, ◌||◌, Bool, true, false, cond, List, [], ◌∷◌, map, refl, sym, ap, subst, arith, ◌∙◌, nat_eq}
 use Rattle.std.proofs.lemmas.Bool.Decides.{nat_tests}
 use Rattle.std.specs.declared.option.Option.{Option}
 use Rattle.rmt_values.specs.Rows.{Shape}
@@ -12,11 +12,11 @@ use Rattle.rmt_granules.specs.Granules.{PartView as Data}
 use Rattle.rmt_granules.specs.MadePart.{data_of}
 use Rattle.rmt_model.specs.Words.{Has, Each, Pairwise}
 use Rattle.rmt_model.specs.Lawful.{Used, Lawful, IsFresh}
-use Rattle.rmt_model.specs.Content.{Row, Blocks, is_block, has_block, content}
-use Rattle.rmt_model.specs.Parts.{NumberedBlock, Lineage, IsLineage, ComesFrom, IsOf}
+use Rattle.rmt_model.specs.Content.{Blocks, has_block, content}
+use Rattle.rmt_model.specs.Parts.{Lineage, IsLineage, ComesFrom, IsOf}
 use Rattle.rmt_model.proofs.Lists.{Each-at, Each-all, rank-injective}
 use Rattle.rmt_model.proofs.VersionLaws.{made-sized}
-use Rattle.rmt_part.specs.Lineages.{AcceptedView, PartValue, IsGetOf, number_got, numbered, lineage_of, IsPart, IsOfLog, AgreeOn}
+use Rattle.rmt_part.specs.Lineages.{AcceptedView, PartValue, IsGetOf, number_got, numbered, lineage_of, IsPart, IsOfLog}
 use Rattle.rmt_part.proofs.LineageLaws.{has-made, has-block-at, told-count, count-passing, walk, joined_by, each_joined, Each-map, has-used}
 use Rattle.rmt_part.proofs.PartLaws.{of-log-has, rows-content}
 

@@ -3,7 +3,6 @@ use Rattle.std.proofs.lemmas.Grind.{common_steps}
 use Rattle.std.specs.Arc.{arc_value}
 use Rattle.std.specs.Option.{option_map}
 use Rattle.std.specs.BTreeMap.{get}
-use Rattle.rmt_row.specs.Token.{Token}
 use Rattle.rmt_entries.specs.Entries.{result_name}
 use Rattle.rmt_entries.specs.declared.entry.Entry.{Entry}
 use Rattle.rmt_history.specs.Copies.{History, maker_after, name_cmp, drop_after, partition_cmp}
@@ -23,7 +22,6 @@ invariant_of-self-2 c =
     (map arc_value c.self.inside.mutations.items) (map arc_value c.push_list.new.lists.items) (option_map arc_value c.in_ok-list.list)
     c.self.invariant
     (c.requires.place ∙ ap (λ (h : History). length h.log) e)
-    (sym (ap (λ (t : Token Entry). t.cell) c.next.view_is) ∙ ap (λ (t : Token Entry). t.place) c.next.view_is)
     (subst (λ (h : History). Lawful h.schema (c.args.next.value ∷ h.log)) e c.requires.lawful)
     pushed
     (c.bring_up.ensures ∙ (ap (live_after c.value-2.result.now) c.room_for.ensures.live ∙ ap (λ (v : Entry). live_after v c.self.inside.live.names) c.value-2.ensures))
