@@ -1,27 +1,41 @@
 -- A log with one more token.
-use Rattle.std.proofs.Common.{◌≡◌, ℕ, zero, suc, ◌+◌, ◌<◌, ◌≤◌, cond, not, List, [], ◌∷◌, ◌++◌, length, slice_get, take, refl, sym, ap, arith, ◌∙◌}
+use Rattle.std.proofs.Common.{◌≡◌, ℕ, zero, suc, ◌+◌, ◌<◌, ◌≤◌, cond, not, List, [], ◌∷◌, ◌++◌, length, slice_get, slice_index_or, take, refl, sym, subst, arith, ◌∙◌}
 use Rattle.std.proofs.lemmas.List.Sums.{sum_by-cons, length-filter, count_by-le-length}
 use Rattle.std.specs.declared.option.Option.{Option}
 use Rattle.std.specs.declared.option.Option.TheVariants.{Some}
-use Rattle.rmt_row.specs.Token.{Token}
+use Rattle.rmt_row.specs.Token.{Token, IsOf}
 use Rattle.rmt_entries.specs.declared.entry.Entry.{Entry}
 use Rattle.rmt_entries.specs.declared.entry.Entry.TheVariants.{Get, Merge, Mutate, Mutation, DropRange}
 use Rattle.rmt_model.specs.Lawful.{is_mutation, mutation_count}
 use Rattle.rmt_model.specs.EntryLimits.{is_client, client_count, worker_count}
 use Rattle.rmt_names.specs.Names.{block_name}
 use Rattle.rmt_table_model.specs.Kept.{outlives, in_order, get_count, is_get}
-use Rattle.rmt_table.specs.TableTrees.{ArePlaced}
+use Rattle.rmt_table.specs.TableTrees.{ArePlaced, token_in}
+
+-- what holds of each token at its place, where it holds of one more at the end
+each-more : (P : ℕ → Token Entry → Type 0) (xs : List (Token Entry)) (t : Token Entry) → ((i : ℕ) (u : Token Entry) → slice_get xs i ≡ Some u → P i u) → P (length xs) t
+    → (i : ℕ) (u : Token Entry) → slice_get (xs ++ t ∷ []) i ≡ Some u → P i u
+each-more P [] t f p zero u e = let q : t ≡ u = cc in subst (P 0) q p
+each-more P [] t f p (suc i) u e = absurd (cc)
+each-more P (x ∷ xs) t f p zero u e = f zero u e
+each-more P (x ∷ xs) t f p (suc i) u e = each-more (λ j v. P (suc j) v) xs t (λ j v g. f (suc j) v g) p i u e
 
 -- each token is at its place, one more too
-pub placed-more : (tokens : List (Token Entry)) (t : Token Entry) → ArePlaced tokens → t.place ≡ length tokens → ArePlaced (tokens ++ t ∷ [])
-placed-more tokens t are at i u e = let w = from tokens 0 (λ j v f. let a = are j v f in omega (arith, a)) (omega (arith, at)) i u e in omega (arith, w)
-  where
-    from : (xs : List (Token Entry)) (k : ℕ) → ((i : ℕ) (u : Token Entry) → slice_get xs i ≡ Some u → u.place ≡ k + i) → t.place ≡ k + length xs → (i : ℕ) (u : Token Entry) → slice_get (xs ++ t ∷ []) i ≡ Some u → u.place ≡ k + i
-    from [] k f a zero u e = let q : t ≡ u = cc in ap (λ (v : Token Entry). v.place) (sym q) ∙ a
-    from [] k f a (suc i) u e = absurd (cc)
-    from (x ∷ xs) k f a zero u e = f zero u e
-    from (x ∷ xs) k f a (suc i) u e =
-        let g = from xs (suc k) (λ m v h. let w = f (suc m) v h in omega (arith, w)) (omega (arith, a)) i u e in omega (arith, g)
+pub placed-more : (row : List ℕ) (tokens : List (Token Entry)) (t : Token Entry) → ArePlaced row tokens → t.place ≡ length tokens → IsOf row t → ArePlaced row (tokens ++ t ∷ [])
+placed-more row tokens t are at of = record {
+  cells = are.cells;
+  each = each-more (λ i u. (u.place ≡ i) × IsOf row u) tokens t are.each (at, of);
+}
+
+-- what a list has at a place, as the token of the cell there tells it
+pub cell-there : (row : List ℕ) (i : ℕ) → i < length row → slice_get row i ≡ Some (slice_index_or row i 0)
+cell-there [] i l = absurd (omega (arith, l))
+cell-there (x ∷ row) zero l = refl
+cell-there (x ∷ row) (suc i) l = cell-there row i (omega (arith, l))
+
+-- so the next token is of the row
+pub next-of-row : (row : List ℕ) (i : ℕ) (e : Entry) (t : Token Entry) → i < length row → t ≡ token_in row i e → IsOf row t
+next-of-row row i e t l q = subst (IsOf row) (sym q) (cell-there row i l)
 
 -- the counts of a log with one more entry
 pub clients-next : (e : Entry) (log : List Entry) → client_count (e ∷ log) ≡ cond (is_client e) 1 0 + client_count log

@@ -1,5 +1,5 @@
 -- What an accepted block makes of a table.
-use Rattle.std.proofs.Common.{◌≡◌, ◌≢◌, is_some, ℕ, ◌+◌, ◌<◌, ◌≤◌, Bool, true, false, cond, nat_le, nat_lt, List, [], ◌∷◌, ◌++◌, length, take, refl, sym, ap, subst, arith, ◌∙◌}
+use Rattle.std.proofs.Common.{◌≡◌, ◌≢◌, is_some, ℕ, ◌+◌, ◌<◌, ◌≤◌, inl, Bool, true, false, cond, nat_le, nat_lt, List, [], ◌∷◌, ◌++◌, length, take, refl, sym, ap, subst, arith, ◌∙◌}
 use Rattle.std.proofs.lemmas.Bool.Decides.{nat_tests}
 use Rattle.std.proofs.lemmas.List.{append-nil}
 use Rattle.std.specs.declared.option.Option.{Option}
@@ -15,7 +15,7 @@ use Rattle.rmt_entries.specs.EntryBytes.{entry_bytes, EntryInRange}
 use Rattle.rmt_model.specs.Lawful.{mutation_count}
 use Rattle.rmt_model.specs.EntryLimits.{client_count, worker_count, commit_limit}
 use Rattle.rmt_history.specs.Copies.{entries}
-use Rattle.rmt_history.proofs.Copied.{entries-snoc, length-entries}
+use Rattle.rmt_history.proofs.Copied.{entries-snoc}
 use Rattle.rmt_model.specs.Quorum.{Quorum, quorum_after_block}
 use Rattle.rmt_paths.specs.Paths.{Names}
 use Rattle.rmt_tree.specs.Trees.{TreeView}
@@ -46,9 +46,11 @@ use Rattle.rmt_table.specs.declared.lock.Lock.{Lock}
 use Rattle.rmt_table.specs.declared.commit_error.CommitError.{CommitError}
 use Rattle.rmt_table.specs.declared.commit_error.CommitError.TheVariants as commit
 use Rattle.rmt_table.specs.Refusals.{IsAcceptable, TakesLock}
-use Rattle.rmt_table.specs.TableTrees.{table_at, IsReplica, Counts, ArePlaced, IsTableTree, IsUnlocked, AfterNoCommit, next_token}
-use Rattle.rmt_table.proofs.Appended.{placed-more, clients-next, workers-next, mutations-next, blocks-next}
+use Rattle.rmt_table.specs.TableTrees.{table_at, IsReplica, Counts, IsTableTree, IsUnlocked, AfterNoCommit, next_token}
+use Rattle.rmt_table.proofs.Appended.{clients-next, workers-next, mutations-next, blocks-next}
 use Rattle.rmt_table.proofs.SoundRanges.{commit-range, sound-length}
+use Rattle.rmt_table.proofs.AppendLemmas.{placed-next}
+use Rattle.rmt_table.proofs.LengthLemmas.{room-left}
 use Rattle.rmt_table.proofs.Allocated.{unkept}
 
 record FitsLimits (log : List Entry) (held values : ℕ) : Type 0 where
@@ -152,7 +154,7 @@ module _ (h : Held) (tokens : List (Token Entry)) (counts : Counts) (k : IsTable
             blocks = let c = k.counted.blocks in let n = blocks-next entry h.log in (omega (arith, blocks-is, c, n) ∙ ap get_count (sym log-is));
             window = window-now ∙ ap (in_order h.schema.window) (sym log-is);
           };
-          places = subst ArePlaced (sym more-is) (placed-more tokens token k.places (ap (λ (v : Token Entry). v.place) token-is ∙ ap length of ∙ length-entries tokens));
+          places = placed-next h tokens more token entry more-is token-is of (room-left h tokens tokens counts k of (inl few-clients)) k.places;
         }
 
 -- the ops that keep the id of a commit

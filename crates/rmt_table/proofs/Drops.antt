@@ -92,6 +92,9 @@ module _ (h : Held) (tokens : List (Token Entry)) (counts : Counts) (is : IsTabl
     may : MayDrop p (table_of h)
     may = record { number = number; exists = exists; numbers = few; client_entries = free.1 }
 
+    pub drop-few : counts.clients < 32768
+    drop-few = let c = is.counted.clients in let l = free.1 in omega (arith, c, l)
+
     pub drop-small : (next : Nexts) → next ≡ h.next → next_number next p + 1 < 2 ^ 32
     drop-small next e = let a = ap (λ (ns : Nexts). next_number ns p) e in let n = number-is in let l = few in omega (arith, a, n, l)
 
@@ -139,7 +142,7 @@ module _ (h : Held) (tokens : List (Token Entry)) (counts : Counts) (is : IsTabl
         after-is : ◌≡◌ {A = TableView} (record (after_drop p (table_of h)) { holders = holders_in t }) (table_of new)
         after-is = refl
 
-        pub drop-kept : (all : List (Token Entry)) → ArePlaced all → (blocks : ℕ) → blocks ≡ counts.blocks → (window : List Placed) → window ≡ filter (outlives p number) counts.window
+        pub drop-kept : (all : List (Token Entry)) → ArePlaced h.row all → (blocks : ℕ) → blocks ≡ counts.blocks → (window : List Placed) → window ≡ filter (outlives p number) counts.window
             → IsTableTree (record h { log = log; next = next; quorum = waits; tree = t }) all (record { clients = counts.clients + 1; workers = counts.workers; mutations = counts.mutations; blocks = blocks; window = window })
         drop-kept all placed blocks blocks-are window window-is = subst (λ (k : Held). IsTableTree k all (record { clients = counts.clients + 1; workers = counts.workers; mutations = counts.mutations; blocks = blocks; window = window })) (sym new-is)
             (record {

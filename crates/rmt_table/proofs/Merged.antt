@@ -38,7 +38,7 @@ use Rattle.rmt_events.specs.Views.{Table}
 use Rattle.rmt_events.specs.TableCalls.{AreQuiet, AssignsMerge}
 use Rattle.rmt_table.specs.SeenTable.{shown}
 use Rattle.rmt_table.proofs.CallBridge.{shown-locked, locked-shown, merge-bridge}
-use Rattle.rmt_table.specs.TableTrees.{Counts, IsTableTree, IsMergeOf, table_at, next_token, entry_ops}
+use Rattle.rmt_table.specs.TableTrees.{Counts, IsTableTree, IsMergeOf, table_at, next_token, token_in, entry_ops}
 use Rattle.rmt_table.specs.Causes.{merge_cause}
 use Rattle.rmt_table.specs.Neighbours.{IsPartOf, AreFirstApart}
 use Rattle.rmt_table.specs.declared.merge_error.MergeError.{MergeError}
@@ -285,19 +285,19 @@ module _ (h : Held) (tokens : List (Token Entry)) (logged : h.log ≡ entries to
           no-block : is_get e ≡ false
           no-block = ap is_get e-at
 
-          module _ (t : Token Entry) (t-is : t ≡ record { place = length tokens; value = e; cell = length tokens })
+          module _ (t : Token Entry) (t-is : t ≡ token_in h.row (length tokens) e)
               (more : List (Token Entry)) (more-is : more ≡ tokens ++ t ∷ []) (tree : TreeView) (ops : List Op) (ops-is : ops ≡ entry_ops e) (tree-is : tree ≡ after_all h.tree ops) where
             tree-at : tree ≡ after_all h.tree (entry_ops e)
             tree-at = tree-is ∙ ap (after_all h.tree) ops-is
 
             pub merge-tree : IsTableTree (record h { log = entries more; tree = tree }) more (record counts { workers = counts.workers + 1 })
-            merge-tree = worked-tree h tokens logged counts is e worker other window no-block steps t t-is more more-is tree tree-at
+            merge-tree = worked-tree h tokens logged counts is e worker other window no-block steps few t t-is more more-is tree tree-at
 
             pub merge-done : IsMergeOf now names t (record h { log = entries more; tree = tree })
             merge-done = subst (λ (k : Held). IsMergeOf k names t (record h { log = entries more; tree = tree })) same (record {
               name = new;
               count = count;
-              token_is = worked-token h tokens logged counts is e worker other window no-block steps t t-is more more-is tree tree-at ∙ ap (next_token h) e-at;
-              seen = subst (AssignsMerge (table_at h) new names count) (sym (worked-seen h tokens logged counts is e worker other window no-block steps t t-is more more-is tree tree-at)) seen;
+              token_is = worked-token h tokens logged counts is e worker other window no-block steps few t t-is more more-is tree tree-at ∙ ap (next_token h) e-at;
+              seen = subst (AssignsMerge (table_at h) new names count) (sym (worked-seen h tokens logged counts is e worker other window no-block steps few t t-is more more-is tree tree-at)) seen;
               tree = tree-at ∙ ap (λ (x : Entry). after_all h.tree (entry_ops x)) e-at;
             })

@@ -31,7 +31,7 @@ use Rattle.rmt_events.specs.TableCalls.{AssignsMutate}
 use Rattle.rmt_events.specs.TableRefusals.{NotMutated}
 use Rattle.rmt_table.specs.SeenTable.{shown}
 use Rattle.rmt_table.proofs.CallBridge.{mutate-bridge}
-use Rattle.rmt_table.specs.TableTrees.{Counts, IsTableTree, IsMutateOf, table_at, next_token, entry_ops}
+use Rattle.rmt_table.specs.TableTrees.{Counts, IsTableTree, IsMutateOf, table_at, next_token, token_in, entry_ops}
 use Rattle.rmt_table.specs.Causes.{mutate_cause}
 use Rattle.rmt_table.specs.declared.mutate_error.MutateError.{MutateError}
 use Rattle.rmt_table.specs.declared.mutate_error.MutateError.TheVariants as mutate
@@ -157,20 +157,20 @@ module _ (h : Held) (tokens : List (Token Entry)) (logged : h.log ≡ entries to
     no-block : is_get e ≡ false
     no-block = ap is_get r.entry
 
-    module _ (t : Token Entry) (t-is : t ≡ record { place = length tokens; value = e; cell = length tokens })
+    module _ (t : Token Entry) (t-is : t ≡ token_in h.row (length tokens) e)
         (more : List (Token Entry)) (more-is : more ≡ tokens ++ t ∷ []) (tree : TreeView) (ops : List Op) (ops-is : ops ≡ entry_ops e) (tree-is : tree ≡ after_all h.tree ops) where
       tree-at : tree ≡ after_all h.tree (entry_ops e)
       tree-at = tree-is ∙ ap (after_all h.tree) ops-is
 
       pub mutate-tree : IsTableTree (record h { log = entries more; tree = tree }) more (record counts { workers = counts.workers + 1 })
-      mutate-tree = worked-tree h tokens logged counts is e worker other window no-block steps t t-is more more-is tree tree-at
+      mutate-tree = worked-tree h tokens logged counts is e worker other window no-block steps few t t-is more more-is tree tree-at
 
       pub mutate-done : IsMutateOf now old upto t (record h { log = entries more; tree = tree })
       mutate-done = subst (λ (k : Held). IsMutateOf k old upto t (record h { log = entries more; tree = tree })) same (record {
         name = r.name;
         count = r.count;
         mcount = r.mcount;
-        token_is = worked-token h tokens logged counts is e worker other window no-block steps t t-is more more-is tree tree-at ∙ ap (next_token h) r.entry;
-        seen = subst (AssignsMutate (table_at h) old r.name upto r.count r.mcount) (sym (worked-seen h tokens logged counts is e worker other window no-block steps t t-is more more-is tree tree-at)) seen;
+        token_is = worked-token h tokens logged counts is e worker other window no-block steps few t t-is more more-is tree tree-at ∙ ap (next_token h) r.entry;
+        seen = subst (AssignsMutate (table_at h) old r.name upto r.count r.mcount) (sym (worked-seen h tokens logged counts is e worker other window no-block steps few t t-is more more-is tree tree-at)) seen;
         tree = tree-at ∙ ap (λ (x : Entry). after_all h.tree (entry_ops x)) r.entry;
       })

@@ -91,6 +91,9 @@ module _ (h : Held) (tokens : List (Token Entry)) (counts : Counts) (is : IsTabl
       let f = mutation-free h.next h.log free in
       record { fits = subst (λ (k : Held). CommandFits k.schema command) (sym same) fits; mutations = f.0; numbers = f.1; client_entries = f.2 }
 
+  pub mutation-few : counts.clients < 32768
+  mutation-few = let c = is.counted.clients in let l = may.client_entries in omega (arith, c, l)
+
   pub mutation-entry : (id : ℕ) (numbers : Nexts) → id ≡ counts.mutations → numbers ≡ h.next → EntryInRange (Mutation id numbers command)
   mutation-entry id numbers i n =
       let at = i ∙ is.counted.mutations in
@@ -123,7 +126,7 @@ module _ (h : Held) (tokens : List (Token Entry)) (counts : Counts) (is : IsTabl
     stepped : IsTable entry_bytes t (after_mutation command (table_of h))
     stepped = subst (λ (u : TreeView). IsTable entry_bytes u (after_mutation command (table_of h))) (sym (t-is ∙ ap (after_all h.tree) ops-are)) (Steps.table (mutation-steps entry_bytes h.tree (table_of h) is.held command may))
 
-    pub mutation-kept : (all : List (Token Entry)) → ArePlaced all → IsTableTree (record h { log = log; next = next; tree = t }) all (record { clients = counts.clients + 1; workers = counts.workers; mutations = counts.mutations + 1; blocks = counts.blocks; window = counts.window })
+    pub mutation-kept : (all : List (Token Entry)) → ArePlaced h.row all → IsTableTree (record h { log = log; next = next; tree = t }) all (record { clients = counts.clients + 1; workers = counts.workers; mutations = counts.mutations + 1; blocks = counts.blocks; window = counts.window })
     mutation-kept all placed = subst (λ (k : Held). IsTableTree k all (record { clients = counts.clients + 1; workers = counts.workers; mutations = counts.mutations + 1; blocks = counts.blocks; window = counts.window })) (sym new-is)
         (record {
           held = held-held entry_bytes new (after_mutation command (table_of h)) stepped refl;

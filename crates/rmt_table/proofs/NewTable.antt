@@ -1,5 +1,5 @@
 -- A new table in its tree, and as it is shown.
-use Rattle.std.proofs.Common.{◌≡◌, ℕ, zero, suc, ◌+◌, ◌-◌, ◌≤◌, List, [], ◌++◌, refl, sym, ap, subst, arith, ◌∙◌}
+use Rattle.std.proofs.Common.{◌≡◌, ℕ, zero, suc, ◌+◌, ◌-◌, ◌≤◌, List, [], ◌++◌, length, refl, sym, ap, subst, arith, ◌∙◌}
 use Rattle.std.specs.Prelude.{replicate, take}
 use Rattle.std.specs.declared.option.Option.{Option}
 use Rattle.std.specs.declared.option.Option.TheVariants.{None}
@@ -26,8 +26,8 @@ use Rattle.rmt_table_model.specs.Kept.{Placed}
 use Rattle.rmt_table.specs.TableTrees.{table_at, Counts, IsTableTree}
 
 -- what is kept of a new table, in this tree
-abbrev pub new_held : Shape → ℕ → TreeView → Held
-new_held schema count t = record { schema = schema; log = []; next = []; sessions = replicate count None; pulled = replicate count 0; quorum = record { pending = None; last = None }; values = 0; tree = t }
+abbrev pub new_held : Shape → List ℕ → ℕ → TreeView → Held
+new_held schema row count t = record { schema = schema; row = row; log = []; next = []; sessions = replicate count None; pulled = replicate count 0; quorum = record { pending = None; last = None }; values = 0; tree = t }
 
 abbrev pub no_counts : ℕ → List Placed → Counts
 no_counts blocks window = record { clients = 0; workers = 0; mutations = 0; blocks = blocks; window = window }
@@ -57,34 +57,34 @@ module _ (schema : Shape) (count : ℕ) (few : count ≤ 8) (t : TreeView) (ops 
   new-stepped : IsTable entry_bytes t (new_table schema count)
   new-stepped = subst (λ (u : TreeView). IsTable entry_bytes u (new_table schema count)) (sym new-tree) (Steps.table (new-steps entry_bytes schema count few))
 
-  module _ (tokens : List (Token Entry)) (next : Nexts) (sessions : List (Option ℕ)) (pulled : List ℕ) (no-tokens : tokens ≡ []) (no-next : next ≡ []) (sessions-are : sessions ≡ replicate count None) (pulled-are : pulled ≡ replicate count 0) where
-    new-same : ◌≡◌ {A = Held} (new_held schema count t) (record { schema = schema; log = entries tokens; next = next; sessions = sessions; pulled = pulled; quorum = record { pending = None; last = None }; values = 0; tree = t })
+  module _ (row : List ℕ) (cells : length row ≡ 65536) (tokens : List (Token Entry)) (next : Nexts) (sessions : List (Option ℕ)) (pulled : List ℕ) (no-tokens : tokens ≡ []) (no-next : next ≡ []) (sessions-are : sessions ≡ replicate count None) (pulled-are : pulled ≡ replicate count 0) where
+    new-same : ◌≡◌ {A = Held} (new_held schema row count t) (record { schema = schema; row = row; log = entries tokens; next = next; sessions = sessions; pulled = pulled; quorum = record { pending = None; last = None }; values = 0; tree = t })
     new-same =
-        ap (λ (xs : List (Token Entry)). record (new_held schema count t) { log = entries xs }) (sym no-tokens)
-        ∙ ap (λ (xs : Nexts). record (new_held schema count t) { log = entries tokens; next = xs }) (sym no-next)
-        ∙ ap (λ (xs : List (Option ℕ)). record (new_held schema count t) { log = entries tokens; next = next; sessions = xs }) (sym sessions-are)
-        ∙ ap (λ (xs : List ℕ). record (new_held schema count t) { log = entries tokens; next = next; sessions = sessions; pulled = xs }) (sym pulled-are)
+        ap (λ (xs : List (Token Entry)). record (new_held schema row count t) { log = entries xs }) (sym no-tokens)
+        ∙ ap (λ (xs : Nexts). record (new_held schema row count t) { log = entries tokens; next = xs }) (sym no-next)
+        ∙ ap (λ (xs : List (Option ℕ)). record (new_held schema row count t) { log = entries tokens; next = next; sessions = xs }) (sym sessions-are)
+        ∙ ap (λ (xs : List ℕ). record (new_held schema row count t) { log = entries tokens; next = next; sessions = sessions; pulled = xs }) (sym pulled-are)
 
-    new-none : IsTableTree (new_held schema count t) [] (no_counts 0 [])
+    new-none : IsTableTree (new_held schema row count t) [] (no_counts 0 [])
     new-none = record {
-      held = held-held entry_bytes (new_held schema count t) (new_table schema count) new-stepped refl;
+      held = held-held entry_bytes (new_held schema row count t) (new_table schema count) new-stepped refl;
       counted = record { clients = refl; workers = refl; mutations = refl; blocks = refl; window = refl };
-      places = λ i x e. absurd (cc);
+      places = record { cells = cells; each = λ i x e. absurd (cc) };
     }
 
     abbrev new_table_held : Quorum → Held
-    new_table_held q = record { schema = schema; log = entries tokens; next = next; sessions = sessions; pulled = pulled; quorum = q; values = 0; tree = t }
+    new_table_held q = record { schema = schema; row = row; log = entries tokens; next = next; sessions = sessions; pulled = pulled; quorum = q; values = 0; tree = t }
 
-    pub new-kept : (quorum : Quorum) → quorum ≡ record { pending = None; last = None } → (blocks : ℕ) → blocks ≡ 0 → (window : List Placed) → window ≡ [] → IsTableTree (record { schema = schema; log = entries tokens; next = next; sessions = sessions; pulled = pulled; quorum = quorum; values = 0; tree = t }) tokens (no_counts blocks window)
+    pub new-kept : (quorum : Quorum) → quorum ≡ record { pending = None; last = None } → (blocks : ℕ) → blocks ≡ 0 → (window : List Placed) → window ≡ [] → IsTableTree (record { schema = schema; row = row; log = entries tokens; next = next; sessions = sessions; pulled = pulled; quorum = quorum; values = 0; tree = t }) tokens (no_counts blocks window)
     new-kept quorum no-quorum blocks no-blocks window no-window =
         subst (λ (q : Quorum). IsTableTree (new_table_held q) tokens (no_counts blocks window)) (sym no-quorum)
         (subst (λ (n : ℕ). IsTableTree (new_table_held (record { pending = None; last = None })) tokens (no_counts n window)) (sym no-blocks)
         (subst (λ (ks : List Placed). IsTableTree (new_table_held (record { pending = None; last = None })) tokens (no_counts 0 ks)) (sym no-window)
-        (subst (λ (h : Held). IsTableTree h tokens (no_counts 0 [])) new-same (subst (λ (xs : List (Token Entry)). IsTableTree (new_held schema count t) xs (no_counts 0 [])) (sym no-tokens) new-none))))
+        (subst (λ (h : Held). IsTableTree h tokens (no_counts 0 [])) new-same (subst (λ (xs : List (Token Entry)). IsTableTree (new_held schema row count t) xs (no_counts 0 [])) (sym no-tokens) new-none))))
 
-    pub new-shown : (quorum : Quorum) → quorum ≡ record { pending = None; last = None } → table_at (record { schema = schema; log = entries tokens; next = next; sessions = sessions; pulled = pulled; quorum = quorum; values = 0; tree = t }) ≡ starts.new_table schema []
+    pub new-shown : (quorum : Quorum) → quorum ≡ record { pending = None; last = None } → table_at (record { schema = schema; row = row; log = entries tokens; next = next; sessions = sessions; pulled = pulled; quorum = quorum; values = 0; tree = t }) ≡ starts.new_table schema []
     new-shown quorum no-quorum =
-        ap (λ (q : Quorum). table_at (record { schema = schema; log = entries tokens; next = next; sessions = sessions; pulled = pulled; quorum = q; values = 0; tree = t })) no-quorum
+        ap (λ (q : Quorum). table_at (record { schema = schema; row = row; log = entries tokens; next = next; sessions = sessions; pulled = pulled; quorum = q; values = 0; tree = t })) no-quorum
         ∙ ap table_at (sym new-same)
-        ∙ ap shown (held-table entry_bytes (new_held schema count t) (new_table schema count) new-stepped refl)
+        ∙ ap shown (held-table entry_bytes (new_held schema row count t) (new_table schema count) new-stepped refl)
         ∙ ap (λ (xs : List ℕ). starts.new_table schema xs) (none-opened count 1)

@@ -1,16 +1,19 @@
 -- What a pull makes of a table and of a copy of its log.
-use Rattle.std.proofs.Common.{◌≡◌, ◌≢◌, ℕ, suc, ◌-◌, ◌<◌, ◌≤◌, List, [], ◌∷◌, length, refl, sym, ap, subst, arith, ◌∙◌, get_or, set}
+use Rattle.std.proofs.Common.{◌≡◌, ◌≢◌, ℕ, zero, suc, ◌-◌, ◌<◌, ◌≤◌, List, [], ◌∷◌, length, refl, sym, ap, subst, arith, ◌∙◌, get_or, set}
 use Rattle.std.proofs.lemmas.List.{get_or_default}
+use Rattle.std.specs.Prelude.{slice_get}
 use Rattle.std.specs.Fmt.{decimal}
-use Rattle.std.specs.declared.option.Option.TheVariants.{None}
-use Rattle.rmt_row.specs.Token.{Token}
+use Rattle.std.specs.declared.option.Option.TheVariants.{Some, None}
+use Rattle.rmt_row.specs.Token.{Token, IsOf}
 use Rattle.rmt_entries.specs.declared.entry.Entry.{Entry}
 use Rattle.rmt_entries.specs.EntryBytes.{entry_bytes}
-use Rattle.rmt_model.specs.Lawful.{IsPrefix}
+use Rattle.rmt_model.specs.Words.{Each}
+use Rattle.rmt_model.specs.Lawful.{IsPrefix, entry_at}
 use Rattle.rmt_events.proofs.Moves.{goes-on-more}
-use Rattle.rmt_history.specs.Copies.{History, entries}
-use Rattle.rmt_history.specs.TableLogs.{Follows}
+use Rattle.rmt_history.specs.Copies.{History, entries, IsLogOf, HasRowOf}
+use Rattle.rmt_history.specs.TableLogs.{Follows, HaveRowOf}
 use Rattle.rmt_history.proofs.Copied.{length-entries, token_at}
+use Rattle.rmt_history.proofs.RowLemmas.{longer-of-row, prefix-by-entries, each-there}
 use Rattle.rmt_tree.specs.Trees.{TreeView}
 use Rattle.rmt_tree.specs.Ops.{after_all, first_refusal}
 use Rattle.rmt_tree.specs.declared.op.Op.TheVariants as op
@@ -25,23 +28,29 @@ use Rattle.rmt_table_model.proofs.TableLemmas.{pull-steps}
 use Rattle.rmt_table_model.proofs.HeldLemmas.{held-table, held-held}
 use Rattle.rmt_table.specs.SeenTable.{shown}
 use Rattle.rmt_table.proofs.CallBridge.{pull-bridge}
-use Rattle.rmt_table.specs.TableTrees.{table_at, IsReplica, Counts, IsTableTree}
+use Rattle.rmt_table.specs.TableTrees.{table_at, IsReplica, Counts, ArePlaced, IsTableTree, IsCopyOf}
 use Rattle.rmt_table.proofs.PrefixLemmas.{prefix-whole, prefix-length, prefix-next}
 
 -- a copy that has gone on, and is a prefix of the log
-pub record IsBetween (before : History) (copy : History) (log : List Entry) : Type 0 where
+pub record IsBetween (row : List ℕ) (before : History) (copy : History) (log : List Entry) : Type 0 where
+  pub cells : IsLogOf row copy
   pub schema : copy.schema ≡ before.schema
   pub longer : IsPrefix before.log copy.log
   pub prefix : IsPrefix copy.log log
 
 -- it is as long as the log
-pub pulled-whole : (before copy : History) (tokens : List (Token Entry)) (n : ℕ) → IsBetween before copy (entries tokens) → n ≡ length copy.log → length tokens ≤ n → copy.log ≡ entries tokens
-pulled-whole before copy tokens n is e l =
+pub pulled-whole : (row : List ℕ) (before copy : History) (tokens : List (Token Entry)) (n : ℕ) → IsBetween row before copy (entries tokens) → n ≡ length copy.log → length tokens ≤ n → copy.log ≡ entries tokens
+pulled-whole row before copy tokens n is e l =
     prefix-whole copy.log (entries tokens) is.prefix (let w = prefix-length copy.log (entries tokens) is.prefix in let t = length-entries tokens in omega (arith, w, t, e, l))
 
--- a copy that follows the log is still a prefix of it
-pub follow-between : (before copy more : History) (tokens : List (Token Entry)) → IsBetween before copy (entries tokens) → Follows copy tokens more → IsBetween before more (entries tokens)
-follow-between before copy more tokens is f = subst (λ (h : History). IsBetween before h (entries tokens)) (sym f.is) (record {
+-- it is of one row with the log
+pub between-row : (row : List ℕ) (before copy : History) (tokens : List (Token Entry)) → ArePlaced row tokens → IsBetween row before copy (entries tokens) → HaveRowOf copy tokens
+between-row row before copy tokens places is = (row, is.cells, λ i t e. (places.each i t e).1)
+
+-- a copy that follows the log is still a prefix of it, and of the row
+pub follow-between : (row : List ℕ) (before copy more : History) (tokens : List (Token Entry)) → ArePlaced row tokens → IsBetween row before copy (entries tokens) → Follows copy tokens more → IsBetween row before more (entries tokens)
+follow-between row before copy more tokens places is f = subst (λ (h : History). IsBetween row before h (entries tokens)) (sym f.is) (record {
+  cells = let at = places.each (length copy.log) f.next f.there in longer-of-row row copy f.next is.cells at.0 at.1;
   schema = is.schema;
   longer = goes-on-more f.next.value before.log copy.log is.longer;
   prefix = prefix-next copy.log (entries tokens) f.next.value is.prefix (token_at tokens (length copy.log) f.next f.there);
@@ -96,3 +105,35 @@ module _ (h : Held) (tokens : List (Token Entry)) (counts : Counts) (is : IsTabl
         ∙ ap shown (held-table entry_bytes (record h { pulled = set h.pulled (r - 1) (length h.log); tree = t }) (after_pull (r - 1) (table_of h)) pull-stepped refl)
         ∙ pull-bridge (table_of h) (r - 1)
         ∙ ap table_at same
+
+-- the token at a place
+token-at : (tokens : List (Token Entry)) (i : ℕ) → i < length tokens → (t : Token Entry) × (slice_get tokens i ≡ Some t)
+token-at [] i l = absurd (omega (arith, l))
+token-at (t ∷ tokens) zero l = (t, refl)
+token-at (t ∷ tokens) (suc i) l = token-at tokens i (omega (arith, l))
+
+-- a copy of the row that isn't longer than the log, and whose entries the tokens tell, is a copy of the table's log
+pub meets : (h : Held) (tokens : List (Token Entry)) (counts : Counts) → IsTableTree h tokens counts → h.log ≡ entries tokens → (copy : History) → copy.schema ≡ h.schema → IsLogOf h.row copy → length copy.log ≤ length h.log
+    → Each (λ t. t.place < length copy.log → entry_at copy.log t.place ≡ Some t.value) tokens → IsCopyOf h copy
+meets h tokens counts is of copy s r l f = record {
+  schema = s;
+  cells = r;
+  prefix = prefix-by-entries copy.log h.log l (λ j m. let t = token-at tokens j (within j m) in same j m t.0 t.1);
+}
+  where
+    within : (j : ℕ) → j < length copy.log → j < length tokens
+    within j m = let n = length-entries tokens in let q = ap (λ (k : List Entry). length k) of in omega (arith, n, q, l, m)
+
+    same : (j : ℕ) → j < length copy.log → (t : Token Entry) → slice_get tokens j ≡ Some t → entry_at copy.log j ≡ entry_at h.log j
+    same j m t at =
+        let p : t.place ≡ j = (is.places.each j t at).0 in
+        subst (λ (k : ℕ). entry_at copy.log k ≡ Some t.value) p (each-there (λ u. u.place < length copy.log → entry_at copy.log u.place ≡ Some u.value) tokens j t f at (subst (λ (k : ℕ). k < length copy.log) (sym p) m))
+        ∙ sym (ap (λ (k : List Entry). entry_at k j) of ∙ token_at tokens j t at)
+
+-- each token is of the row of a copy
+pub of-row : (h : Held) (tokens : List (Token Entry)) (counts : Counts) → IsTableTree h tokens counts → (copy : History) → IsLogOf h.row copy → Each (HasRowOf copy) tokens
+of-row h tokens counts is copy of = go tokens 0 (λ i t e. (is.places.each i t e).1)
+  where
+    go : (xs : List (Token Entry)) (k : ℕ) → ((i : ℕ) (t : Token Entry) → slice_get xs i ≡ Some t → IsOf h.row t) → Each (HasRowOf copy) xs
+    go [] k f = tt
+    go (x ∷ xs) k f = ((h.row, of, f 0 x refl), go xs k (λ i t e. f (suc i) t e))

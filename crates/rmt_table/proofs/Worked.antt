@@ -1,5 +1,5 @@
 -- What one more entry of background work makes of a table, and why there is none.
-use Rattle.std.proofs.Common.{◌≡◌, ℕ, ◌+◌, ◌<◌, ◌≤◌, Bool, true, false, cond, not, nat_le, List, [], ◌∷◌, ◌++◌, length, refl, sym, ap, subst, arith, ◌∙◌}
+use Rattle.std.proofs.Common.{◌≡◌, ℕ, ◌+◌, ◌<◌, ◌≤◌, inr, Bool, true, false, cond, not, nat_le, List, [], ◌∷◌, ◌++◌, length, refl, sym, ap, subst, arith, ◌∙◌}
 use Rattle.std.proofs.lemmas.Bool.Decides.{nat_tests}
 use Rattle.std.specs.declared.option.Option.{Option}
 use Rattle.std.specs.declared.option.Option.TheVariants.{Some, None}
@@ -20,9 +20,9 @@ use Rattle.rmt_table_model.specs.Held.{Held, table_of}
 use Rattle.rmt_table_model.specs.Steps.{Steps}
 use Rattle.rmt_table_model.proofs.HeldLemmas.{held-table, held-held}
 use Rattle.rmt_table.specs.SeenTable.{shown}
-use Rattle.rmt_table.specs.TableTrees.{Counts, IsTableTree, IsCopyOf, table_at, next_token, entry_ops}
+use Rattle.rmt_table.specs.TableTrees.{Counts, IsTableTree, IsCopyOf, table_at, next_token, token_in, entry_ops}
 use Rattle.rmt_table.proofs.PrefixLemmas.{prefix-whole, prefix-length}
-use Rattle.rmt_table.proofs.LengthLemmas.{tokens-few}
+use Rattle.rmt_table.proofs.LengthLemmas.{tokens-few, room-left}
 use Rattle.rmt_table.proofs.Appended.{clients-next, workers-next, mutations-next, blocks-next}
 use Rattle.rmt_table.proofs.AppendLemmas.{placed-snoc, entries-more, token-next}
 
@@ -49,7 +49,7 @@ module _ (h : Held) (tokens : List (Token Entry)) (logged : h.log ≡ entries to
     (worker : is_client e ≡ false) (other : is_mutation e ≡ false) (window : in_order h.schema.window (e ∷ h.log) ≡ in_order h.schema.window h.log)
     (no-block : is_get e ≡ false)
     (steps : Steps entry_bytes h.tree (entry_ops e) (record (table_of h) { log = e ∷ h.log }))
-    (t : Token Entry) (t-is : t ≡ record { place = length tokens; value = e; cell = length tokens })
+    (few : counts.workers < 32768) (t : Token Entry) (t-is : t ≡ token_in h.row (length tokens) e)
     (more : List (Token Entry)) (more-is : more ≡ tokens ++ t ∷ []) (tree : TreeView) (tree-is : tree ≡ after_all h.tree (entry_ops e)) where
   log-is : entries more ≡ e ∷ h.log
   log-is = entries-more tokens more t e more-is (ap (λ (u : Token Entry). u.value) t-is) ∙ ap (λ (l : List Entry). e ∷ l) (sym logged)
@@ -75,7 +75,7 @@ module _ (h : Held) (tokens : List (Token Entry)) (logged : h.log ≡ entries to
       blocks = is.counted.blocks ∙ no-more;
       window = is.counted.window ∙ sym window;
     };
-    places = placed-snoc tokens more t more-is (ap (λ (u : Token Entry). u.place) t-is) is.places;
+    places = placed-snoc h.row tokens more t e more-is t-is (room-left h tokens tokens counts is logged (inr few)) is.places;
   }
     where
       no-client : client_count h.log ≡ client_count (e ∷ h.log)

@@ -1,9 +1,9 @@
 -- A table as its log and its tree have it.
 -- ClickHouse documentation, Data Replication. What is kept in memory beside the tree is this program's own.
-use Rattle.std.specs.Prelude.{◌≡◌, ℕ, ◌+◌, ◌-◌, ◌≤◌, Bool, true, false, cond, nat_eq, nat_lt, List, [], ◌∷◌, ◌++◌, length, slice_get}
+use Rattle.std.specs.Prelude.{◌≡◌, ℕ, ◌+◌, ◌-◌, ◌≤◌, Bool, true, false, cond, nat_eq, nat_lt, List, [], ◌∷◌, ◌++◌, length, slice_get, slice_index_or}
 use Rattle.std.specs.declared.option.Option.{Option}
 use Rattle.std.specs.declared.option.Option.TheVariants.{Some, None}
-use Rattle.rmt_row.specs.Token.{Token}
+use Rattle.rmt_row.specs.Token.{Token, IsOf}
 use Rattle.rmt_entries.specs.declared.entry.Entry.{Entry}
 use Rattle.rmt_entries.specs.declared.entry.Entry.TheVariants.{Get, Merge, Mutate, Mutation, DropRange}
 use Rattle.rmt_entries.specs.EntryBytes.{entry_bytes}
@@ -13,7 +13,7 @@ use Rattle.rmt_table_model.specs.Kept.{Placed, in_order, get_count}
 use Rattle.rmt_table_model.specs.Tables.{session_of}
 use Rattle.rmt_table_model.specs.Held.{Held, IsHeld, table_of, holders_in}
 use Rattle.std.specs.Fmt.{decimal}
-use Rattle.rmt_history.specs.Copies.{History}
+use Rattle.rmt_history.specs.Copies.{History, IsLogOf}
 use Rattle.rmt_tree.specs.Trees.{IsLeastFree, opened, ended}
 use Rattle.rmt_tree.specs.Ops.{after_all}
 use Rattle.rmt_tree.specs.declared.op.Op.{Op}
@@ -55,15 +55,16 @@ pub record AreCounts (h : Held) (counts : Counts) : Type 0 where
   pub blocks : counts.blocks ≡ get_count h.log
   pub window : counts.window ≡ in_order h.schema.window h.log
 
--- each token is at its place
-abbrev pub ArePlaced : List (Token Entry) → Type 0
-ArePlaced tokens = (i : ℕ) (t : Token Entry) → slice_get tokens i ≡ Some t → t.place ≡ i
+-- the row has as many cells as a log may have entries, and each token is of the cell at its place
+pub record ArePlaced (row : List ℕ) (tokens : List (Token Entry)) : Type 0 where
+  pub cells : length row ≡ 65536
+  pub each : (i : ℕ) (t : Token Entry) → slice_get tokens i ≡ Some t → (t.place ≡ i) × IsOf row t
 
--- a sound table in its tree, with its counts, and each token at its place
+-- a sound table in its tree, with its counts, and each token of the cell at its place
 pub record IsTableTree (h : Held) (tokens : List (Token Entry)) (counts : Counts) : Type 0 where
   pub held : IsHeld entry_bytes h
   pub counted : AreCounts h counts
-  pub places : ArePlaced tokens
+  pub places : ArePlaced h.row tokens
 
 -- the table without a lock, which was there
 pub record IsUnlocked (old : Held) (p : Option ℕ) (n : ℕ) (new : Held) : Type 0 where
@@ -104,18 +105,23 @@ ClosesTree (Some s) old new = new.tree ≡ ended old.tree s
 abbrev pub session_at : Held → ℕ → Option ℕ
 session_at h r = session_of h.sessions (r - 1)
 
--- a copy of a prefix of the table's log
+-- a copy of a prefix of the table's log, of the table's cell row
 pub record IsCopyOf (h : Held) (copy : History) : Type 0 where
   pub schema : copy.schema ≡ h.schema
   pub prefix : IsPrefix copy.log h.log
+  pub cells : IsLogOf h.row copy
 
 -- the op that sets how much a replica has pulled, where it is another length
 abbrev pub pull_ops : ℕ → ℕ → ℕ → List Op
 pull_ops r found len = cond (nat_eq found len) [] (op.Set (znode_path (LogPointer r)) (decimal len) None ∷ [])
 
+-- the token of an entry in the cell at a place of a row
+abbrev pub token_in : List ℕ → ℕ → Entry → Token Entry
+token_in row i e = record { place = i; value = e; cell = slice_index_or row i 0 }
+
 -- the token of the next entry of the table's log
 abbrev pub next_token : Held → Entry → Token Entry
-next_token h e = record { place = length h.log; value = e; cell = length h.log }
+next_token h e = token_in h.row (length h.log) e
 
 -- the op that writes an entry
 abbrev pub entry_ops : Entry → List Op

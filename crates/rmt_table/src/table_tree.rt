@@ -23,10 +23,12 @@ mod sessions;
 
 use crate::layout::new_ops;
 use crate::ops::multi;
+use rmt_entries::Entry;
 use rmt_history::TableLog;
 use rmt_inserts::Window;
 use rmt_partitions::Partitions;
 use rmt_quorum::QuorumState;
+use rmt_row::Row;
 use rmt_tree::Tree;
 use rmt_values::{ReplicaId, Schema};
 use std::alloc::{AllocError, Global};
@@ -37,6 +39,9 @@ use std::sync::Arc;
 #[derive(Drop)]
 pub struct TableTree {
     schema: Arc<Schema, Global>,
+    /// The cells of the log's entries.
+    row: Row<Entry>,
+    /// The tokens of those that are set.
     log: TableLog,
     partitions: Partitions,
     /// The session of each replica that has one.
@@ -71,9 +76,9 @@ impl Model for TableTree {
 
     ghost coded = { Prim.hlevel (codes, filter.the_row.coded, tree_code) };
 
-    ghost view = { λ t. record { schema = arc_value t.schema; log = entries t.log; next = t.partitions.numbers; sessions = t.sessions.items; pulled = t.pulled.items; quorum = t.quorum; values = t.values; tree = t.tree } };
+    ghost view = { λ t. record { schema = arc_value t.schema; row = t.row; log = entries t.log.tokens; next = t.partitions.numbers; sessions = t.sessions.items; pulled = t.pulled.items; quorum = t.quorum; values = t.values; tree = t.tree } };
 
-    ghost invariant = { λ t. IsTableTree (record { schema = arc_value t.schema; log = entries t.log; next = t.partitions.numbers; sessions = t.sessions.items; pulled = t.pulled.items; quorum = t.quorum; values = t.values; tree = t.tree }) t.log (record { clients = t.clients; workers = t.workers; mutations = t.mutations; blocks = t.window.count; window = t.window.placed }) };
+    ghost invariant = { λ t. IsTableTree (record { schema = arc_value t.schema; row = t.row; log = entries t.log.tokens; next = t.partitions.numbers; sessions = t.sessions.items; pulled = t.pulled.items; quorum = t.quorum; values = t.values; tree = t.tree }) t.log.tokens (record { clients = t.clients; workers = t.workers; mutations = t.mutations; blocks = t.window.count; window = t.window.placed }) };
 }
 
 impl TableTree {
@@ -87,8 +92,10 @@ impl TableTree {
         requires few { replicas ≤ 8 }
         ensures table { IfOk result (λ made. table_at made ≡ new_table (arc_value schema) []) }
         ensures replicas { IfOk result (λ made. length made.sessions ≡ replicas) }
+        ensures row { IfOk result (λ made. length made.row ≡ 65536) }
         ensures ops { IfOk result (λ made. made.tree ≡ after_all empty_tree (ops_of_new replicas)) }
     {
+        let row = Row::new(alloc, 65_536)?;
         let mut tree = Tree::new(alloc);
         let ops = new_ops(alloc, replicas)?;
         multi(&mut tree, &ops)?;
@@ -99,6 +106,7 @@ impl TableTree {
         pulled.resize(count, 0)?;
         Ok(TableTree {
             schema,
+            row,
             log: TableLog::new(alloc),
             partitions: Partitions::new(alloc),
             sessions,

@@ -27,10 +27,11 @@ owner_of (Some n) = n.owner
 abbrev pub holders_in : TreeView → Holders
 holders_in t p n = cond (fits p && nat_lt n (2 ^ 32)) (owner_of (node_at t (znode_path (Lock p n)))) None
 
--- what is kept: the schema, the log, the newest entry first, the next numbers, the sessions, the lengths pulled, the quorum,
--- the values, and the tree
+-- what is kept: the schema, the names of the cells of the log's row, the log, the newest entry first, the next numbers, the
+-- sessions, the lengths pulled, the quorum, the values, and the tree
 pub record Held : Type 0 where
   pub schema : Shape
+  pub row : List ℕ
   pub log : List Entry
   pub next : Nexts
   pub sessions : List (Option ℕ)

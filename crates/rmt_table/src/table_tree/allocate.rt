@@ -78,6 +78,7 @@ impl TableTree {
             (NoNumber (table_at self.old) replica id.now.partition id.now.digest need)) }
         ensures err { OnErr result (self.new ≡ self.old) }
         ensures replicas { length self.new.sessions ≡ length self.old.sessions }
+        ensures row { self.new.row ≡ self.old.row }
     {
         let Some(number) = self.session(replica) else {
             return Err(AllocateError::NoSession);

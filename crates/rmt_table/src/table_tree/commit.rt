@@ -12,7 +12,7 @@ ghost use Rattle.rmt_events.specs.TableRefusals.{HasQuorum};
 ghost use Rattle.rmt_table_model.specs.Held.{table_of, holders_in};
 ghost use Rattle.rmt_table_model.specs.Numbers.{IsLocked as IsHeldBy};
 ghost use Rattle.rmt_table_model.specs.Nodes.{commit_ops as commit_ops_of, keep_ops as keep_ops_of, status_ops};
-ghost use Rattle.rmt_table.specs.TableTrees.{table_at, IsReplica, AfterNoCommit};
+ghost use Rattle.rmt_table.specs.TableTrees.{table_at, IsReplica, AfterNoCommit, next_token};
 ghost use Rattle.rmt_table.specs.Causes.{commit_cause};
 ghost use Rattle.rmt_table.specs.Refusals.{NoCommit, IsAcceptable, TakesLock};
 
@@ -138,13 +138,14 @@ impl TableTree {
         requires here { IsReplica self.old lock.now.replica }
         requires quorum { need ≢ 1 }
         ensures has_quorum { OnOk result (HasQuorum (table_at self.old) need) }
-        ensures token { IfOk result (λ token. token ≡ record { place = length self.old.log; value = Get lock.now.id.partition lock.now.number lock.now.id.digest lock.now.replica need; cell = length self.old.log }) }
+        ensures token { IfOk result (λ token. token ≡ next_token self.old (Get lock.now.id.partition lock.now.number lock.now.id.digest lock.now.replica need)) }
         ensures commits { OnOk result (Commits (table_at self.old) lock.now.id.partition lock.now.number lock.now.id.digest lock.now.replica need values (table_at self.new)) }
         ensures ops { OnOk result (self.new.tree ≡ after_all self.old.tree (commit_ops_of entry_bytes lock.now.id.partition lock.now.number lock.now.id.digest lock.now.replica need (table_of self.old))) }
         ensures refused { IfErr result (λ e. IfSome (commit_cause e)
             (NoCommit (table_at self.old) lock.now need values)) }
         ensures err { IfErr result (λ e. AfterNoCommit self.old lock.now e self.new) }
         ensures replicas { length self.new.sessions ≡ length self.old.sessions }
+        ensures row { self.new.row ≡ self.old.row }
     {
         let path = Znode::Lock {
             partition: lock.id.partition,
@@ -180,17 +181,18 @@ impl TableTree {
         requires path { path ≡ znode_path (ZnodeOf.Lock lock.now.id.partition lock.now.number) }
         requires locked { IsHeldBy (holders_in self.old.tree) lock.now.id.partition lock.now.number }
         requires acceptable { IsAcceptable (table_at self.old) lock.now need values }
-        ensures token { IfOk result (λ token. token ≡ record { place = length self.old.log; value = Get lock.now.id.partition lock.now.number lock.now.id.digest lock.now.replica need; cell = length self.old.log }) }
+        ensures token { IfOk result (λ token. token ≡ next_token self.old (Get lock.now.id.partition lock.now.number lock.now.id.digest lock.now.replica need)) }
         ensures commits { OnOk result (Commits (table_at self.old) lock.now.id.partition lock.now.number lock.now.id.digest lock.now.replica need values (table_at self.new)) }
         ensures ops { OnOk result (self.new.tree ≡ after_all self.old.tree (commit_ops_of entry_bytes lock.now.id.partition lock.now.number lock.now.id.digest lock.now.replica need (table_of self.old))) }
         ensures err { OnErr result (self.new ≡ self.old) }
         ensures replicas { length self.new.sessions ≡ length self.old.sessions }
+        ensures row { self.new.row ≡ self.old.row }
     {
         is_id(&lock.id);
         let ops = self.commit_ops(alloc, lock, path, need)?;
         self.window.reserve()?;
         let entry = entry_of(lock, need);
-        let token = append(&mut self.tree, &mut self.log, alloc, &ops, entry)?;
+        let token = append(&mut self.tree, &self.row, &mut self.log, alloc, &ops, entry)?;
         let part = block_name(lock.id.partition, lock.number);
         self.window.keep(lock.id, part, self.schema.window());
         self.quorum.open(alloc, part, need);

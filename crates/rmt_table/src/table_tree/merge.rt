@@ -77,6 +77,7 @@ impl TableTree {
             (NotMerged (table_at self.old) (length copy.now.log) sources.now)) }
         ensures err { OnErr result (self.new ≡ self.old) }
         ensures replicas { length self.new.sessions ≡ length self.old.sessions }
+        ensures row { self.new.row ≡ self.old.row }
     {
         let seen = copy.len();
         if seen < self.log.len() {
@@ -106,7 +107,7 @@ impl TableTree {
             sources: List::new(Vec::from_slice(alloc, sources)?),
             count: block_sum(copy, sources),
         };
-        let token = append_alone(&mut self.tree, &mut self.log, alloc, entry)?;
+        let token = append_alone(&mut self.tree, &self.row, &mut self.log, alloc, entry)?;
         self.workers += 1;
         Ok(token)
     }

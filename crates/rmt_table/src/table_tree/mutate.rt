@@ -63,6 +63,7 @@ impl TableTree {
             (NotMutated (table_at self.old) (length copy.now.log))) }
         ensures err { OnErr result (self.new ≡ self.old) }
         ensures replicas { length self.new.sessions ≡ length self.old.sessions }
+        ensures row { self.new.row ≡ self.old.row }
     {
         let seen = copy.len();
         if seen < self.log.len() {
@@ -78,7 +79,7 @@ impl TableTree {
             });
         }
         let entry = mutate_entry(copy, old, upto);
-        let token = append_alone(&mut self.tree, &mut self.log, alloc, entry)?;
+        let token = append_alone(&mut self.tree, &self.row, &mut self.log, alloc, entry)?;
         self.workers += 1;
         Ok(token)
     }

@@ -1,4 +1,4 @@
-ghost use Rattle.std.specs.Prelude.{◌≡◌, ◌∷◌, ◌++◌, [], length, true, false, None, IfOk, IfErr, IfSome, OnOk, OnErr};
+ghost use Rattle.std.specs.Prelude.{◌≡◌, ◌<◌, ◌∷◌, ◌++◌, [], length, true, false, None, IfOk, IfErr, IfSome, OnOk, OnErr};
 ghost use Rattle.std.specs.Option.{option_map};
 ghost use Rattle.std.specs.Fmt.{decimal};
 ghost use Rattle.rmt_values.specs.Commands.{CommandFits};
@@ -14,23 +14,24 @@ ghost use Rattle.rmt_events.specs.TableCalls.{CreatesMutation};
 ghost use Rattle.rmt_events.specs.TableRefusals.{NoMutation};
 ghost use Rattle.rmt_table_model.specs.Held.{table_of};
 ghost use Rattle.rmt_table_model.specs.Nodes.{mutation_ops, number_ops as ops_of_number, numbers_ops as ops_of_numbers};
-ghost use Rattle.rmt_table.specs.TableTrees.{table_at};
+ghost use Rattle.rmt_table.specs.TableTrees.{table_at, token_in, next_token};
 ghost use Rattle.rmt_table.specs.MutationOps.{mutation_tail, mutation_ops as mutation_ops_of};
 ghost use Rattle.rmt_table.specs.Causes.{change_cause};
 ghost use Rattle.rmt_table.specs.declared.change_error.ChangeError.TheVariants as change;
 
 use crate::change_error::ChangeError;
-use crate::ops::{append_token, entry_op, number_text, token_of};
+use crate::ops::{append_value, entry_op, number_text};
 use crate::table_tree::TableTree;
 use rmt_entries::Entry;
 use rmt_history::TableLog;
 use rmt_list::List;
 use rmt_names::PartitionId;
-use rmt_row::Seen;
+use rmt_row::{Row, Seen};
 use rmt_tree::{Op, Tree};
 use rmt_values::{Blob, CheckedMutation, Limit};
 use rmt_znodes::{Znode, lock_path};
 use std::alloc::{AllocError, Global};
+use std::sync::Arc;
 
 /// Adds the operations that take a number of a partition, its next one, and leave no lock on it.
 ///
@@ -99,6 +100,7 @@ fn push_entry(
 /// At an error no memory was left, and tree and log are as they were.
 fn append_mutation(
     tree: &mut Tree,
+    row: &Row<Entry>,
     log: &mut TableLog,
     alloc: Global,
     id: u32,
@@ -108,11 +110,12 @@ fn append_mutation(
 ) -> Result<Seen<Entry>, AllocError>
     requires in_range { EntryInRange (Mutation id numbers command) }
     requires fine { first_refusal tree.old (mutation_ops_of id place numbers command) 0 ≡ None }
+    requires room { length log.old.tokens < length row.now }
     ensures tree { OnOk result (tree.new ≡ after_all tree.old (mutation_ops_of id place numbers command)) }
-    ensures log { IfOk result (λ token. log.new ≡ log.old ++ token ∷ []) }
-    ensures token { IfOk result (λ token. token ≡ record { place = length log.old; value = Mutation id numbers command; cell = length log.old }) }
+    ensures log { IfOk result (λ token. log.new.tokens ≡ log.old.tokens ++ token ∷ []) }
+    ensures token { IfOk result (λ token. token ≡ token_in row.now (length log.old.tokens) (Mutation id numbers command)) }
     ensures err_tree { OnErr result (tree.new ≡ tree.old) }
-    ensures err_log { OnErr result (log.new ≡ log.old) }
+    ensures err_log { OnErr result (log.new.tokens ≡ log.old.tokens) }
 {
     let ops = numbers_ops(alloc, numbers.as_slice())?;
     let entry = Entry::Mutation {
@@ -120,7 +123,7 @@ fn append_mutation(
         numbers,
         command,
     };
-    let token = append_after(tree, log, alloc, id, place, ops, entry)?;
+    let token = append_after(tree, row, log, alloc, id, place, ops, entry)?;
     Ok(token)
 }
 
@@ -129,6 +132,7 @@ fn append_mutation(
 /// At an error no memory was left, and tree and log are as they were.
 fn append_after(
     tree: &mut Tree,
+    row: &Row<Entry>,
     log: &mut TableLog,
     alloc: Global,
     id: u32,
@@ -138,17 +142,18 @@ fn append_after(
 ) -> Result<Seen<Entry>, AllocError>
     requires in_range { EntryInRange entry }
     requires fine { first_refusal tree.old (ops.items ++ mutation_tail id place entry) 0 ≡ None }
+    requires room { length log.old.tokens < length row.now }
     ensures tree { OnOk result (tree.new ≡ after_all tree.old (ops.items ++ mutation_tail id place entry)) }
-    ensures log { IfOk result (λ token. log.new ≡ log.old ++ token ∷ []) }
-    ensures token { IfOk result (λ token. token ≡ record { place = length log.old; value = entry; cell = length log.old }) }
+    ensures log { IfOk result (λ token. log.new.tokens ≡ log.old.tokens ++ token ∷ []) }
+    ensures token { IfOk result (λ token. token ≡ token_in row.now (length log.old.tokens) entry) }
     ensures err_tree { OnErr result (tree.new ≡ tree.old) }
-    ensures err_log { OnErr result (log.new ≡ log.old) }
+    ensures err_log { OnErr result (log.new.tokens ≡ log.old.tokens) }
 {
-    let token = token_of(alloc, log.len(), entry)?;
+    let value = Arc::new(alloc, entry)?;
     let mut ops = ops;
-    push_entry(&mut ops, alloc, id, place, token.value())?;
-    let answer = append_token(tree, log, &ops, token)?;
-    Ok(answer)
+    push_entry(&mut ops, alloc, id, place, &value)?;
+    let token = append_value(tree, row, log, &ops, value)?;
+    Ok(token)
 }
 
 impl TableTree {
@@ -163,18 +168,20 @@ impl TableTree {
     ) -> Result<Seen<Entry>, ChangeError>
         requires fits { CommandFits self.old.schema command }
         requires in_range { CommandInRange command }
-        ensures token { IfOk result (λ token. token ≡ record { place = length self.old.log; value = Mutation (mutation_count self.old.log) self.old.next command; cell = length self.old.log }) }
+        ensures token { IfOk result (λ token. token ≡ next_token self.old (Mutation (mutation_count self.old.log) self.old.next command)) }
         ensures creates { OnOk result (CreatesMutation (table_at self.old) command (table_at self.new)) }
         ensures ops { OnOk result (self.new.tree ≡ after_all self.old.tree (mutation_ops entry_bytes command (table_of self.old))) }
         ensures refused { IfErr result (λ e. IfSome (change_cause e)
             (NoMutation (table_at self.old))) }
         ensures err { OnErr result (self.new ≡ self.old) }
         ensures replicas { length self.new.sessions ≡ length self.old.sessions }
+        ensures row { self.new.row ≡ self.old.row }
     {
         let numbers = self.mutation_numbers(alloc)?;
         let place = self.log_len();
         let token = append_mutation(
             &mut self.tree,
+            &self.row,
             &mut self.log,
             alloc,
             self.mutations,

@@ -1,17 +1,19 @@
-ghost use Rattle.std.specs.Prelude.{◌≡◌, ◌-◌, ◌∷◌, [], length, slice_index_or, IfOk, OnOk, OnErr};
+ghost use Rattle.std.specs.Prelude.{◌≡◌, ◌↔◌, ◌≤◌, ◌-◌, ◌∷◌, [], length, slice_index_or, IsTrue, IfOk, OnOk, OnErr};
 ghost use Rattle.rmt_tree.specs.Ops.{after_all, first_refusal};
 ghost use Rattle.std.specs.Fmt.{decimal};
 ghost use Rattle.std.specs.declared.option.Option.TheVariants.{None};
-ghost use Rattle.rmt_history.specs.Copies.{entries};
+ghost use Rattle.rmt_history.specs.Copies.{entries, IsLogOf};
 ghost use Rattle.rmt_model.specs.Lawful.{IsPrefix, Lawful};
 ghost use Rattle.rmt_tree.specs.declared.op.Op.TheVariants as op;
 ghost use Rattle.rmt_znodes.specs.declared.znode.Znode.TheVariants.{LogPointer};
 ghost use Rattle.rmt_znodes.specs.Znodes.{znode_path};
-ghost use Rattle.rmt_table.specs.TableTrees.{table_at, IsReplica, IsCopyOf, pull_ops};
+ghost use Rattle.rmt_table.specs.TableTrees.{table_at, IsReplica, IsCopyOf, ArePlaced, pull_ops};
 
 use crate::ops::{multi, number_text};
 use crate::table_tree::TableTree;
+use rmt_entries::Entry;
 use rmt_history::{LogCopy, TableLog};
+use rmt_row::Row;
 use rmt_tree::{Op, Tree};
 use rmt_values::ReplicaId;
 use rmt_znodes::Znode;
@@ -34,14 +36,19 @@ fn point(tree: &mut Tree, alloc: Global, replica: ReplicaId, len: u32) -> Result
 }
 
 /// Brings a copy of the log to the log's length. At an error no memory was left, and the copy is a longer prefix.
-fn extend(log: &TableLog, copy: &mut LogCopy) -> Result<(), AllocError>
-    requires lawful { Lawful copy.old.schema (entries log.now) }
-    requires prefix { IsPrefix copy.old.log (entries log.now) }
-    ensures ok { OnOk result (copy.new.log ≡ entries log.now) }
+fn extend(row: &Row<Entry>, log: &TableLog, copy: &mut LogCopy) -> Result<(), AllocError>
+    requires lawful { Lawful copy.old.schema (entries log.now.tokens) }
+    requires prefix { IsPrefix copy.old.log (entries log.now.tokens) }
+    requires places { ArePlaced row.now log.now.tokens }
+    requires cells { IsLogOf row.now copy.old }
+    ensures ok { OnOk result (copy.new.log ≡ entries log.now.tokens) }
     ensures schema { copy.new.schema ≡ copy.old.schema }
     ensures longer { IsPrefix copy.old.log copy.new.log }
-    ensures prefix { IsPrefix copy.new.log (entries log.now) }
+    ensures prefix { IsPrefix copy.new.log (entries log.now.tokens) }
+    ensures cells { IsLogOf row.now copy.new }
 {
+    // The row is here for what is known of it.
+    let _ = row;
     'entries: while copy.len() < log.len() {
         copy.follow(log)?;
     }
@@ -69,9 +76,11 @@ impl TableTree {
         ensures schema { copy.new.schema ≡ copy.old.schema }
         ensures longer { IsPrefix copy.old.log copy.new.log }
         ensures prefix { IsPrefix copy.new.log self.old.log }
+        ensures cells { IsLogOf self.old.row copy.new }
         ensures replicas { length self.new.sessions ≡ length self.old.sessions }
+        ensures row { self.new.row ≡ self.old.row }
     {
-        extend(&self.log, copy)?;
+        extend(&self.row, &self.log, copy)?;
         let length = self.log_len();
         let place = usize::from(replica) - 1;
         if self.pulled[place] != length {
@@ -79,5 +88,35 @@ impl TableTree {
             self.pulled[place] = length;
         }
         Ok(length)
+    }
+
+    /// Brings a copy of the log that is no replica's to the log's length, which comes back.
+    ///
+    /// At an error no memory was left, and the copy is a prefix of the log that isn't shorter than before.
+    pub fn extend_copy(&self, copy: &mut LogCopy) -> Result<u32, AllocError>
+        requires of { IsCopyOf self.now copy.old }
+        ensures length { IfOk result (λ len. len ≡ length self.now.log) }
+        ensures copied { OnOk result (copy.new.log ≡ self.now.log) }
+        ensures schema { copy.new.schema ≡ copy.old.schema }
+        ensures longer { IsPrefix copy.old.log copy.new.log }
+        ensures prefix { IsPrefix copy.new.log self.now.log }
+        ensures cells { IsLogOf self.now.row copy.new }
+    {
+        extend(&self.row, &self.log, copy)?;
+        Ok(self.log_len())
+    }
+
+    /// Whether a copy of the table's row isn't longer than the log: then it is a prefix of the log. It takes no memory.
+    pub fn meet(&self, copy: &LogCopy) -> bool
+        requires schema { copy.now.schema ≡ self.now.schema }
+        requires row { IsLogOf self.now.row copy.now }
+        ensures short { IsTrue result ↔ length copy.now.log ≤ length self.now.log }
+        ensures of { IsTrue result → IsCopyOf self.now copy.now }
+    {
+        if self.log.len() < copy.len() {
+            return false;
+        }
+        copy.meet_tokens(self.log.as_slice());
+        true
     }
 }

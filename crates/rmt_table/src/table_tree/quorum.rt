@@ -125,6 +125,7 @@ impl TableTree {
         ensures noted { IfOk result (λ noted. IsQuorumNote self.old replica part.now noted self.new) }
         ensures err { OnErr result (self.new ≡ self.old) }
         ensures replicas { length self.new.sessions ≡ length self.old.sessions }
+        ensures row { self.new.row ≡ self.old.row }
     {
         let Some(pending) = self.quorum.pending() else {
             return Ok(false);

@@ -11,26 +11,26 @@ use Rattle.rmt_table.proofs.table_tree.TableTree.allocate.Goals as goal
 
 pub returns-in_default-clause-refused : goal.returns-in_default-clause-refused
 returns-in_default-clause-refused c =
-    no-session (the_view c.self.inside) c.self.inside.log _ c.self.invariant c.args.self.now c.self.view_is c.args.replica c.args.need c.args.id.now c.requires.here c.session.result c.session.ensures c.in_default.is
+    no-session (the_view c.self.inside) c.self.inside.log.tokens _ c.self.invariant c.args.self.now c.self.view_is c.args.replica c.args.need c.args.id.now c.requires.here c.session.result c.session.ensures c.in_default.is
 
 pub returns-in-Some-quorum_refusal-clause-refused : goal.returns-in-Some-quorum_refusal-clause-refused
 returns-in-Some-quorum_refusal-clause-refused c =
-    no-quorum (the_view c.self.inside) c.self.inside.log _ c.self.invariant c.args.self.now c.self.view_is c.args.replica c.args.need c.args.id.now c.requires.here c.session.result c.session.ensures
+    no-quorum (the_view c.self.inside) c.self.inside.log.tokens _ c.self.invariant c.args.self.now c.self.view_is c.args.replica c.args.need c.args.id.now c.requires.here c.session.result c.session.ensures
     c.in-Some.number c.in-Some.is c.in-Some-quorum_refusal.error c.in-Some-quorum_refusal.ensures c.of_quorum.result c.of_quorum.ensures
 
 pub returns-in-Some-kept-clause-refused : goal.returns-in-Some-kept-clause-refused
 returns-in-Some-kept-clause-refused c =
-    is-kept (the_view c.self.inside) c.self.inside.log _ c.self.invariant c.args.self.now c.self.view_is c.args.replica c.args.need c.args.id.now c.requires.here c.session.result c.session.ensures
+    is-kept (the_view c.self.inside) c.self.inside.log.tokens _ c.self.invariant c.args.self.now c.self.view_is c.args.replica c.args.need c.args.id.now c.requires.here c.session.result c.session.ensures
     c.in-Some.number c.in-Some.is c.in_default-quorum_refusal.ensures c.kept.result (c.kept.ensures ∙ ap (part_of _ _) c.self.invariant.counted.window) c.in-Some-kept.part c.in-Some-kept.is
 
 pub returns-then-self-ge32768-clause-refused : goal.returns-then-self-ge32768-clause-refused
 returns-then-self-ge32768-clause-refused c =
-    is-full (the_view c.self.inside) c.self.inside.log _ c.self.invariant c.args.self.now c.self.view_is c.args.replica c.args.need c.args.id.now c.requires.here c.session.result c.session.ensures
+    is-full (the_view c.self.inside) c.self.inside.log.tokens _ c.self.invariant c.args.self.now c.self.view_is c.args.replica c.args.need c.args.id.now c.requires.here c.session.result c.session.ensures
     c.in-Some.number c.in-Some.is c.in_default-quorum_refusal.ensures c.kept.result (c.kept.ensures ∙ ap (part_of _ _) c.self.invariant.counted.window) c.in_default-kept.is c.full.result c.full.ensures
 
 pub returns-in-Err-clause-refused : goal.returns-in-Err-clause-refused
 returns-in-Err-clause-refused c =
-    no-number (the_view c.self.inside) c.self.inside.log _ c.self.invariant c.args.self.now c.self.view_is c.args.replica c.args.need c.args.id.now c.requires.here c.session.result c.session.ensures
+    no-number (the_view c.self.inside) c.self.inside.log.tokens _ c.self.invariant c.args.self.now c.self.view_is c.args.replica c.args.need c.args.id.now c.requires.here c.session.result c.session.ensures
     c.in-Some.number c.in-Some.is c.in_default-quorum_refusal.ensures c.kept.result (c.kept.ensures ∙ ap (part_of _ _) c.self.invariant.counted.window) c.in_default-kept.is c.in-Err.error (c.in-Err.ensures.refused _ _ (held-numbers (the_view c.self.inside) c.self.invariant.held)) c.of_number.result c.of_number.ensures
 
 pub take-requires-clause-small : goal.take-requires-clause-small
@@ -39,7 +39,7 @@ take-requires-clause-small c = subst (λ (xs : List (Option ℕ × ℕ)). next_n
 
 pub invariant_of-self-2 : goal.invariant_of-self-2
 invariant_of-self-2 c =
-    allocated-tree (the_view c.self.inside) c.self.inside.log _ c.self.invariant c.args.self.now c.self.view_is c.args.replica c.args.need c.args.id.now c.requires.here c.session.result c.session.ensures
+    allocated-tree (the_view c.self.inside) c.self.inside.log.tokens _ c.self.invariant c.args.self.now c.self.view_is c.args.replica c.args.need c.args.id.now c.requires.here c.session.result c.session.ensures
     c.in-Some.number c.in-Some.is c.in_default-quorum_refusal.ensures c.kept.result (c.kept.ensures ∙ ap (part_of _ _) c.self.invariant.counted.window) c.in_default-kept.is
     c.is_partition.ensures (c.in-Ok.ensures.all _ _ (held-numbers (the_view c.self.inside) c.self.invariant.held)) (subst (λ (m : ℕ). m < 32768) c.self.invariant.counted.clients c.if-self-ge32768.false)
     c.take_number.new.tree (c.in-Ok.ensures.ok _ _ (held-numbers (the_view c.self.inside) c.self.invariant.held)) c.take.new.self.numbers
@@ -52,7 +52,7 @@ returns-clause-lock c =
 
 pub returns-clause-allocates : goal.returns-clause-allocates
 returns-clause-allocates c =
-    allocated-seen (the_view c.self.inside) c.self.inside.log _ c.self.invariant c.args.self.now c.self.view_is c.args.replica c.args.need c.args.id.now c.requires.here c.session.result c.session.ensures
+    allocated-seen (the_view c.self.inside) c.self.inside.log.tokens _ c.self.invariant c.args.self.now c.self.view_is c.args.replica c.args.need c.args.id.now c.requires.here c.session.result c.session.ensures
     c.in-Some.number c.in-Some.is c.in_default-quorum_refusal.ensures c.kept.result (c.kept.ensures ∙ ap (part_of _ _) c.self.invariant.counted.window) c.in_default-kept.is
     c.is_partition.ensures (c.in-Ok.ensures.all _ _ (held-numbers (the_view c.self.inside) c.self.invariant.held)) (subst (λ (m : ℕ). m < 32768) c.self.invariant.counted.clients c.if-self-ge32768.false)
     c.take_number.new.tree (c.in-Ok.ensures.ok _ _ (held-numbers (the_view c.self.inside) c.self.invariant.held)) c.take.new.self.numbers

@@ -9,5 +9,5 @@ twice false = refl
 
 pub returns : goal.returns
 returns c =
-    lock-told (the_view c.self.inside) c.self.inside.log _ c.self.invariant c.args.self.now c.self.view_is c.args.lock.now.id.partition c.args.lock.now.number c.path.ensures.in_range c.in_ok-path.path c.in_ok-path.ensures.path c.get.result c.get.ensures (not c.is_some.result) (sym c.is_some.ensures ∙ twice c.is_some.result)
+    lock-told (the_view c.self.inside) c.self.inside.log.tokens _ c.self.invariant c.args.self.now c.self.view_is c.args.lock.now.id.partition c.args.lock.now.number c.path.ensures.in_range c.in_ok-path.path c.in_ok-path.ensures.path c.get.result c.get.ensures (not c.is_some.result) (sym c.is_some.ensures ∙ twice c.is_some.result)
     c.is_some.result refl

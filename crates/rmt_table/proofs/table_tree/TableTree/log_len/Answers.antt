@@ -5,6 +5,6 @@ use Rattle.rmt_table.proofs.table_tree.TableTree.log_len.Goals as goal
 
 pub overflow_cast-result : goal.overflow_cast-result
 overflow_cast-result c =
-    let few = tokens-few (the_view c.self.inside) c.self.inside.log c.self.inside.log _ c.self.invariant refl in
+    let few = tokens-few (the_view c.self.inside) c.self.inside.log.tokens c.self.inside.log.tokens _ c.self.invariant refl in
     let len = c.len.ensures in
     omega (arith, few, len)
