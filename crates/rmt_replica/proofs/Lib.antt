@@ -11,3 +11,4 @@ pub mod Agreement
 pub mod StagedViews
 pub mod StateViews
 pub mod CallViews
+pub mod RowLemmas

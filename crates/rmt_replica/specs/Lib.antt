@@ -8,6 +8,7 @@ pub use Rattle.rmt_model.specs.Lawful
 pub use Rattle.rmt_model.specs.Fair
 pub use Rattle.rmt_model.specs.EntryStates
 pub use Rattle.rmt_part.specs.Lineages
+pub use Rattle.rmt_part.specs.CellRows
 pub use Rattle.rmt_partset.specs.ActiveParts
 pub mod Parts
 pub mod StagedBlocks
@@ -16,3 +17,4 @@ pub mod NotedParts
 pub mod Supplies
 pub mod Answers
 pub mod SeenReplica
+pub mod ReplicaRows

@@ -19,6 +19,7 @@ ghost use Rattle.rmt_entries.specs.Entries.{result_name};
 ghost use Rattle.rmt_entries.specs.declared.entry.Entry.TheVariants.{DropRange};
 ghost use Rattle.std.specs.declared.option.Option.TheVariants.{Some, None};
 
+mod meet;
 mod note;
 mod pull;
 

@@ -29,7 +29,7 @@ use Rattle.rmt_events.specs.declared.reply.Reply.TheVariants as rp
 use Rattle.rmt_events.specs.declared.step_refused.StepRefused.TheVariants as rf
 use Rattle.rmt_state.specs.States.{StateView, IsState, cluster_of, Acts}
 use Rattle.rmt_state.specs.Causes.{IsMergeReply, IsMutateReply}
-use Rattle.rmt_state.proofs.StateLemmas.{numbered-at, at-err, GoesOn}
+use Rattle.rmt_state.proofs.StateLemmas.{numbered-at, at-err, KeepsTable, GoesOn}
 use Rattle.rmt_state.proofs.ChangeLemmas.{appends, appended-on}
 use Rattle.rmt_state.proofs.PullLemmas.{down-in}
 
@@ -104,7 +104,7 @@ pub merge-stays : (old new : Held) (place : ℕ) (r : Result (Token Entry) Merge
 merge-stays old new place (Ok token) q e a = subst (λ (z : Result Reply AllocError). OnErr z (new ≡ old)) (sym a) tt
 merge-stays old new place (Err z) q e a = at-err q (new ≡ old) e
 
-pub merge-on : (old new : Held) (names : List Name) → length new.sessions ≡ length old.sessions → (token : Token Entry) → IsMergeOf old names token new → GoesOn old new
+pub merge-on : (old new : Held) (names : List Name) → KeepsTable old new → (token : Token Entry) → IsMergeOf old names token new → GoesOn old new
 merge-on old new names n token d = appended-on _ old new (ap (λ (t : Table). t.schema) d.seen.change) (ap (λ (t : Table). t.log) d.seen.change) n
 
 -- ---- Mutate
@@ -155,5 +155,5 @@ pub mutate-stays : (old new : Held) (place : ℕ) (r : Result (Token Entry) Muta
 mutate-stays old new place (Ok token) q e a = subst (λ (z : Result Reply AllocError). OnErr z (new ≡ old)) (sym a) tt
 mutate-stays old new place (Err z) q e a = at-err q (new ≡ old) e
 
-pub mutate-on : (old new : Held) (part : Name) (upto : ℕ) → length new.sessions ≡ length old.sessions → (token : Token Entry) → IsMutateOf old part upto token new → GoesOn old new
+pub mutate-on : (old new : Held) (part : Name) (upto : ℕ) → KeepsTable old new → (token : Token Entry) → IsMutateOf old part upto token new → GoesOn old new
 mutate-on old new part upto n token d = appended-on _ old new (ap (λ (t : Table). t.schema) d.seen.change) (ap (λ (t : Table). t.log) d.seen.change) n

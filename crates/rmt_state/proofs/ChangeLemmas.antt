@@ -24,7 +24,7 @@ use Rattle.rmt_events.specs.declared.event.Event.TheVariants as ev
 use Rattle.rmt_events.specs.declared.reply.Reply.TheVariants as rp
 use Rattle.rmt_events.specs.declared.step_refused.StepRefused.TheVariants as rf
 use Rattle.rmt_state.specs.States.{StateView, cluster_of, Acts}
-use Rattle.rmt_state.proofs.StateLemmas.{GoesOn, goes-on-same}
+use Rattle.rmt_state.proofs.StateLemmas.{KeepsTable, GoesOn, goes-on-same}
 
 pub if-ok : {A E : Type 0} (r : Result A E) (P Q : A → Type 0) → ((x : A) → P x → Q x) → IfOk r P → IfOk r Q
 if-ok (Ok x) P Q f p = f x p
@@ -39,19 +39,19 @@ on-if (Err e) P p = p
 one-more : (e : Entry) (log : List Entry) → IsPrefix log (e ∷ log)
 one-more e log = record { gained = e ∷ []; is = refl }
 
-pub appended-on : (e : Entry) (old new : Held) → new.schema ≡ old.schema → new.log ≡ e ∷ old.log → length new.sessions ≡ length old.sessions → GoesOn old new
-appended-on e old new s l n = record { schema = s; log = subst (λ (v : List Entry). IsPrefix old.log v) (sym l) (one-more e old.log); sessions = n }
+pub appended-on : (e : Entry) (old new : Held) → new.schema ≡ old.schema → new.log ≡ e ∷ old.log → KeepsTable old new → GoesOn old new
+appended-on e old new s l n = record { schema = s; log = subst (λ (v : List Entry). IsPrefix old.log v) (sym l) (one-more e old.log); table = n }
 
-pub creates-on : (old new : Held) (command : CheckedMutation) → CreatesMutation (table_at old) command (table_at new) → length new.sessions ≡ length old.sessions → GoesOn old new
+pub creates-on : (old new : Held) (command : CheckedMutation) → CreatesMutation (table_at old) command (table_at new) → KeepsTable old new → GoesOn old new
 creates-on old new command c n = appended-on _ old new (ap (λ (t : Table). t.schema) c.change) (ap (λ (t : Table). t.log) c.change) n
 
-pub done-creates-on : (old new : Held) (command : CheckedMutation) → length new.sessions ≡ length old.sessions → CreatesMutation (table_at old) command (table_at new) → GoesOn old new
+pub done-creates-on : (old new : Held) (command : CheckedMutation) → KeepsTable old new → CreatesMutation (table_at old) command (table_at new) → GoesOn old new
 done-creates-on old new command n c = creates-on old new command c n
 
-pub drops-on : (old new : Held) (p : Option ℕ) (m : ℕ) → DropsPartition (table_at old) p m (table_at new) → length new.sessions ≡ length old.sessions → GoesOn old new
+pub drops-on : (old new : Held) (p : Option ℕ) (m : ℕ) → DropsPartition (table_at old) p m (table_at new) → KeepsTable old new → GoesOn old new
 drops-on old new p m c n = appended-on _ old new (ap (λ (t : Table). t.schema) c.change) (ap (λ (t : Table). t.log) c.change) n
 
-pub done-drop-on : (old new : Held) (p : Option ℕ) → length new.sessions ≡ length old.sessions → (token : Option (Token Entry)) → IsDrop old p token new → GoesOn old new
+pub done-drop-on : (old new : Held) (p : Option ℕ) → KeepsTable old new → (token : Option (Token Entry)) → IsDrop old p token new → GoesOn old new
 done-drop-on old new p n None d = goes-on-same old new d.1
 done-drop-on old new p n (Some token) d = drops-on old new p (next_number old.next p) (Drops.seen d) n
 

@@ -4,6 +4,7 @@ use Rattle.std.proofs.lemmas.Bool.Decides.{nat_tests}
 use Rattle.std.proofs.lemmas.List.{take_more, append-nil, length-take-le}
 use Rattle.rmt_values.specs.Rows.{Shape}
 use Rattle.rmt_model.specs.Words.{Has, Each, Pairwise}
+use Rattle.rmt_history.proofs.ListLemmas.{take-none}
 use Rattle.rmt_table_model.specs.Held.{Held}
 use Rattle.rmt_table.specs.TableTrees.{table_at}
 use Rattle.rmt_replica.specs.Replicas.{ReplicaView}
@@ -94,7 +95,7 @@ empty-up schema k (b ∷ up) = ap (λ (l : List Bool). b ∷ l) (empty-up schema
 
 empty-numbered : (tree : Held) (k : ℕ) (up : List Bool) → AreNumbered tree k (empty_replicas tree.schema k up)
 empty-numbered tree k [] = tt
-empty-numbered tree k (b ∷ up) = (record { numbered = refl; copy = record { schema = refl; prefix = record { gained = tree.log; is = sym (append-nil tree.log) } } }, empty-numbered tree (k + 1) up)
+empty-numbered tree k (b ∷ up) = (record { numbered = refl; copy = record { schema = refl; prefix = record { gained = tree.log; is = sym (append-nil tree.log) }; cells = sym (take-none tree.row) } }, empty-numbered tree (k + 1) up)
 
 numbers-from : (k n : ℕ) (up : List Bool) → Has (numbers_up k up) n → k ≤ n
 numbers-from k n [] h = absurd h

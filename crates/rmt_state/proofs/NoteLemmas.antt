@@ -29,7 +29,7 @@ use Rattle.rmt_events.specs.declared.reply.Reply.TheVariants as rp
 use Rattle.rmt_events.specs.declared.step_refused.StepRefused.TheVariants as rf
 use Rattle.rmt_state.specs.States.{StateView, Belongs, IsState, cluster_of, Acts}
 use Rattle.rmt_state.specs.Notes.{IsReplyTo}
-use Rattle.rmt_state.proofs.StateLemmas.{prefix-self, at-place, numbered-at, replicas-set, at-err, GoesOn, goes-on-same}
+use Rattle.rmt_state.proofs.StateLemmas.{prefix-self, at-place, numbered-at, replicas-set, at-err, KeepsTable, GoesOn, goes-on-same}
 use Rattle.rmt_state.proofs.SessionLemmas.{changed-state}
 use Rattle.rmt_state.proofs.PullLemmas.{down-in, down-told, same-state}
 
@@ -45,11 +45,11 @@ pub record WasNoted (s t : StateView) (i : ℕ) (x y : ReplicaView) (r : Result 
   pub table_stays : OnErr r (t.tree ≡ s.tree)
 
 -- what a note leaves of the table
-notes-on : (old new : Held) (k : ℕ) → Notes (table_at old) k (table_at new) → length new.sessions ≡ length old.sessions → GoesOn old new
+notes-on : (old new : Held) (k : ℕ) → Notes (table_at old) k (table_at new) → KeepsTable old new → GoesOn old new
 notes-on old new k c n = record {
   schema = ap (λ (t : Table). t.schema) c;
   log = subst (λ (l : List Entry). IsPrefix old.log l) (sym (ap (λ (t : Table). t.log) c)) (prefix-self old.log);
-  sessions = n;
+  table = n;
 }
 
 -- the cluster is as it was where the replica and the table are
@@ -108,11 +108,11 @@ note-stays s t i x y (Ok b) q p a = subst (λ (z : Result Reply AllocError). OnE
 note-stays s t i x y (Err e) q p a = at-err q (t ≡ s) (ap (λ (l : List ReplicaView). record t { replicas = l }) p.set ∙ same-state s.tree t.tree s.replicas i x y p.there p.stays p.table_stays)
 
 -- the replicas are those of the table still
-pub state-noted : (old new : Held) (rs : List ReplicaView) (i : ℕ) (x y : ReplicaView) (r : Result Bool ReplicaError) → IsState (record { tree = old; replicas = rs }) → slice_get rs i ≡ Some x → IfOk r (λ b. IsNote x old b y new) → OnErr r (y ≡ x) → OnErr r (new ≡ old) → length new.sessions ≡ length old.sessions
+pub state-noted : (old new : Held) (rs : List ReplicaView) (i : ℕ) (x y : ReplicaView) (r : Result Bool ReplicaError) → IsState (record { tree = old; replicas = rs }) → slice_get rs i ≡ Some x → IfOk r (λ b. IsNote x old b y new) → OnErr r (y ≡ x) → OnErr r (new ≡ old) → KeepsTable old new
     → IsState (record { tree = new; replicas = slice_set rs i y })
-state-noted old new rs i x y (Ok true) s e n c h m = changed-state old new rs i x y s (notes-on old new x.number n.call.seen m) e (ap (λ (z : ReplicaView). z.number) n.others) (ap (λ (z : ReplicaView). z.schema) n.others) (ap (λ (z : ReplicaView). z.log) n.others)
-state-noted old new rs i x y (Ok false) s e n c h m = changed-state old new rs i x y s (goes-on-same old new n.2) e (ap (λ (z : ReplicaView). z.number) n.1) (ap (λ (z : ReplicaView). z.schema) n.1) (ap (λ (z : ReplicaView). z.log) n.1)
-state-noted old new rs i x y (Err z) s e n c h m = changed-state old new rs i x y s (goes-on-same old new h) e (ap (λ (v : ReplicaView). v.number) c) (ap (λ (v : ReplicaView). v.schema) c) (ap (λ (v : ReplicaView). v.log) c)
+state-noted old new rs i x y (Ok true) s e n c h m = changed-state old new rs i x y s (notes-on old new x.number n.call.seen m) e (ap (λ (z : ReplicaView). z.number) n.others) (ap (λ (z : ReplicaView). z.schema) n.others) (ap (λ (z : ReplicaView). z.log) n.others) (ap (λ (z : ReplicaView). z.cells) n.others)
+state-noted old new rs i x y (Ok false) s e n c h m = changed-state old new rs i x y s (goes-on-same old new n.2) e (ap (λ (z : ReplicaView). z.number) n.1) (ap (λ (z : ReplicaView). z.schema) n.1) (ap (λ (z : ReplicaView). z.log) n.1) (ap (λ (z : ReplicaView). z.cells) n.1)
+state-noted old new rs i x y (Err z) s e n c h m = changed-state old new rs i x y s (goes-on-same old new h) e (ap (λ (v : ReplicaView). v.number) c) (ap (λ (v : ReplicaView). v.schema) c) (ap (λ (v : ReplicaView). v.log) c) (ap (λ (v : ReplicaView). v.cells) c)
 
 -- ---- the switch
 

@@ -22,7 +22,7 @@ use Rattle.rmt_events.specs.declared.reply.Reply.TheVariants as rp
 use Rattle.rmt_events.specs.declared.step_refused.StepRefused.TheVariants as rf
 use Rattle.rmt_state.specs.States.{StateView, Belongs, IsState, cluster_of, Acts, ActsAt, IsDownIn}
 use Rattle.rmt_state.specs.Pulls.{IsReplyTo, PullsTo, PullsSome}
-use Rattle.rmt_state.proofs.StateLemmas.{prefix-self, some-same, at-place, GoesOn, state-on, state-set, numbered-at, replicas-set}
+use Rattle.rmt_state.proofs.StateLemmas.{prefix-self, some-same, at-place, KeepsTable, GoesOn, state-on, state-set, numbered-at, replicas-set}
 
 -- a replica at a place changes, and the table is seen as it was
 pub changed-at : (s t : StateView) (i : ℕ) (x y : ReplicaView) (D : Replica → Replica → Type 0) → IsState s → slice_get s.replicas i ≡ Some x → x.up ≡ true → D (shown x) (shown y) → t.replicas ≡ slice_set s.replicas i y → table_at t.tree ≡ table_at s.tree → ActsAt s (1 + i) D t
@@ -91,10 +91,10 @@ same-state tree new rs i x y e q h =
     ∙ ap (λ (l : List ReplicaView). record { tree = tree; replicas = l }) (ap (λ (z : ReplicaView). slice_set rs i z) q ∙ set-same rs i x e)
 
 -- the table is seen as it was
-pub seen-on : (old new : Held) → table_at new ≡ table_at old → length new.sessions ≡ length old.sessions → GoesOn old new
-seen-on old new e n = record { schema = ap (λ (t : Table). t.schema) e; log = subst (λ (l : List Entry). IsPrefix old.log l) (sym (ap (λ (t : Table). t.log) e)) (prefix-self old.log); sessions = n }
+pub seen-on : (old new : Held) → table_at new ≡ table_at old → KeepsTable old new → GoesOn old new
+seen-on old new e n = record { schema = ap (λ (t : Table). t.schema) e; log = subst (λ (l : List Entry). IsPrefix old.log l) (sym (ap (λ (t : Table). t.log) e)) (prefix-self old.log); table = n }
 
-pub state-pulled : (old new : Held) (rs : List ReplicaView) (i : ℕ) (x y : ReplicaView) → IsState (record { tree = old; replicas = rs }) → slice_get rs i ≡ Some x → table_at new ≡ table_at old → length new.sessions ≡ length old.sessions → y.number ≡ x.number → IsCopyOf new (copy_of y)
+pub state-pulled : (old new : Held) (rs : List ReplicaView) (i : ℕ) (x y : ReplicaView) → IsState (record { tree = old; replicas = rs }) → slice_get rs i ≡ Some x → table_at new ≡ table_at old → KeepsTable old new → y.number ≡ x.number → IsCopyOf new (copy_of y)
     → IsState (record { tree = new; replicas = slice_set rs i y })
 state-pulled old new rs i x y s e q n m c =
     state-set new rs i y (state-on old new rs (seen-on old new q n) s) (record { numbered = m ∙ Belongs.numbered (at-place old 1 rs i x s.numbered e); copy = c })

@@ -1,5 +1,5 @@
 -- Sessions that end and begin, as a cluster sees them.
-use Rattle.std.proofs.Common.{◌≡◌, ℕ, zero, suc, ◌+◌, List, [], ◌∷◌, map, refl, sym, ap, subst, ◌∙◌, true, false, replicate, length}
+use Rattle.std.proofs.Common.{◌≡◌, ℕ, zero, suc, ◌+◌, List, [], ◌∷◌, map, refl, sym, ap, subst, ◌∙◌, true, false, replicate, length, take}
 use Rattle.std.specs.Prelude.{slice_get, slice_set}
 use Rattle.std.specs.declared.option.Option.TheVariants.{Some}
 use Rattle.rmt_entries.specs.declared.entry.Entry.{Entry}
@@ -15,30 +15,37 @@ use Rattle.rmt_events.specs.ClusterChanges.{IsNumbered}
 use Rattle.rmt_events.specs.declared.event.Event.TheVariants as ev
 use Rattle.rmt_events.specs.declared.reply.Reply.TheVariants as rp
 use Rattle.rmt_state.specs.States.{StateView, IsState, cluster_of, Acts}
-use Rattle.rmt_state.proofs.StateLemmas.{prefix-self, prefix-trans, some-same, at-place, GoesOn, state-on, state-set, numbered-at, replicas-set}
+use Rattle.rmt_state.proofs.StateLemmas.{prefix-self, prefix-trans, some-same, at-place, KeepsTable, GoesOn, state-on, state-set, numbered-at, replicas-set}
 
 -- what a call on sessions leaves of the table
-pub closes-on : (old new : Held) (k : ℕ) → Closes (table_at old) k (table_at new) → length new.sessions ≡ length old.sessions → GoesOn old new
+pub closes-on : (old new : Held) (k : ℕ) → Closes (table_at old) k (table_at new) → KeepsTable old new → GoesOn old new
 closes-on old new k c n = record {
   schema = ap (λ (t : Table). t.schema) c;
   log = subst (λ (l : List Entry). IsPrefix old.log l) (sym (ap (λ (t : Table). t.log) c)) (prefix-self old.log);
-  sessions = n;
+  table = n;
 }
 
-pub opens-on : (old new : Held) (k : ℕ) → Opens (table_at old) k (table_at new) → length new.sessions ≡ length old.sessions → GoesOn old new
+pub opens-on : (old new : Held) (k : ℕ) → Opens (table_at old) k (table_at new) → KeepsTable old new → GoesOn old new
 opens-on old new k c n = record {
   schema = ap (λ (t : Table). t.schema) c;
   log = subst (λ (l : List Entry). IsPrefix old.log l) (sym (ap (λ (t : Table). t.log) c)) (prefix-self old.log);
-  sessions = n;
+  table = n;
 }
 
 -- a replica at a place that goes down, or comes up
-pub changed-state : (old new : Held) (rs : List ReplicaView) (i : ℕ) (x y : ReplicaView) → IsState (record { tree = old; replicas = rs }) → GoesOn old new → slice_get rs i ≡ Some x → y.number ≡ x.number → y.schema ≡ x.schema → y.log ≡ x.log
+pub changed-state : (old new : Held) (rs : List ReplicaView) (i : ℕ) (x y : ReplicaView) → IsState (record { tree = old; replicas = rs }) → GoesOn old new → slice_get rs i ≡ Some x → y.number ≡ x.number → y.schema ≡ x.schema → y.log ≡ x.log → y.cells ≡ x.cells
     → IsState (record { tree = new; replicas = slice_set rs i y })
-changed-state old new rs i x y s g e n m l =
+changed-state old new rs i x y s g e n m l o =
     let w = state-on old new rs g s in
     let b = at-place new 1 rs i x w.numbered e in
-    state-set new rs i y w (record { numbered = n ∙ b.numbered; copy = record { schema = m ∙ b.copy.schema; prefix = subst (λ (v : List Entry). IsPrefix v new.log) (sym l) b.copy.prefix } })
+    state-set new rs i y w (record {
+      numbered = n ∙ b.numbered;
+      copy = record {
+        schema = m ∙ b.copy.schema;
+        prefix = subst (λ (v : List Entry). IsPrefix v new.log) (sym l) b.copy.prefix;
+        cells = o ∙ (b.copy.cells ∙ ap (λ (v : List Entry). take (length v) new.row) (sym l));
+      };
+    })
 
 pub kill-acts : (s t : StateView) (k i : ℕ) (x y : ReplicaView) → IsState s → k ≡ 1 + i → slice_get s.replicas i ≡ Some x → Closes (table_at s.tree) k (table_at t.tree) → y ≡ record x { up = false } → t.replicas ≡ slice_set s.replicas i y → Acts s (ev.Kill k) rp.Done t
 kill-acts s t k i x y w n e c d q made attempts events = record {
@@ -79,7 +86,7 @@ set-there (z ∷ xs) zero x y e = refl
 set-there (z ∷ xs) (suc i) x y e = set-there xs i x y e
 
 pub goes-on-trans : (a b c : Held) → GoesOn a b → GoesOn b c → GoesOn a c
-goes-on-trans a b c g h = record { schema = h.schema ∙ g.schema; log = prefix-trans a.log b.log c.log g.log h.log; sessions = h.sessions ∙ g.sessions }
+goes-on-trans a b c g h = record { schema = h.schema ∙ g.schema; log = prefix-trans a.log b.log c.log g.log h.log; table = record { sessions = h.table.sessions ∙ g.table.sessions; row = h.table.row ∙ g.table.row } }
 
 -- a replica that was set at a place, and then found there and set again
 pub record IsSetAgain (xs : List ReplicaView) (i j : ℕ) (y found z : ReplicaView) : Type 0 where

@@ -37,22 +37,23 @@ pub record KeepsCopy (x y : ReplicaView) : Type 0 where
   pub number : y.number ≡ x.number
   pub schema : y.schema ≡ x.schema
   pub log : y.log ≡ x.log
+  pub cells : y.cells ≡ x.cells
 
 pub staged-keeps : (r : Result (Unit {0}) ReplicaError) (x y : ReplicaView) (n : ℕ) (b : BlockView) → OnOk r (y ≡ record x { staged = with_staged x.staged (record { partition = b.partition; number = n }) b }) → OnErr r (y ≡ x) → KeepsCopy x y
-staged-keeps (Ok u) x y n b p e = record { number = ap (λ (z : ReplicaView). z.number) p; schema = ap (λ (z : ReplicaView). z.schema) p; log = ap (λ (z : ReplicaView). z.log) p }
-staged-keeps (Err q) x y n b p e = record { number = ap (λ (z : ReplicaView). z.number) e; schema = ap (λ (z : ReplicaView). z.schema) e; log = ap (λ (z : ReplicaView). z.log) e }
+staged-keeps (Ok u) x y n b p e = record { number = ap (λ (z : ReplicaView). z.number) p; schema = ap (λ (z : ReplicaView). z.schema) p; log = ap (λ (z : ReplicaView). z.log) p; cells = ap (λ (z : ReplicaView). z.cells) p }
+staged-keeps (Err q) x y n b p e = record { number = ap (λ (z : ReplicaView). z.number) e; schema = ap (λ (z : ReplicaView). z.schema) e; log = ap (λ (z : ReplicaView). z.log) e; cells = ap (λ (z : ReplicaView). z.cells) e }
 
 pub state-kept : (tree : Held) (rs : List ReplicaView) (i : ℕ) (x y : ReplicaView) → IsState (record { tree = tree; replicas = rs }) → slice_get rs i ≡ Some x → KeepsCopy x y → IsState (record { tree = tree; replicas = slice_set rs i y })
-state-kept tree rs i x y s e k = changed-state tree tree rs i x y s (goes-on-same tree tree refl) e k.number k.schema k.log
+state-kept tree rs i x y s e k = changed-state tree tree rs i x y s (goes-on-same tree tree refl) e k.number k.schema k.log k.cells
 
 same-copy : (x y z : ReplicaView) → z ≡ y → KeepsCopy x y → KeepsCopy x z
 same-copy x y z e k = subst (KeepsCopy x) (sym e) k
 
 pub change-keeps : (x y : ReplicaView) (i : ℕ) (supply : Supply) (r : Result Applied ApplyError) → own.IsChange x i supply r y → KeepsCopy x y
-change-keeps x y i supply (Err e) c = same-copy x x y c (record { number = refl; schema = refl; log = refl })
-change-keeps x y i supply (Ok came.Already) c = same-copy x (own.settled x i) y c (record { number = refl; schema = refl; log = refl })
-change-keeps x y i supply (Ok came.Dropped) c = same-copy x (own.settled x i) y c (record { number = refl; schema = refl; log = refl })
-change-keeps x y i supply (Ok came.Installed) c = same-copy x (record (own.settled x i) { parts = y.parts }) y c.others (record { number = refl; schema = refl; log = refl })
+change-keeps x y i supply (Err e) c = same-copy x x y c (record { number = refl; schema = refl; log = refl; cells = refl })
+change-keeps x y i supply (Ok came.Already) c = same-copy x (own.settled x i) y c (record { number = refl; schema = refl; log = refl; cells = refl })
+change-keeps x y i supply (Ok came.Dropped) c = same-copy x (own.settled x i) y c (record { number = refl; schema = refl; log = refl; cells = refl })
+change-keeps x y i supply (Ok came.Installed) c = same-copy x (record (own.settled x i) { parts = y.parts }) y c.others (record { number = refl; schema = refl; log = refl; cells = refl })
 
 pub stages-at : (r : Result (Unit {0}) ReplicaError) (s : StateView) (k i n : ℕ) (x y : ReplicaView) (b : BlockView) → IsState s → k ≡ 1 + i → slice_get s.replicas i ≡ Some x → IsStandingReplica x → (r ≡ Err errors.Down) ↔ (x.up ≡ false)
     → OnOk r (y ≡ record x { staged = with_staged x.staged (record { partition = b.partition; number = n }) b }) → OnOk r (ActsAt s k (λ a c. Stages a n (without_kinds b) c) (record s { replicas = slice_set s.replicas i y }))

@@ -12,7 +12,8 @@ use Rattle.rmt_model.specs.Words.{Has}
 use Rattle.rmt_model.specs.Lawful.{IsPrefix}
 use Rattle.rmt_table_model.specs.Held.{Held}
 use Rattle.rmt_table.specs.TableTrees.{IsReplica}
-use Rattle.rmt_replica.specs.Replicas.{ReplicaView}
+use Rattle.rmt_history.specs.Copies.{IsLogOf}
+use Rattle.rmt_replica.specs.Replicas.{ReplicaView, copy_of}
 use Rattle.rmt_replica.specs.SeenReplica.{shown}
 use Rattle.rmt_events.specs.Views.{Replica}
 use Rattle.rmt_events.specs.Clusters.{Attempt, with_replica}
@@ -57,16 +58,25 @@ set-length [] i y = refl
 set-length (r ∷ rs) zero y = refl
 set-length (r ∷ rs) (suc i) y = ap suc (set-length rs i y)
 
--- the table after a call: its log is no shorter, its schema is as it was, and it has as many replicas
+-- the table has as many replicas as before, and its cells
+pub record KeepsTable (old new : Held) : Type 0 where
+  pub sessions : length new.sessions ≡ length old.sessions
+  pub row : new.row ≡ old.row
+
+-- the table after a call: its log is no shorter, and its schema, its replicas and its cells are as they were
 pub record GoesOn (old new : Held) : Type 0 where
   pub schema : new.schema ≡ old.schema
   pub log : IsPrefix old.log new.log
-  pub sessions : length new.sessions ≡ length old.sessions
+  pub table : KeepsTable old new
 
 pub belongs-on : (old new : Held) (k : ℕ) (r : ReplicaView) → GoesOn old new → Belongs old k r → Belongs new k r
 belongs-on old new k r g b = record {
   numbered = b.numbered;
-  copy = record { schema = b.copy.schema ∙ sym g.schema; prefix = prefix-trans r.log old.log new.log b.copy.prefix g.log };
+  copy = record {
+    schema = b.copy.schema ∙ sym g.schema;
+    prefix = prefix-trans r.log old.log new.log b.copy.prefix g.log;
+    cells = subst (λ (row : List ℕ). IsLogOf row (copy_of r)) (sym g.table.row) b.copy.cells;
+  };
 }
 
 numbered-on : (old new : Held) (k : ℕ) (rs : List ReplicaView) → GoesOn old new → AreNumbered old k rs → AreNumbered new k rs
@@ -74,10 +84,10 @@ numbered-on old new k [] g n = tt
 numbered-on old new k (r ∷ rs) g n = (belongs-on old new k r g n.0, numbered-on old new (k + 1) rs g n.1)
 
 pub state-on : (old new : Held) (rs : List ReplicaView) → GoesOn old new → IsState (record { tree = old; replicas = rs }) → IsState (record { tree = new; replicas = rs })
-state-on old new rs g s = record { all = s.all ∙ sym g.sessions; numbered = numbered-on old new 1 rs g s.numbered }
+state-on old new rs g s = record { all = s.all ∙ sym g.table.sessions; numbered = numbered-on old new 1 rs g s.numbered }
 
 pub goes-on-same : (old new : Held) → new ≡ old → GoesOn old new
-goes-on-same old new e = subst (GoesOn old) (sym e) (record { schema = refl; log = prefix-self old.log; sessions = refl })
+goes-on-same old new e = subst (GoesOn old) (sym e) (record { schema = refl; log = prefix-self old.log; table = record { sessions = refl; row = refl } })
 
 -- after a call on the table that goes on where it is done, and else changes nothing
 pub state-after : {A E : Type 0} (r : Result A E) (P : A → Type 0) (old new : Held) (rs : List ReplicaView) → IsState (record { tree = old; replicas = rs }) → ((a : A) → P a → GoesOn old new) → IfOk r P → OnErr r (new ≡ old) → IsState (record { tree = new; replicas = rs })

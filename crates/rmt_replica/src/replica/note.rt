@@ -61,6 +61,7 @@ impl Replica {
         ensures err { OnErr result (self.new ≡ self.old) }
         ensures err_table { OnErr result (tree.new ≡ tree.old) }
         ensures replicas { length tree.new.sessions ≡ length tree.old.sessions }
+        ensures row { tree.new.row ≡ tree.old.row }
     {
         self.noted.reserve(1)?;
         tree.note_quorum(alloc, self.number, &part)?;
@@ -82,6 +83,7 @@ impl Replica {
         ensures err { OnErr result (self.new ≡ self.old) }
         ensures err_table { OnErr result (tree.new ≡ tree.old) }
         ensures replicas { length tree.new.sessions ≡ length tree.old.sessions }
+        ensures row { tree.new.row ≡ tree.old.row }
     {
         if !self.up {
             return Err(ReplicaError::Down);

@@ -30,6 +30,7 @@ impl Replica {
         ensures seen { table_at tree.new ≡ table_at tree.old }
         ensures ops { OnOk result (tree.new.tree ≡ after_all tree.old.tree (pull_ops self.old.number (slice_index_or tree.old.pulled (self.old.number - 1) 0) (length tree.old.log))) }
         ensures replicas { length tree.new.sessions ≡ length tree.old.sessions }
+        ensures row { tree.new.row ≡ tree.old.row }
         ensures err { OnErr result (tree.new ≡ tree.old) }
     {
         if !self.up {

@@ -9,4 +9,4 @@ invariant_of-self c =
     let i = c.self.inside in
     let e = c.allocate.ensures in
     state-after c.allocate.result (λ lock. Allocates (table_at i.tree) c.args.replica c.args.id.now.partition c.args.id.now.digest lock.number (table_at c.allocate.new.self)) i.tree c.allocate.new.self i.replicas.items c.self.invariant
-    (λ lock. allocates-on i.tree c.allocate.new.self c.args.replica c.args.id.now.partition c.args.id.now.digest lock.number e.replicas) e.allocates e.err
+    (λ lock. allocates-on i.tree c.allocate.new.self c.args.replica c.args.id.now.partition c.args.id.now.digest lock.number (record { sessions = e.replicas; row = e.row })) e.allocates e.err

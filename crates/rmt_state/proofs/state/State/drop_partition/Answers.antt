@@ -8,4 +8,4 @@ invariant_of-self c =
     let i = c.self.inside in
     let e = c.drop_partition.ensures in
     state-after c.drop_partition.result (λ token. IsDrop i.tree c.args.partition token c.drop_partition.new.self) i.tree c.drop_partition.new.self i.replicas.items c.self.invariant
-    (done-drop-on i.tree c.drop_partition.new.self c.args.partition e.replicas) e.done e.err
+    (done-drop-on i.tree c.drop_partition.new.self c.args.partition (record { sessions = e.replicas; row = e.row })) e.done e.err

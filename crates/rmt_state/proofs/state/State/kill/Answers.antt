@@ -14,8 +14,8 @@ pub invariant_of-self : goal.invariant_of-self
 invariant_of-self c =
     let i = c.self.inside in
     let there : slice_get i.replicas.items (c.from.result - 1) ≡ Some c.index_mut.result.now = grind (arith, common_steps, gets) in
-    changed-state i.tree c.close.new.self i.replicas.items (c.from.result - 1) c.index_mut.result.now c.kill.new.self c.self.invariant (closes-on i.tree c.close.new.self c.args.replica c.close.ensures.closes c.close.ensures.replicas) there
-    (ap (λ (r : ReplicaView). r.number) c.kill.ensures) (ap (λ (r : ReplicaView). r.schema) c.kill.ensures) (ap (λ (r : ReplicaView). r.log) c.kill.ensures)
+    changed-state i.tree c.close.new.self i.replicas.items (c.from.result - 1) c.index_mut.result.now c.kill.new.self c.self.invariant (closes-on i.tree c.close.new.self c.args.replica c.close.ensures.closes (record { sessions = c.close.ensures.replicas; row = c.close.ensures.row })) there
+    (ap (λ (r : ReplicaView). r.number) c.kill.ensures) (ap (λ (r : ReplicaView). r.schema) c.kill.ensures) (ap (λ (r : ReplicaView). r.log) c.kill.ensures) (ap (λ (r : ReplicaView). r.cells) c.kill.ensures)
 
 pub returns : goal.returns
 returns c =

@@ -1,4 +1,4 @@
-use Rattle.std.proofs.Common.{◌≡◌, ◌-◌, ◌∙◌, List, length, arith, sym, subst}
+use Rattle.std.proofs.Common.{◌≡◌, ◌-◌, ◌∙◌, List, length, take, ap, arith, sym, subst}
 use Rattle.std.specs.Prelude.{slice_get, IfOk, IfErr, IfSome, OnOk}
 use Rattle.std.specs.declared.option.Option.TheVariants.{Some}
 use Rattle.std.proofs.lemmas.Grind.{common_steps}
@@ -44,14 +44,14 @@ assign_merge-assigned-requires-clause-of c =
     let there : slice_get i.replicas.items (c.from.result - 1) ≡ Some c.index-worker.result.now = grind (arith, common_steps, gets) in
     let b = at-place i.tree 1 i.replicas.items (c.from.result - 1) c.index-worker.result.now c.self.invariant.numbered there in
     let e = c.copy-copy.ensures in
-    record { schema = e.schema ∙ b.copy.schema; prefix = subst (λ (log : List Entry). IsPrefix log i.tree.log) (sym e.log) b.copy.prefix }
+    record { schema = e.schema ∙ b.copy.schema; prefix = subst (λ (log : List Entry). IsPrefix log i.tree.log) (sym e.log) b.copy.prefix; cells = e.cells ∙ (b.copy.cells ∙ ap (λ (log : List Entry). take (length log) i.tree.row) (sym e.log)) }
 
 pub invariant_of-self : goal.invariant_of-self
 invariant_of-self c =
     let i = c.self.inside in
     let e = c.assign_merge-assigned.ensures in
     state-after c.assign_merge-assigned.result (λ token. IsMergeOf i.tree c.args.sources.now token c.assign_merge-assigned.new.self) i.tree c.assign_merge-assigned.new.self i.replicas.items c.self.invariant
-    (merge-on i.tree c.assign_merge-assigned.new.self c.args.sources.now e.replicas) e.done e.err
+    (merge-on i.tree c.assign_merge-assigned.new.self c.args.sources.now (record { sessions = e.replicas; row = e.row })) e.done e.err
 
 pub returns-clause-ok : goal.returns-clause-ok
 returns-clause-ok c =

@@ -32,7 +32,7 @@ invariant_of-self c =
     let i = c.self.inside in
     let there : slice_get i.replicas.items (c.from.result - 1) ≡ Some c.index_mut.result.now = grind (arith, common_steps, gets) in
     let e = c.note-noted.ensures in
-    state-noted i.tree c.note-noted.new.tree i.replicas.items (c.from.result - 1) c.index_mut.result.now c.note-noted.new.self c.note-noted.result c.self.invariant there e.noted e.err e.err_table e.replicas
+    state-noted i.tree c.note-noted.new.tree i.replicas.items (c.from.result - 1) c.index_mut.result.now c.note-noted.new.self c.note-noted.result c.self.invariant there e.noted e.err e.err_table (record { sessions = e.replicas; row = e.row })
 
 pub returns-clause-ok : goal.returns-clause-ok
 returns-clause-ok c =

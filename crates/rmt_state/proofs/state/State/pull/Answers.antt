@@ -37,7 +37,7 @@ invariant_of-self c =
     let i = c.self.inside in
     let there : slice_get i.replicas.items (c.from.result - 1) ≡ Some c.index_mut.result.now = grind (arith, common_steps, gets) in
     let e = c.pull-pulled.ensures in
-    state-pulled i.tree c.pull-pulled.new.tree i.replicas.items (c.from.result - 1) c.index_mut.result.now c.pull-pulled.new.self c.self.invariant there e.seen e.replicas (ap (λ (r : ReplicaView). r.number) e.longer.others) e.copy
+    state-pulled i.tree c.pull-pulled.new.tree i.replicas.items (c.from.result - 1) c.index_mut.result.now c.pull-pulled.new.self c.self.invariant there e.seen (record { sessions = e.replicas; row = e.row }) (ap (λ (r : ReplicaView). r.number) e.longer.others) e.copy
 
 pub returns-clause-ok : goal.returns-clause-ok
 returns-clause-ok c =

@@ -18,8 +18,8 @@ invariant_of-self c =
     let i = c.self.inside in
     let there : slice_get i.replicas.items (c.from.result - 1) ≡ Some c.index_mut.result.now = grind (arith, common_steps, gets) in
     subst (λ (h : Held). IsState (record { tree = h; replicas = slice_set i.replicas.items (c.from.result - 1) c.kill.new.self })) (sym c.in_err-open.ensures.err)
-    (changed-state i.tree c.close.new.self i.replicas.items (c.from.result - 1) c.index_mut.result.now c.kill.new.self c.self.invariant (closes-on i.tree c.close.new.self c.args.replica c.close.ensures.closes c.close.ensures.replicas) there
-    (ap (λ (r : ReplicaView). r.number) c.kill.ensures) (ap (λ (r : ReplicaView). r.schema) c.kill.ensures) (ap (λ (r : ReplicaView). r.log) c.kill.ensures))
+    (changed-state i.tree c.close.new.self i.replicas.items (c.from.result - 1) c.index_mut.result.now c.kill.new.self c.self.invariant (closes-on i.tree c.close.new.self c.args.replica c.close.ensures.closes (record { sessions = c.close.ensures.replicas; row = c.close.ensures.row })) there
+    (ap (λ (r : ReplicaView). r.number) c.kill.ensures) (ap (λ (r : ReplicaView). r.schema) c.kill.ensures) (ap (λ (r : ReplicaView). r.log) c.kill.ensures) (ap (λ (r : ReplicaView). r.cells) c.kill.ensures))
 
 pub returns-in_err-open-clause-err : goal.returns-in_err-open-clause-err
 returns-in_err-open-clause-err c =
@@ -43,8 +43,8 @@ invariant_of-self-2 c =
     let y = c.restart.ensures ∙ ap (λ (z : ReplicaView). record z { up = true; done = replicate (length z.log) false }) (s.same ∙ c.kill.ensures) in
     subst (λ (rs : List ReplicaView). IsState (record { tree = c.open.new.self; replicas = rs })) (sym s.set)
     (changed-state i.tree c.open.new.self i.replicas.items (c.from.result - 1) c.index_mut.result.now c.restart.new.self c.self.invariant
-    (goes-on-trans i.tree c.close.new.self c.open.new.self (closes-on i.tree c.close.new.self c.args.replica c.close.ensures.closes c.close.ensures.replicas) (opens-on c.close.new.self c.open.new.self c.args.replica c.in_ok-open.ensures.opens c.open.ensures.replicas)) there
-    (ap (λ (r : ReplicaView). r.number) y) (ap (λ (r : ReplicaView). r.schema) y) (ap (λ (r : ReplicaView). r.log) y))
+    (goes-on-trans i.tree c.close.new.self c.open.new.self (closes-on i.tree c.close.new.self c.args.replica c.close.ensures.closes (record { sessions = c.close.ensures.replicas; row = c.close.ensures.row })) (opens-on c.close.new.self c.open.new.self c.args.replica c.in_ok-open.ensures.opens (record { sessions = c.open.ensures.replicas; row = c.open.ensures.row }))) there
+    (ap (λ (r : ReplicaView). r.number) y) (ap (λ (r : ReplicaView). r.schema) y) (ap (λ (r : ReplicaView). r.log) y) (ap (λ (r : ReplicaView). r.cells) y))
 
 pub returns-clause-ok : goal.returns-clause-ok
 returns-clause-ok c =

@@ -17,7 +17,7 @@ invariant_of-self c =
     let i = c.self.inside in
     let there : slice_get i.replicas.items (c.from.result - 1) ≡ Some c.index_mut.result.now = grind (arith, common_steps, gets) in
     changed-state i.tree i.tree i.replicas.items (c.from.result - 1) c.index_mut.result.now c.set_fetches.new.self c.self.invariant (goes-on-same i.tree i.tree refl) there
-    (ap (λ (r : ReplicaView). r.number) c.set_fetches.ensures) (ap (λ (r : ReplicaView). r.schema) c.set_fetches.ensures) (ap (λ (r : ReplicaView). r.log) c.set_fetches.ensures)
+    (ap (λ (r : ReplicaView). r.number) c.set_fetches.ensures) (ap (λ (r : ReplicaView). r.schema) c.set_fetches.ensures) (ap (λ (r : ReplicaView). r.log) c.set_fetches.ensures) (ap (λ (r : ReplicaView). r.cells) c.set_fetches.ensures)
 
 pub returns : goal.returns
 returns c =

@@ -11,4 +11,4 @@ invariant_of-self-2 c =
     let e = c.abandon.ensures in
     let k = c.args.lock.now in
     state-after c.abandon.result (λ there. Unlocks (table_at i.tree) k.id.partition k.number (table_at c.abandon.new.self)) i.tree c.abandon.new.self i.replicas.items c.self.invariant
-    (λ there. unlocks-on i.tree c.abandon.new.self k.id.partition k.number e.replicas) (on-if c.abandon.result _ e.unlocks) e.err
+    (λ there. unlocks-on i.tree c.abandon.new.self k.id.partition k.number (record { sessions = e.replicas; row = e.row })) (on-if c.abandon.result _ e.unlocks) e.err

@@ -16,7 +16,7 @@ invariant_of-self c =
     let there : slice_get i.replicas.items (c.from-at.result - 1) ≡ Some c.index_mut.result.now = grind (arith, common_steps, gets) in
     let e = c.unstage.ensures in
     state-kept i.tree i.replicas.items (c.from-at.result - 1) c.index_mut.result.now c.unstage.new.self c.self.invariant there
-    (record { number = ap (λ (z : ReplicaView). z.number) e; schema = ap (λ (z : ReplicaView). z.schema) e; log = ap (λ (z : ReplicaView). z.log) e })
+    (record { number = ap (λ (z : ReplicaView). z.number) e; schema = ap (λ (z : ReplicaView). z.schema) e; log = ap (λ (z : ReplicaView). z.log) e; cells = ap (λ (z : ReplicaView). z.cells) e })
 
 pub returns : goal.returns
 returns c =
