@@ -47,12 +47,23 @@ pub(crate) enum Move {
     Restart(ReplicaId),
 }
 
-/// Does an event.
+/// Does an event. Where no memory was left for it, it is done once more: then it comes as if nothing had been refused.
 pub(crate) fn step(cluster: &mut Cluster, alloc: Global, next: Move) -> Result<Answer, Fail> {
+    if let Some(answer) = tried(cluster, alloc, next)? {
+        return Ok(answer);
+    }
+    match tried(cluster, alloc, next)? {
+        Some(answer) => Ok(answer),
+        None => Err("no memory twice".into()),
+    }
+}
+
+/// Tries to do an event; none where no memory was left for it.
+fn tried(cluster: &mut Cluster, alloc: Global, next: Move) -> Result<Option<Answer>, Fail> {
     let event = event_of(cluster, alloc, next)?;
     match cluster.step(alloc, event) {
-        Ok(reply) => Answer::of(reply),
-        Err(AllocError) => Err("out of memory".into()),
+        Ok(reply) => Ok(Some(Answer::of(reply)?)),
+        Err(AllocError) => Ok(None),
     }
 }
 

@@ -1,0 +1,219 @@
+ghost use Rattle.std.specs.Prelude.{◌≡◌, true, length, IfOk};
+ghost use Rattle.std.specs.List.{All};
+ghost use Rattle.std.specs.Arc.{arc_value};
+ghost use Rattle.rmt_values.specs.Rows.{fits};
+ghost use Rattle.rmt_columns.specs.RowsByColumn.{kinds_in};
+ghost use Rattle.rmt_compact.specs.NewParts.{GetsBlock};
+
+use rmt_block::Block;
+use rmt_columns::Rows;
+use rmt_compact::from_block;
+use rmt_entries::Entry;
+use rmt_history::LogCopy;
+use rmt_part::Part;
+use rmt_partset::{PartSet, Snapshot};
+use rmt_replica::{Replica, Supply};
+use rmt_row::{PutError, Row, Seen};
+use rmt_table::TableTree;
+use rmt_values::{Column, Kind, Name, Row as ValueRow, Schema, Value};
+use std::alloc::{AllocError, Global};
+use std::sync::{Arc, Mutex, Wait};
+use std::test::Fail;
+use std::thread::join;
+
+/// The only column, `c` of UInt64.
+fn columns_of(alloc: Global) -> Result<Vec<Column>, AllocError> {
+    let name = Name::from_slice(alloc, b"c")?;
+    let kind = Kind::UInt64;
+    let columns = vec![in alloc; Column { name, kind }]?;
+    Ok(columns)
+}
+
+/// The key, which is that column.
+fn key_of(alloc: Global) -> Result<Vec<Name>, AllocError> {
+    let name = Name::from_slice(alloc, b"c")?;
+    let key = vec![in alloc; name]?;
+    Ok(key)
+}
+
+fn schema_of(alloc: Global) -> Result<Schema, Fail> {
+    let columns = columns_of(alloc)?;
+    let key = key_of(alloc)?;
+    match Schema::new(alloc, columns, key, None, 2, 100) {
+        Ok(schema) => Ok(schema),
+        Err(_) => Err("no schema".into()),
+    }
+}
+
+fn shared_schema(alloc: Global) -> Result<Arc<Schema, Global>, Fail> {
+    let schema = schema_of(alloc)?;
+    let shared = Arc::new(alloc, schema)?;
+    Ok(shared)
+}
+
+/// The row 7.
+fn values_of(alloc: Global) -> Result<Vec<ValueRow>, AllocError>
+    ensures { IfOk result (λ rows. length rows.items ≡ 1) }
+{
+    let values = vec![in alloc; Value::UInt(7)]?;
+    let rows = vec![in alloc; ValueRow::new(values)]?;
+    Ok(rows)
+}
+
+/// That row, held by column.
+fn rows_of(alloc: Global, schema: &Schema) -> Result<Rows, Fail>
+    ensures one { IfOk result (λ rows. length rows.rows ≡ 1) }
+    ensures fit { IfOk result (λ rows. All (λ row. fits schema.now.columns row ≡ true) rows.rows) }
+    ensures kinds { IfOk result (λ rows. rows.kinds ≡ kinds_in schema.now.columns) }
+{
+    let values = values_of(alloc)?;
+    match Rows::of_rows(alloc, &values, schema)? {
+        Some(rows) => Ok(rows),
+        None => Err("the row is not of the table".into()),
+    }
+}
+
+/// A block of that row.
+fn block_of(alloc: Global, schema: &Schema) -> Result<Arc<Block, Global>, Fail>
+    ensures { IfOk result (λ block. All (λ row. fits schema.now.columns row ≡ true) (arc_value block).rows) }
+{
+    let rows = rows_of(alloc, schema)?;
+    let block = Block::new(alloc, rows, schema)?;
+    let shared = Arc::new(alloc, block)?;
+    Ok(shared)
+}
+
+/// The token of the block's Get, in a row of one cell.
+fn token_of(alloc: Global, block: &Block) -> Result<Seen<Entry>, Fail>
+    ensures { IfOk result (λ token. GetsBlock token.value block.now) }
+{
+    let get = Entry::Get {
+        partition: block.partition(),
+        number: 0,
+        digest: block.digest(),
+        source: 1,
+        need: 0,
+    };
+    let get = Arc::new(alloc, get)?;
+    let row = Row::new(alloc, 1)?;
+    match row.set(0, get) {
+        Ok(token) => Ok(token),
+        Err(_) => Err("not set".into()),
+    }
+}
+
+/// The part of the block.
+fn part_of(alloc: Global) -> Result<Arc<Part, Global>, Fail> {
+    let schema = shared_schema(alloc)?;
+    let block = block_of(alloc, &schema)?;
+    let token = token_of(alloc, &block)?;
+    let part = from_block(alloc, block, token, &schema)?;
+    let shared = Arc::new(alloc, part)?;
+    Ok(shared)
+}
+
+/// A snapshot of this part alone.
+fn snapshot_of(alloc: Global, part: Arc<Part, Global>) -> Result<Snapshot, Fail> {
+    let mut parts = PartSet::new(alloc);
+    parts.reserve()?;
+    parts.replace(part);
+    let snapshot = parts.snapshot(alloc)?;
+    Ok(snapshot)
+}
+
+/// The number of the drop that the row's only cell holds, after this one was put there.
+fn put(row: &Row<Entry>, alloc: Global, number: u32) -> Option<u32> {
+    if row.len() == 0 {
+        return None;
+    }
+    let drop = Entry::DropRange {
+        partition: None,
+        number,
+    };
+    let entry = Arc::new(alloc, drop).ok()?;
+    let seen = match row.set(0, entry) {
+        Ok(seen) => seen,
+        Err(PutError::Taken(seen)) => seen,
+        Err(PutError::Memory(_)) => return None,
+    };
+    match seen.value() {
+        Entry::DropRange {
+            partition: _,
+            number,
+        } => Some(*number),
+        _ => None,
+    }
+}
+
+/// A table without entries.
+fn table_of(alloc: Global) -> Result<TableTree, Fail> {
+    let schema = shared_schema(alloc)?;
+    let table = TableTree::new(alloc, schema, 1)?;
+    Ok(table)
+}
+
+/// How many entries the log of a table has that is under a lock.
+fn log_len(rt: &impl Wait, table: &Mutex<TableTree>) -> u32 {
+    table.lock(rt).log_len()
+}
+
+#[test]
+fn two_threads_set_one_cell(rt: HostRuntime) -> Result<(), Fail> {
+    let alloc = rt.alloc();
+    let row: Row<Entry> = Row::new(alloc, 1)?;
+    let (first, second) = join(&rt, || put(&row, alloc, 1), || put(&row, alloc, 2));
+    assert!(rt; first.is_some() && first == second);
+    Ok(())
+}
+
+#[test]
+fn two_threads_read_a_table_under_its_lock(rt: HostRuntime) -> Result<(), Fail> {
+    let alloc = rt.alloc();
+    let table = Mutex::new(table_of(alloc)?);
+    let (first, second) = join(&rt, || log_len(&rt, &table), || log_len(&rt, &table));
+    assert!(rt; first == 0 && second == 0);
+    Ok(())
+}
+
+#[test]
+fn a_replica_is_handed_to_a_thread(rt: HostRuntime) -> Result<(), Fail> {
+    let alloc = rt.alloc();
+    let replica = Replica::new(alloc, 1, shared_schema(alloc)?, true);
+    let (number, _) = join(&rt, move || replica.number(), || ());
+    assert!(rt; number == 1);
+    Ok(())
+}
+
+#[test]
+fn two_threads_read_a_copy_of_the_log(rt: HostRuntime) -> Result<(), Fail> {
+    let alloc = rt.alloc();
+    let copy = LogCopy::new(alloc, shared_schema(alloc)?);
+    let (first, second) = join(&rt, || copy.len(), || copy.len());
+    assert!(rt; first == 0 && second == 0);
+    Ok(())
+}
+
+#[test]
+fn two_threads_read_a_part(rt: HostRuntime) -> Result<(), Fail> {
+    let part = part_of(rt.alloc())?;
+    let (first, second) = join(&rt, || part.blocks().len(), || part.blocks().len());
+    assert!(rt; first == 1 && second == 1);
+    Ok(())
+}
+
+#[test]
+fn two_threads_read_a_snapshot(rt: HostRuntime) -> Result<(), Fail> {
+    let alloc = rt.alloc();
+    let snapshot = snapshot_of(alloc, part_of(alloc)?)?;
+    let (first, second) = join(&rt, || snapshot.len(), || snapshot.len());
+    assert!(rt; first == 1 && second == 1);
+    Ok(())
+}
+
+#[test]
+fn a_part_is_handed_to_a_thread(rt: HostRuntime) -> Result<(), Fail> {
+    let supply = Supply::Built(part_of(rt.alloc())?);
+    let (is_built, _) = join(&rt, move || matches!(supply, Supply::Built(_)), || ());
+    assert!(rt; is_built);
+    Ok(())
+}
