@@ -36,7 +36,8 @@ use Rattle.rmt_state.proofs.StateLemmas.{at-place}
 use Rattle.rmt_history.proofs.ListLemmas.{get-has}
 use Rattle.rmt_cluster.proofs.ReadingLemmas.{has-replica}
 use Rattle.rmt_statement_model.specs.TableStates.{TableState, learned}
-use Rattle.rmt_statement_model.specs.QuorumCopies.{replica_numbers, count_live, is_waiting, is_asked, copied, copied_to, gathered, gathered_for}
+use Rattle.rmt_statement_model.specs.QuorumCopies.{replica_numbers, count_live, is_waiting, is_asked, copied}
+use Rattle.rmt_statement_model.specs.Gathered.{copied_to, gathered, gathered_for}
 use Rattle.rmt_statement_model.specs.Inserts.{Asked}
 use Rattle.rmt_statement_model.specs.Shows.{HoldsNone, IsIdle, Shows, fetching_of, up_at, ups}
 use Rattle.rmt_statement_model.specs.Attempts.{HasPending}

@@ -1,5 +1,5 @@
 -- What an INSERT's block comes to, from what its events come to; and several blocks.
-use Rattle.std.proofs.Common.{◌≡◌, ℕ, Bool, inl, true, List, [], ◌∷◌, ◌++◌, map, length, Some, None, refl, ◌∙◌, ap, subst, sym, append_assoc, append-nil}
+use Rattle.std.proofs.Common.{◌≡◌, ℕ, Bool, inl, true, false, List, [], ◌∷◌, ◌++◌, map, length, Some, None, refl, ◌∙◌, ap, subst, sym, append_assoc, append-nil}
 use Rattle.std.proofs.lemmas.List.Elements.{All-head, All-rest}
 use Rattle.std.specs.List.{All}
 use Rattle.rmt_values.specs.declared.limit.Limit.{Limit}
@@ -13,11 +13,11 @@ use Rattle.rmt_reply.specs.declared.piece.Piece.TheVariants as pieces
 use Rattle.rmt_reply.specs.declared.refusal.Refusal.{Refusal}
 use Rattle.rmt_reply.specs.declared.refusal.Refusal.TheVariants.{TooFewLive, QuorumPending, QuorumUnmet, LimitReached}
 use Rattle.rmt_statement_model.specs.TableStates.{TableState, learned}
-use Rattle.rmt_statement_model.specs.QuorumCopies.{gathered_for}
+use Rattle.rmt_statement_model.specs.Gathered.{gathered_for}
 use Rattle.rmt_statement_model.specs.Inserts.{Asked, with_number, Inserts, Refuses, InsertsAll}
 use Rattle.rmt_model.specs.Quorum.{Quorum}
 use Rattle.rmt_statement_model.specs.Shows.{HoldsNone, IsIdle, Shows, Leads, ups}
-use Rattle.rmt_statement_model.proofs.InsertRows.{inserts-more, inserts-stop, part-row, unmet-row, duplicate-row, no-quorum-row, no-number-row, no-room-row}
+use Rattle.rmt_statement_model.proofs.InsertRows.{inserts-more, inserts-stop, inserts-now, refuses-now, part-row, unmet-row, duplicate-row, no-quorum-row, no-number-row, no-room-row}
 use Rattle.rmt_acts.specs.StatementEvents.{PieceEvents, TriesBlock}
 use Rattle.rmt_acts.specs.Inserting.{Begins, IsUnbegun, HasAttempt, Commits, HasGet, TellsWaiting, BlockEvents, ComesTo, with_get}
 use Rattle.rmt_acts.specs.declared.begun.Begun.{Begun}
@@ -98,7 +98,7 @@ Fitting s blocks = All (λ b. All (λ row. fits s.table.schema.columns row ≡ t
 pub record SoFar (s u : Cluster) (r : Asked) (all done rest : List Raw) (pieces : List Piece) : Type 0 where
   pub split : done ++ rest ≡ all
   pub fit : Fitting s rest
-  pub inserts : (t : TableState) → Shows s t → Leads u (InsertsAll (ups s) t r (map without_kinds done) pieces None)
+  pub inserts : (t : TableState) → Shows s t → Leads u (InsertsAll false (ups s) t r (map without_kinds done) pieces None)
   pub idle : IsIdle u r.writer
   pub ups_are : ups u ≡ ups s
   pub schema : u.table.schema ≡ s.table.schema
@@ -135,8 +135,9 @@ so-far-more s u v r all done rest left b pieces piece x e k made i up c n = reco
       let z = k m.state m.shows in
       record {
         state = z.state;
-        holds = subst (λ (bs : List Block). InsertsAll (ups s) t r bs (pieces ++ piece ∷ []) None z.state) (sym (map-append done (b ∷ [])))
-            (inserts-more (ups s) t m.state z.state r (map without_kinds done) (without_kinds b) pieces piece m.holds (subst (λ (up : ℕ → Bool). Inserts up m.state r (without_kinds b) piece z.state) x.ups_are z.holds));
+        holds = subst (λ (bs : List Block). InsertsAll false (ups s) t r bs (pieces ++ piece ∷ []) None z.state) (sym (map-append done (b ∷ [])))
+            (inserts-more false (ups s) t m.state z.state r (map without_kinds done) (without_kinds b) pieces piece m.holds
+            (inserts-now false (ups s) m.state z.state r (without_kinds b) piece (subst (λ (up : ℕ → Bool). Inserts false up m.state r (without_kinds b) piece z.state) x.ups_are z.holds)));
         shows = z.shows;
       };
   idle = i;
@@ -149,24 +150,25 @@ so-far-more s u v r all done rest left b pieces piece x e k made i up c n = reco
 
 -- the block at which it ends
 pub so-far-stop : (s u v : Cluster) (r : Asked) (all done rest left : List Raw) (b : Raw) (pieces : List Piece) (why : Refusal) → SoFar s u r all done rest pieces → rest ≡ b ∷ left
-    → ((t : TableState) → Shows u t → Leads v (ComesTo (ups u) t r (without_kinds b) (outcomes.Refused why))) → (t : TableState) → Shows s t → Leads v (InsertsAll (ups s) t r (map without_kinds all) pieces (Some why))
+    → ((t : TableState) → Shows u t → Leads v (ComesTo (ups u) t r (without_kinds b) (outcomes.Refused why))) → (t : TableState) → Shows s t → Leads v (InsertsAll false (ups s) t r (map without_kinds all) pieces (Some why))
 so-far-stop s u v r all done rest left b pieces why x e k t h =
     let m = x.inserts t h in
     let z = k m.state m.shows in
     record {
       state = z.state;
-      holds = subst (λ (bs : List Block). InsertsAll (ups s) t r bs pieces (Some why) z.state) (sym (map-append done (b ∷ left)) ∙ (ap (λ (bs : List Raw). map without_kinds (done ++ bs)) (sym e) ∙ ap (map without_kinds) x.split))
-          (inserts-stop (ups s) t m.state z.state r (map without_kinds done) (map without_kinds left) (without_kinds b) pieces why m.holds (subst (λ (up : ℕ → Bool). Refuses up m.state r (without_kinds b) why z.state) x.ups_are z.holds));
+      holds = subst (λ (bs : List Block). InsertsAll false (ups s) t r bs pieces (Some why) z.state) (sym (map-append done (b ∷ left)) ∙ (ap (λ (bs : List Raw). map without_kinds (done ++ bs)) (sym e) ∙ ap (map without_kinds) x.split))
+          (inserts-stop false (ups s) t m.state z.state r (map without_kinds done) (map without_kinds left) (without_kinds b) pieces why m.holds
+          (refuses-now false (ups s) m.state z.state r (without_kinds b) why (subst (λ (up : ℕ → Bool). Refuses false up m.state r (without_kinds b) why z.state) x.ups_are z.holds)));
       shows = z.shows;
     }
 
 -- no block is left
-pub so-far-end : (s u : Cluster) (r : Asked) (all done rest : List Raw) (pieces : List Piece) → SoFar s u r all done rest pieces → rest ≡ [] → (t : TableState) → Shows s t → Leads u (InsertsAll (ups s) t r (map without_kinds all) pieces None)
+pub so-far-end : (s u : Cluster) (r : Asked) (all done rest : List Raw) (pieces : List Piece) → SoFar s u r all done rest pieces → rest ≡ [] → (t : TableState) → Shows s t → Leads u (InsertsAll false (ups s) t r (map without_kinds all) pieces None)
 so-far-end s u r all done rest pieces x e t h =
     let m = x.inserts t h in
     record {
       state = m.state;
-      holds = subst (λ (bs : List Raw). InsertsAll (ups s) t r (map without_kinds bs) pieces None m.state) (sym (append-nil done) ∙ (ap (λ (bs : List Raw). done ++ bs) (sym e) ∙ x.split)) m.holds;
+      holds = subst (λ (bs : List Raw). InsertsAll false (ups s) t r (map without_kinds bs) pieces None m.state) (sym (append-nil done) ∙ (ap (λ (bs : List Raw). done ++ bs) (sym e) ∙ x.split)) m.holds;
       shows = m.shows;
     }
 

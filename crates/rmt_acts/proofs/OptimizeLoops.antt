@@ -1,5 +1,5 @@
 -- The partitions of an OPTIMIZE, one after the other.
-use Rattle.std.proofs.Common.{◌≡◌, ℕ, suc, ◌+◌, ◌<◌, ◌≤◌, inl, inr, List, [], ◌∷◌, ◌++◌, length, take, drop, get_or, refl, sym, ap, subst, arith, ◌∙◌}
+use Rattle.std.proofs.Common.{◌≡◌, ℕ, suc, ◌+◌, ◌<◌, ◌≤◌, inl, inr, false, List, [], ◌∷◌, ◌++◌, length, take, drop, get_or, refl, sym, ap, subst, arith, ◌∙◌}
 use Rattle.std.proofs.lemmas.List.{take_all, take_more, drop_more, take-append-drop}
 use Rattle.std.specs.declared.option.Option.{Option}
 use Rattle.std.specs.declared.option.Option.TheVariants.{Some, None}
@@ -17,7 +17,7 @@ use Rattle.rmt_events.specs.Whole.{IsWhole}
 use Rattle.rmt_statement_model.specs.TableStates.{TableState, synced}
 use Rattle.rmt_statement_model.specs.Optimizes.{live_of, partitions_of, partitions_asked, OptimizesAll, OptimizesTable}
 use Rattle.rmt_statement_model.specs.Shows.{Shows, Leads, IsIdle, IsUpToDate, ups}
-use Rattle.rmt_statement_model.proofs.OptimizeRows.{optimizes-more, optimizes-stop}
+use Rattle.rmt_statement_model.proofs.OptimizeRows.{optimizes-more, optimizes-stop, optimizes-now, cant-now}
 use Rattle.rmt_statement_model.proofs.PartitionLaws.{has-live, partitions-once, asked-live}
 use Rattle.rmt_statement_model.proofs.StillLive.{live-left}
 use Rattle.rmt_acts.specs.Syncing.{SyncsReplica}
@@ -66,7 +66,7 @@ length-more (x ∷ names) a = ap suc (length-more names a)
 
 -- these partitions were optimized, and have these names
 pub record IsOptimizing (s : Cluster) (r : ℕ) (ps : List (Option ℕ)) (names : List Name) (u : Cluster) : Type 0 where
-  pub optimizes : (t : TableState) → Shows s t → Leads u (λ v. OptimizesAll (synced r t) r ps names None v)
+  pub optimizes : (t : TableState) → Shows s t → Leads u (λ v. OptimizesAll false (synced r t) r ps names None v)
   pub whole : IsUpToDate u r
   pub idle : IsIdle u r
   pub ups_are : ups u ≡ ups s
@@ -78,7 +78,7 @@ pub record IsOptimizing (s : Cluster) (r : ℕ) (ps : List (Option ℕ)) (names 
 -- none yet, where the replica was brought up to date
 pub none-yet : (s u : Cluster) (r : ℕ) (names : List Name) → names ≡ [] → ((t : TableState) → Shows s t → Shows u (synced r t)) → IsUpToDate u r → IsIdle u r → ups u ≡ ups s → u.table.schema ≡ s.table.schema → length u.replicas ≡ length s.replicas → CatchesUp s r u → IsOptimizing s r [] names u
 none-yet s u r names e f d i up p q y = record {
-  optimizes = λ t h. record { state = synced r t; holds = subst (λ (ns : List Name). OptimizesAll (synced r t) r [] ns None (synced r t)) (sym e) refl; shows = f t h };
+  optimizes = λ t h. record { state = synced r t; holds = subst (λ (ns : List Name). OptimizesAll false (synced r t) r [] ns None (synced r t)) (sym e) refl; shows = f t h };
   whole = d;
   idle = i;
   ups_are = up;
@@ -112,7 +112,7 @@ one-more s u v r all i names out o name l k f e g d idle up a b m =
       optimizes = λ t h.
           let x = k.optimizes t h in
           let y = one x.state x.shows in
-          record { state = y.state; holds = optimizes-more (synced r t) x.state y.holds.mid y.state r (take i all) (there all i) names name x.holds y.holds.optimizes y.holds.syncs; shows = y.shows };
+          record { state = y.state; holds = optimizes-more false (synced r t) x.state y.holds.mid y.state r (take i all) (there all i) names name x.holds (optimizes-now false x.state y.holds.mid (there all i) name y.holds.optimizes) y.holds.syncs; shows = y.shows };
       whole = d;
       idle = idle;
       ups_are = up ∙ k.ups_are;
@@ -133,14 +133,14 @@ shown-asked s t asked all e h = e ∙ ap (partitions_asked asked) (sym h.log)
 
 -- it ends at one that can't be merged
 pub ends-there : (s u v : Cluster) (r : ℕ) (asked : Option (Option ℕ)) (all : List (Option ℕ)) (i : ℕ) (names out : List Name) (o : Optimized) (why : Refusal) → all ≡ partitions_asked asked s.table.log → i < length all
-    → IsOptimizing s r (take i all) names u → OptimizesTo u r (there all i) o v → o ≡ optimized.Refused why → out ≡ names → (t : TableState) → Shows s t → Leads v (OptimizesTable (ups s) t r asked out (Some why))
+    → IsOptimizing s r (take i all) names u → OptimizesTo u r (there all i) o v → o ≡ optimized.Refused why → out ≡ names → (t : TableState) → Shows s t → Leads v (OptimizesTable false (ups s) t r asked out (Some why))
 ends-there s u v r asked all i names out o why e l k f q g t h =
     let x = k.optimizes t h in
     let y = one x.state x.shows in
-    subst (λ (ns : List Name). Leads v (OptimizesTable (ups s) t r asked ns (Some why))) (sym g) (record {
+    subst (λ (ns : List Name). Leads v (OptimizesTable false (ups s) t r asked ns (Some why))) (sym g) (record {
       state = y.state;
-      holds = inr (subst (λ (ps : List (Option ℕ)). OptimizesAll (synced r t) r ps names (Some why) y.state) (split-at all i l ∙ shown-asked s t asked all e h)
-          (optimizes-stop (synced r t) x.state y.state r (take i all) (drop (i + 1) all) (there all i) names why x.holds y.holds));
+      holds = inr (subst (λ (ps : List (Option ℕ)). OptimizesAll false (synced r t) r ps names (Some why) y.state) (split-at all i l ∙ shown-asked s t asked all e h)
+          (optimizes-stop false (synced r t) x.state y.state r (take i all) (drop (i + 1) all) (there all i) names why x.holds (cant-now false x.state y.state (there all i) why y.holds)));
       shows = y.shows;
     })
   where
@@ -149,17 +149,17 @@ ends-there s u v r asked all i names out o why e l k f q g t h =
 
 -- or with the last
 pub ends-all : (s u : Cluster) (r : ℕ) (asked : Option (Option ℕ)) (all : List (Option ℕ)) (i : ℕ) (names out : List Name) → all ≡ partitions_asked asked s.table.log → length all ≤ i → IsOptimizing s r (take i all) names u
-    → out ≡ names → (t : TableState) → Shows s t → Leads u (OptimizesTable (ups s) t r asked out None)
+    → out ≡ names → (t : TableState) → Shows s t → Leads u (OptimizesTable false (ups s) t r asked out None)
 ends-all s u r asked all i names out e l k g t h =
     let x = k.optimizes t h in
-    subst (λ (ns : List Name). Leads u (OptimizesTable (ups s) t r asked ns None)) (sym g) (record {
+    subst (λ (ns : List Name). Leads u (OptimizesTable false (ups s) t r asked ns None)) (sym g) (record {
       state = x.state;
-      holds = inr (subst (λ (ps : List (Option ℕ)). OptimizesAll (synced r t) r ps names None x.state) (take_all i all l ∙ shown-asked s t asked all e h) x.holds);
+      holds = inr (subst (λ (ps : List (Option ℕ)). OptimizesAll false (synced r t) r ps names None x.state) (take_all i all l ∙ shown-asked s t asked all e h) x.holds);
       shows = x.shows;
     })
 
 -- the replica lacks a part, and nothing is merged
-pub lacks-part : (s u : Cluster) (r : ℕ) (asked : Option (Option ℕ)) (names : List Name) (refusal : Refusal) → names ≡ [] → SyncsReplica s r (Some refusal) u → (t : TableState) → Shows s t → Leads u (OptimizesTable (ups s) t r asked names (Some refusal))
+pub lacks-part : (s u : Cluster) (r : ℕ) (asked : Option (Option ℕ)) (names : List Name) (refusal : Refusal) → names ≡ [] → SyncsReplica s r (Some refusal) u → (t : TableState) → Shows s t → Leads u (OptimizesTable false (ups s) t r asked names (Some refusal))
 lacks-part s u r asked names refusal e f t h =
     let l = f t h in
     record { state = l.state; holds = inl (record { none = e; refusal = refusal; is_refused = refl; lacks = l.holds }); shows = l.shows }

@@ -26,10 +26,9 @@ use Rattle.rmt_events.specs.declared.step_refused.StepRefused.{StepRefused}
 use Rattle.rmt_events.specs.declared.step_refused.StepRefused.TheVariants as rf
 use Rattle.rmt_events.proofs.WholeSteps.{whole-step}
 use Rattle.rmt_statement_model.specs.TableStates.{TableState, synced}
-use Rattle.rmt_statement_model.specs.Waits.{MutatesParts}
 use Rattle.rmt_statement_model.specs.Shows.{IsIdle, IsUpToDate, Shows, Leads, ups}
 use Rattle.rmt_statement_model.proofs.PendingLaws.{AreToCome, pending-mutable, all-to-come, none-to-come, one-passed, one-mutated}
-use Rattle.rmt_statement_model.proofs.WaitRows.{IsMutateReply, mutated, mutate-shows, refused-shows}
+use Rattle.rmt_statement_model.proofs.WaitRows.{IsMutateReply, MutatesSynced, mutated, mutate-shows, refused-shows}
 use Rattle.rmt_statement_model.proofs.WaitLeads.{placed-still, wait-begins, wait-goes-on, wait-ends, wait-stops}
 use Rattle.rmt_acts.specs.StatementEvents.{CatchesUp, MutatesOnce, SyncsThen, WaitEvents}
 use Rattle.rmt_acts.specs.Waiting.{MutatesSome, IsPlaceOf, BecomesMutated, MutatesOne, Settles, WaitsTo}
@@ -79,7 +78,7 @@ pub record IsWaiting (s : Cluster) (r id place : ℕ) (parts : List Name) (u : C
   pub replicas : length u.replicas ≡ length s.replicas
   pub placed : IsPlaceOf u.table.log id place
   pub to_come : AreToCome u.table.log (place + 1) parts
-  pub waits : (t : TableState) → Shows s t → Leads u (λ v. MutatesParts t r id v)
+  pub waits : (t : TableState) → Shows s t → Leads u (λ v. MutatesSynced t r id v)
   pub count : ℕ
   pub events : SyncsThen s r count (MutatesOnce r) u
   pub few : count + length parts ≤ length (live s.table.log)

@@ -1,5 +1,5 @@
 -- What the events of an INSERT's block come to, one after the other. No public clause cites this module.
-use Rattle.std.specs.Prelude.{◌≡◌, ℕ, ◌≤◌, Bool, true, nat_le, [], ◌∷◌, length}
+use Rattle.std.specs.Prelude.{◌≡◌, ℕ, ◌≤◌, Bool, true, false, nat_le, [], ◌∷◌, length}
 use Rattle.std.specs.declared.option.Option.{Option}
 use Rattle.std.specs.declared.option.Option.TheVariants.{Some, None}
 use Rattle.rmt_names.specs.Names.{block_name}
@@ -14,7 +14,7 @@ use Rattle.rmt_events.specs.declared.step_refused.StepRefused.TheVariants as rf
 use Rattle.rmt_reply.specs.declared.refusal.Refusal.TheVariants.{TooFewLive, QuorumPending, LimitReached}
 use Rattle.rmt_reply.specs.declared.piece.Piece.TheVariants as pieces
 use Rattle.rmt_statement_model.specs.TableStates.{TableState, kept_with}
-use Rattle.rmt_statement_model.specs.QuorumCopies.{copied_to}
+use Rattle.rmt_statement_model.specs.Gathered.{copied_to}
 use Rattle.rmt_statement_model.specs.Inserts.{Asked, Inserts, Refuses, IsNew, number_for, with_number, number_limit, block_limit, quorum_refusal}
 use Rattle.rmt_statement_model.specs.Shows.{HoldsNone, Shows, fetching_of, ups}
 use Rattle.rmt_statement_model.specs.Attempts.{IsOpen, IsAccepted, HasPending}
@@ -153,8 +153,8 @@ pub record SpreadEvents (s : Cluster) (a : Asked) (place : ℕ) (u : Cluster) : 
 -- ---- what became of one block
 
 abbrev pub ComesTo : (ℕ → Bool) → TableState → Asked → Block → Outcome → TableState → Type 0
-ComesTo up t a b (outcomes.Inserted piece) u = Inserts up t a b piece u
-ComesTo up t a b (outcomes.Refused refusal) u = Refuses up t a b refusal u
+ComesTo up t a b (outcomes.Inserted piece) u = Inserts false up t a b piece u
+ComesTo up t a b (outcomes.Refused refusal) u = Refuses false up t a b refusal u
 
 -- the events of one block
 abbrev pub BlockEvents : Cluster → Asked → Outcome → Cluster → Type 0

@@ -1,5 +1,5 @@
 -- What WAIT MUTATION comes to, part by part. No public clause but that of `wait_for` cites this module.
-use Rattle.std.specs.Prelude.{◌≡◌, ◌⊎◌, ℕ, ◌+◌, Bool, List, ◌∷◌, MatchOption}
+use Rattle.std.specs.Prelude.{◌≡◌, ◌⊎◌, ℕ, ◌+◌, Bool, false, List, ◌∷◌, MatchOption}
 use Rattle.std.specs.declared.option.Option.{Option}
 use Rattle.std.specs.declared.option.Option.TheVariants.{Some, None}
 use Rattle.rmt_values.specs.declared.checked_mutation.CheckedMutation.{CheckedMutation}
@@ -20,11 +20,11 @@ use Rattle.rmt_acts.specs.StatementEvents.{MutatesOnce}
 
 -- a wait is refused: the replica lacks a part, or an entry more would pass a limit
 abbrev pub RefusesWait : (ℕ → Bool) → TableState → ℕ → ℕ → Refusal → TableState → Type 0
-RefusesWait up t r id refusal u = LacksSource up t r refusal u ⊎ LacksEntries t r id refusal u
+RefusesWait up t r id refusal u = LacksSource up t r refusal u ⊎ LacksEntries false t r id refusal u
 
 -- what waiting for a mutation comes to, whatever state the cluster shows: no part waits for it, or a refusal
 abbrev pub WaitsTo : Cluster → ℕ → ℕ → Option Refusal → Cluster → Type 0
-WaitsTo s r id None u = (t : TableState) → Shows s t → Leads u (WaitsFor t r id)
+WaitsTo s r id None u = (t : TableState) → Shows s t → Leads u (WaitsFor false t r id)
 WaitsTo s r id (Some refusal) u = (t : TableState) → Shows s t → Leads u (RefusesWait (ups s) t r id refusal)
 
 -- ---- what only private functions cite

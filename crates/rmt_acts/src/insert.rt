@@ -1,5 +1,5 @@
 //! INSERT of blocks.
-ghost use Rattle.std.specs.Prelude.{◌≡◌, ◌≢◌, length, map, true, IfOk, OnErr};
+ghost use Rattle.std.specs.Prelude.{◌≡◌, ◌≢◌, length, map, true, false, IfOk, OnErr};
 ghost use Rattle.std.specs.List.{All};
 ghost use Rattle.rmt_values.specs.Rows.{fits};
 ghost use Rattle.rmt_events.specs.Clusters.{without_kinds};
@@ -35,7 +35,8 @@ pub fn insert_blocks(
     requires fit { All (λ b. All (λ row. fits cluster.old.table.schema.columns row ≡ true) b.rows)
         blocks.items }
     ensures inserts { IfOk result (λ i. (t : TableState) → Shows cluster.old t → Leads cluster.new
-        (InsertsAll (ups cluster.old) t (asked_at replica need) (map without_kinds blocks.items) i.pieces i.refused)) }
+        (InsertsAll false (ups cluster.old) t (asked_at replica need) (map without_kinds blocks.items)
+        i.pieces i.refused)) }
     ensures idle { IfOk result (λ _. IsIdle cluster.new replica) }
     ensures events { IfOk result (λ i.
         InsertEvents cluster.old (asked_at replica need) i.pieces i.refused cluster.new) }

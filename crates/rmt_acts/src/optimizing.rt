@@ -1,5 +1,5 @@
 //! OPTIMIZE .. FINAL.
-ghost use Rattle.std.specs.Prelude.{◌≡◌, ℕ, true, List as Names, length, IfOk, OnErr};
+ghost use Rattle.std.specs.Prelude.{◌≡◌, ℕ, true, false, List as Names, length, IfOk, OnErr};
 ghost use Rattle.std.specs.declared.option.Option.TheVariants.{Some};
 ghost use Rattle.rmt_reply.specs.declared.refusal.Refusal.{Refusal as Why};
 ghost use Rattle.rmt_reply.specs.declared.refusal.Refusal.TheVariants.{Unmergeable as UnmergeableOf};
@@ -118,7 +118,7 @@ pub fn optimize(
     requires idle { IsIdle cluster.old replica }
     requires fetches { fetching_of cluster.old replica ≡ true }
     ensures optimizes { IfOk result (λ o. (t : TableState) → Shows cluster.old t
-        → Leads cluster.new (OptimizesTable (ups cluster.old) t replica asked o.names o.refused)) }
+        → Leads cluster.new (OptimizesTable false (ups cluster.old) t replica asked o.names o.refused)) }
     ensures idle { IfOk result (λ _. IsIdle cluster.new replica) }
     ensures events { IfOk result (λ o.
         OptimizeEvents cluster.old replica o.names o.refused cluster.new) }

@@ -1,5 +1,5 @@
 -- What acts do, by what their cluster says.
-use Rattle.std.proofs.Common.{◌≡◌, ◌∙◌, ℕ, true, inl, inr, List, map, refl, ap, sym, subst}
+use Rattle.std.proofs.Common.{◌≡◌, ◌∙◌, ℕ, true, false, inl, inr, List, map, refl, ap, sym, subst}
 use Rattle.std.proofs.lemmas.List.Elements.{All-filter, All-weaker}
 use Rattle.std.specs.Prelude.{IfOk, MatchOption}
 use Rattle.std.specs.List.{All}
@@ -145,7 +145,7 @@ query-refused s query Answers Events line why q e = λ t h. record {
 -- ---- INSERT
 
 -- rows that are inserted
-pub inserts-in : (s u : Cluster) (r : ℕ) (insert : Insert) (rows : List Row) (line : Line) → ups s r ≡ true → HasRows s.table.schema insert rows → ((t : TableState) → Shows s t → Leads u (InsertsRows (ups s) t (asked_at r (need_of insert.quorum)) rows line)) → InsertsBy s (asked_at r (need_of insert.quorum)) line u
+pub inserts-in : (s u : Cluster) (r : ℕ) (insert : Insert) (rows : List Row) (line : Line) → ups s r ≡ true → HasRows s.table.schema insert rows → ((t : TableState) → Shows s t → Leads u (InsertsRows false (ups s) t (asked_at r (need_of insert.quorum)) rows line)) → InsertsBy s (asked_at r (need_of insert.quorum)) line u
     → ExecutesIn s r (acts.Insert insert) line u
 inserts-in s u r insert rows line up k f m = λ t h.
     let led = f t h in
@@ -159,9 +159,9 @@ inserts-in s u r insert rows line up k f m = λ t h.
 
 -- the same of a call
 pub inserts-all-in : {E : Type 0} (result : Result Line E) (s u : Cluster) (r need : ℕ) (insert : Insert) (rows : List Row) → need ≡ need_of insert.quorum → ups s r ≡ true → HasRows s.table.schema insert rows
-    → IfOk result (λ line. (t : TableState) → Shows s t → Leads u (InsertsRows (ups s) t (asked_at r need) rows line)) → IfOk result (λ line. InsertsBy s (asked_at r need) line u) → IfOk result (λ line. ExecutesIn s r (acts.Insert insert) line u)
+    → IfOk result (λ line. (t : TableState) → Shows s t → Leads u (InsertsRows false (ups s) t (asked_at r need) rows line)) → IfOk result (λ line. InsertsBy s (asked_at r need) line u) → IfOk result (λ line. ExecutesIn s r (acts.Insert insert) line u)
 inserts-all-in (Ok line) s u r need insert rows e up k f m =
-    inserts-in s u r insert rows line up k (λ t h. subst (λ n. Leads u (InsertsRows (ups s) t (asked_at r n) rows line)) e (f t h)) (subst (λ n. InsertsBy s (asked_at r n) line u) e m)
+    inserts-in s u r insert rows line up k (λ t h. subst (λ n. Leads u (InsertsRows false (ups s) t (asked_at r n) rows line)) e (f t h)) (subst (λ n. InsertsBy s (asked_at r n) line u) e m)
 inserts-all-in (Err x) s u r need insert rows e up k f m = tt
 
 -- the rows of each block fit
@@ -173,7 +173,7 @@ split-fits shape rows blocks s f = All-weaker _ _ (λ b k. of b k) blocks s.each
 
 -- blocks of rows that are inserted
 pub inserts-split : (s u : Cluster) (r : Asked) (rows : List Row) (blocks : List BlockView) (all : List Piece) (refused : Option Refusal) → IsSplit s.table.schema rows blocks
-    → ((t : TableState) → Shows s t → Leads u (InsertsAll (ups s) t r (map without_kinds blocks) all refused)) → (t : TableState) → Shows s t → Leads u (InsertsRows (ups s) t r rows (lines.Inserted all refused))
+    → ((t : TableState) → Shows s t → Leads u (InsertsAll false (ups s) t r (map without_kinds blocks) all refused)) → (t : TableState) → Shows s t → Leads u (InsertsRows false (ups s) t r rows (lines.Inserted all refused))
 inserts-split s u r rows blocks all refused p f t h =
     let led = f t h in
     record {

@@ -46,7 +46,7 @@ use Rattle.rmt_acts.specs.Checking.{AreDigests}
 use Rattle.rmt_acts.specs.Syncing.{SyncsReplica}
 
 -- an act that isn't refused
-pub acts-in : (s u : Cluster) (r : ℕ) (act : Act) (t v : TableState) (line : Line) → refusal_there t act ≡ None → Shows u v → Acts (ups s) t r act line v → ActEvents s r act line u → Leads u (ExecutesAct (ups s) s t r act line u)
+pub acts-in : (s u : Cluster) (r : ℕ) (act : Act) (t v : TableState) (line : Line) → refusal_there t act ≡ None → Shows u v → Acts false (ups s) t r act line v → ActEvents s r act line u → Leads u (ExecutesAct (ups s) s t r act line u)
 acts-in s u r act t v line q k a m =
     record { state = v; holds = subst (λ (o : Option Refusal). MatchOption o (DoesAct (ups s) s t r act line u v) (Declines s t line u v)) (sym q) (a, m); shows = k }
 
@@ -112,7 +112,7 @@ asked-known rule (Some word) (Some p) q = ap refused_partition q
 
 -- the partitions that are asked for are optimized
 pub optimizes-in : (s u : Cluster) (r : ℕ) (table : List ℕ) (word : Option PartitionWord) (asked : Option (Option ℕ)) (names : List Name) (refused : Option Refusal) → IsAsked s.table.schema.partition word asked
-    → ((t : TableState) → Shows s t → Leads u (λ v. OptimizesTable (ups s) t r asked names refused v)) → OptimizeEvents s r names refused u → ExecutesIn s r (acts.Optimize table word) (lines.Optimized names refused) u
+    → ((t : TableState) → Shows s t → Leads u (λ v. OptimizesTable false (ups s) t r asked names refused v)) → OptimizeEvents s r names refused u → ExecutesIn s r (acts.Optimize table word) (lines.Optimized names refused) u
 optimizes-in s u r table word asked names refused q f m = λ t h.
     let l = f t h in
     let n : IsAsked t.schema.partition word asked = subst (λ (c : Shape). IsAsked c.partition word asked) (sym h.schema) q in
@@ -183,6 +183,6 @@ switches-in s u r true table f m = λ t h. acts-in s u r (acts.StartFetches tabl
 
 pub works-in : (s u : Cluster) (turns seed : ℕ) → ((t : TableState) → Shows s t → Leads u (λ v. Works (ups s) turns t v)) → RunsAll s seed turns u → RunsCluster turns seed (lines.Ran turns) s u
 works-in s u turns seed f m = record {
-  turns_made = λ t h. let l = f t h in record { state = l.state; holds = record { works = l.holds; reply = refl }; shows = l.shows };
+  turns_made = λ t h. let l = f t h in record { state = l.state; holds = record { runs = inl l.holds; reply = refl }; shows = l.shows };
   events = m;
 }

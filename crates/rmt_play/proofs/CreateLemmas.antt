@@ -122,7 +122,7 @@ unplayed-refused p statement first e w i =
     ap (λ (b : Bool). first_of (cond b None (Some (Syntax first)) ∷ refusals w statement)) (ap (λ n. is_played n statement) (length-shown p.tables w.tables i.tables) ∙ e) in
     record {
       world = w;
-      holds = subst (λ (o : Option Refusal). MatchOption o (Performs w statement (lines.Refused (Syntax first)) w) (λ why. Refuses w why (lines.Refused (Syntax first)) w)) (sym refused)
+      holds = subst (λ (o : Option Refusal). MatchOption o (Performs false w statement (lines.Refused (Syntax first)) w) (λ why. Refuses w why (lines.Refused (Syntax first)) w)) (sym refused)
           (record { reply = refl; unchanged = refl });
       is_in = i;
     }
@@ -132,7 +132,7 @@ pub played : (p q : PlayerView) (statement : Statement) (first : ℕ) (line : Li
 played p q statement first line e m w i =
     let same : refusal_of w statement first ≡ first_of (refusals w statement) =
     ap (λ (b : Bool). first_of (cond b None (Some (Syntax first)) ∷ refusals w statement)) (ap (λ n. is_played n statement) (length-shown p.tables w.tables i.tables) ∙ e) in
-    subst (λ (o : Option Refusal). ComesTo q (λ v. MatchOption o (Performs w statement line v) (λ why. Refuses w why line v))) (sym same) (m w i)
+    subst (λ (o : Option Refusal). ComesTo q (λ v. MatchOption o (Performs false w statement line v) (λ why. Refuses w why line v))) (sym same) (m w i)
 
 -- ---- whether a name is taken
 

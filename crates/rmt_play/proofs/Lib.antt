@@ -9,3 +9,4 @@ pub mod CommandLemmas
 pub mod SequentialLemmas
 pub mod RefusedActs
 pub mod ScriptLemmas
+pub mod SteppedLaws

@@ -1,5 +1,5 @@
 -- What the playing of a script keeps from statement to statement.
-use Rattle.std.proofs.Common.{◌≡◌, ◌∙◌, ℕ, ◌+◌, ◌<◌, ◌≤◌, List, [], ◌∷◌, ◌++◌, length, refl, ap, sym, subst, Bool, cond, Option, Some, None, arith, append_assoc, zero, suc, ◌&&◌, true, false, nat_lt}
+use Rattle.std.proofs.Common.{◌≡◌, ◌∙◌, ℕ, ◌+◌, ◌<◌, ◌≤◌, inl, List, [], ◌∷◌, ◌++◌, length, refl, ap, sym, subst, Bool, cond, Option, Some, None, arith, append_assoc, zero, suc, ◌&&◌, true, false, nat_lt}
 use Rattle.std.proofs.Math.Path.{fun_ext}
 use Rattle.std.proofs.lemmas.Bool.Decides.{nat_tests}
 use Rattle.std.specs.Prelude.{count_by, if◌then◌else◌, nat_le, replicate, slice_index_or}
@@ -10,8 +10,9 @@ use Rattle.rmt_sql.specs.declared.parsed.Parsed.TheVariants as parsed
 use Rattle.rmt_sql.specs.Script.{ReadsAt}
 use Rattle.rmt_reply.specs.declared.line.Line.{Line}
 use Rattle.rmt_reply.specs.Printed.{printed}
-use Rattle.rmt_play.specs.World.{World, all_up, start}
-use Rattle.rmt_play.specs.Plays.{Played, is_refused}
+use Rattle.rmt_play.specs.World.{Table, World, all_up, start}
+use Rattle.rmt_play.specs.WorldRests.{AreRested, RestsAll}
+use Rattle.rmt_play.specs.Plays.{Step, Played, is_refused}
 use Rattle.rmt_play.specs.Runs.{output, GivesScript, PlayedWhole, PlayedInPart, CutShort}
 use Rattle.rmt_play.specs.declared.outcome.Outcome.{Outcome}
 use Rattle.rmt_play.specs.declared.script_end.ScriptEnd.{ScriptEnd}
@@ -29,10 +30,22 @@ use Rattle.rmt_play.proofs.TableLemmas.{shown-clusters}
 pub record SoFar (script : List ℕ) (at : ℕ) (player : PlayerView) (before now : Option (List ℕ)) (refused : ℕ) : Type 0 where
   pub lines : List Line
   pub world : World
-  pub played : Played script lines at world
+  pub played : Played false script lines at world
   pub is_in : IsIn player world
   pub written : Appends before now (output lines)
   pub counted : refused ≡ count_by is_refused lines
+
+-- a world needn't rest
+tables-still : (w : Bool) (ts : List Table) → AreRested w ts ts
+tables-still w [] = tt
+tables-still w (t ∷ ts) = (refl, inl refl, tables-still w ts)
+
+pub all-still : (w : Bool) (world : World) → RestsAll w world world
+all-still w world = record { tables = tables-still w world.tables; rest = refl }
+
+-- and doesn't before a statement that is played without workers
+steps-played : (script : List ℕ) (from end : ℕ) (line : Line) (old new : World) → Steps script from line end old new → Step false script from old line end new
+steps-played script from end line old new k = record { rested = old; rests = all-still false old; found = k.found; reads = k.reads; ends = k.ends; executes = k.executes }
 
 no-both : (x : Bool) → (x && false) ≡ false
 no-both true = refl
@@ -74,33 +87,35 @@ so_far_on script at old new before now after refused end count outcome so on c =
     record {
       lines = on.line ∷ so.lines;
       world = next.world;
-      played = (at, so.world, so.played, next.holds);
+      played = (at, so.world, so.played, steps-played script at end on.line so.world next.world next.holds);
       is_in = next.is_in;
       written = Appends-trans before now after (output so.lines) (printed on.line) so.written on.written;
       counted = omega (arith, counted, flag, all, c);
     }
 
 pub so_far_whole : (script : List ℕ) (at : ℕ) (player : PlayerView) (before now after : Option (List ℕ)) (refused : ℕ) (clusters : List Cluster) → SoFar script at player before now refused → ReadsAt script at parsed.End → Keeps now after
-    → AreOfPlayer player clusters → PlayedWhole script before after refused clusters
+    → AreOfPlayer player clusters → PlayedWhole false script before after refused clusters
 so_far_whole script at player before now after refused clusters so ended keeps o = record {
   lines = so.lines;
   at = at;
-  world = so.world;
+  last = so.world;
   played = so.played;
   ended = ended;
   written = Appends-kept before now after (output so.lines) so.written keeps;
   counted = so.counted;
+  world = so.world;
+  rests = all-still false so.world;
   shown = subst (λ (cs : List Cluster). AreShown cs so.world.tables) (sym o.all) (shown-clusters player.tables so.world.tables so.is_in.tables);
   replicas = subst (λ (n : ℕ). Each (HasReplicas n so.world.up) clusters) (sym so.is_in.replicas)
       (subst (λ (up : ℕ → Bool). Each (HasReplicas player.replicas up) clusters) (sym so.is_in.up) o.replicas);
   agree = o.agree;
 }
 
-pub so_far_in_part : (script : List ℕ) (at : ℕ) (player : PlayerView) (before now after : Option (List ℕ)) (refused : ℕ) → SoFar script at player before now refused → Keeps now after → PlayedInPart before after script
+pub so_far_in_part : (script : List ℕ) (at : ℕ) (player : PlayerView) (before now after : Option (List ℕ)) (refused : ℕ) → SoFar script at player before now refused → Keeps now after → PlayedInPart false before after script
 so_far_in_part script at player before now after refused so keeps =
     record { lines = so.lines; at = at; world = so.world; played = so.played; written = Appends-kept before now after (output so.lines) so.written keeps }
 
-pub so_far_short : (script : List ℕ) (at : ℕ) (player : PlayerView) (before now after : Option (List ℕ)) (refused : ℕ) → SoFar script at player before now refused → CutsReply script at player now after → CutShort before after script
+pub so_far_short : (script : List ℕ) (at : ℕ) (player : PlayerView) (before now after : Option (List ℕ)) (refused : ℕ) → SoFar script at player before now refused → CutsReply script at player now after → CutShort false before after script
 so_far_short script at player before now after refused so short =
     let (prefix, rest, parts, written) = short.written in
     let next = short.step so.world so.is_in in
@@ -108,7 +123,7 @@ so_far_short script at player before now after refused so short =
       lines = short.line ∷ so.lines;
       at = short.end;
       world = next.world;
-      played = (at, so.world, so.played, next.holds);
+      played = (at, so.world, so.played, steps-played script at short.end short.line so.world next.world next.holds);
       written = (output so.lines ++ prefix, rest, append_assoc (output so.lines) prefix rest ∙ ap (λ l. output so.lines ++ l) parts, Appends-trans before now after (output so.lines) prefix so.written written);
     }
 
@@ -116,7 +131,7 @@ so_far_short script at player before now after refused so short =
 pub ends-whole : (script : List ℕ) (at : ℕ) (player : PlayerView) (before now after : Option (List ℕ)) (refused : ℕ) (end : ScriptEnd) → SoFar script at player before now refused → ReadsAt script at parsed.End → Keeps now after
     → IsEndOf player refused end → IsScriptEnd script before after end
 ends-whole script at player before now after refused (ends.Whole count clusters) so ended keeps e =
-    subst (λ n. PlayedWhole script before after n clusters) (sym e.0) (so_far_whole script at player before now after refused clusters so ended keeps e.1)
+    subst (λ n. PlayedWhole false script before after n clusters) (sym e.0) (so_far_whole script at player before now after refused clusters so ended keeps e.1)
 ends-whole script at player before now after refused ends.WriteFault so ended keeps e = absurd e
 ends-whole script at player before now after refused ends.Memory so ended keeps e = so_far_in_part script at player before now after refused so keeps
 
@@ -125,8 +140,8 @@ gives_some None P holds = record { script = []; given = tt; holds = holds [] }
 gives_some (Some bytes) P holds = record { script = bytes; given = refl; holds = holds bytes }
 
 -- nothing of the script was played
-pub none_played : (left written : Option (List ℕ)) → GivesScript left (PlayedInPart written written)
-none_played left written = gives_some left (PlayedInPart written written) (λ script. record { lines = []; at = 0; world = start; played = (refl, refl); written = Appends-nil written })
+pub none_played : (left written : Option (List ℕ)) → GivesScript left (PlayedInPart false written written)
+none_played left written = gives_some left (PlayedInPart false written written) (λ script. record { lines = []; at = 0; world = start; played = (refl, refl); written = Appends-nil written })
 
 -- the reply of a statement that was played makes the progress
 pub reply-progress : (script : List ℕ) (at end : ℕ) (line : Line) (old new : PlayerView) (before after : Option (List ℕ)) (p : Progress)

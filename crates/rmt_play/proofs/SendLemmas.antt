@@ -102,7 +102,7 @@ found-at p w name place i f = found-in p.tables w.tables name place f.table f.th
 pub sends : (old new : PlayerView) (sent : Sent) (place replica : ℕ) (line : Line) → Each (IsAtAll old.replicas old.up) old.tables → IsPlaceOf old.tables (table_named sent.act) place → replica_at old.replicas sent.replica ≡ Some replica
     → ActsAt old place replica sent.act line new → Moves old (ExecutesSent sent line) new
 sends old new sent place replica line all p at a w i =
-    subst (λ (o : Option Refusal). ComesTo new (λ v. MatchOption o (PerformsSent w sent line v) (λ refusal. Refuses w refusal line v))) (sym refused)
+    subst (λ (o : Option Refusal). ComesTo new (λ v. MatchOption o (PerformsSent false w sent line v) (λ refusal. Refuses w refusal line v))) (sym refused)
     (go (first_of (act_refusals w.up f.table.state replica sent.act)) led.state led.shows led.holds)
   where
     same : p.table ≡ a.table
@@ -130,10 +130,10 @@ sends old new sent place replica line all p at a w i =
     is_in v h = subst (λ (q : PlayerView). IsIn q (record w { tables = with_table w.tables (table_named sent.act) (record f.table { state = v; cluster = a.after }) })) (sym a.rest)
         (record { replicas = i.replicas; up = i.up; tables = f.set a.after v h })
 
-    go : (o : Option Refusal) (v : TableState) → Shows a.after v → MatchOption o (DoesAct w.up s f.table.state replica sent.act line a.after v) (Declines s f.table.state line a.after v) → ComesTo new (λ u. MatchOption o (PerformsSent w sent line u) (λ refusal. Refuses w refusal line u))
+    go : (o : Option Refusal) (v : TableState) → Shows a.after v → MatchOption o (DoesAct w.up s f.table.state replica sent.act line a.after v) (Declines s f.table.state line a.after v) → ComesTo new (λ u. MatchOption o (PerformsSent false w sent line u) (λ refusal. Refuses w refusal line u))
     go None v h k = record {
       world = record w { tables = with_table w.tables (table_named sent.act) (record f.table { state = v; cluster = a.after }) };
-      holds = record { replica = replica; at = here; acts = record { table = f.table; found = f.found; after = v; changes = k.0; cluster = a.after; events = subst (λ (x : Cluster). ActEvents x replica sent.act line a.after) (sym f.is.cluster) k.1; rest = refl } };
+      holds = record { replica = replica; at = here; acts = record { table = f.table; found = f.found; after = v; changes = k.0; cluster = a.after; events = λ q. subst (λ (x : Cluster). ActEvents x replica sent.act line a.after) (sym f.is.cluster) k.1; rest = refl } };
       is_in = is_in v h;
     }
     go (Some refusal) v h k =
@@ -148,7 +148,7 @@ sends old new sent place replica line all p at a w i =
 -- a table that isn't there
 pub no-table : (p : PlayerView) (sent : Sent) (line : Line) → HasNone p.tables (table_named sent.act) → line ≡ lines.Refused (UnknownTable (table_named sent.act)) → Moves p (ExecutesSent sent line) p
 no-table p sent line none e w i =
-    subst (λ (o : Option Refusal). ComesTo p (λ v. MatchOption o (PerformsSent w sent line v) (λ refusal. Refuses w refusal line v)))
+    subst (λ (o : Option Refusal). ComesTo p (λ v. MatchOption o (PerformsSent false w sent line v) (λ refusal. Refuses w refusal line v)))
     (sym (ap (λ (o : Option Table). first_of (refused_without o (table_named sent.act) ∷ unknown_replica w.replicas sent.replica ∷ refused_act w.up o (replica_at w.replicas sent.replica) sent.act ∷ [])) (none-in p.tables w.tables (table_named sent.act) none i.tables)))
     (record { world = w; holds = record { reply = e; unchanged = refl }; is_in = i })
 
@@ -156,7 +156,7 @@ no-table p sent line none e w i =
 pub no-replica : (p : PlayerView) (sent : Sent) (place : ℕ) (refusal : Refusal) (line : Line) → IsPlaceOf p.tables (table_named sent.act) place → unknown_replica p.replicas sent.replica ≡ Some refusal → line ≡ lines.Refused refusal → Moves p (ExecutesSent sent line) p
 no-replica p sent place refusal line f unknown e w i =
     let t = found-at p w (table_named sent.act) place i f in
-    subst (λ (o : Option Refusal). ComesTo p (λ v. MatchOption o (PerformsSent w sent line v) (λ refusal. Refuses w refusal line v)))
+    subst (λ (o : Option Refusal). ComesTo p (λ v. MatchOption o (PerformsSent false w sent line v) (λ refusal. Refuses w refusal line v)))
     (sym (refusals-found w sent t.table t.found
     ∙ ap (λ (o : Option Refusal). first_of (o ∷ refused_act w.up (Some t.table) (replica_at w.replicas sent.replica) sent.act ∷ [])) (ap (λ n. unknown_replica n sent.replica) i.replicas ∙ unknown)))
     (record { world = w; holds = record { reply = e; unchanged = refl }; is_in = i })
@@ -171,10 +171,10 @@ runs-found w name turns seed t e =
 -- background work that is done in its table
 pub runs : (old new : PlayerView) (name : List ℕ) (turns seed place : ℕ) (line : Line) → Each (IsAtAll old.replicas old.up) old.tables → IsPlaceOf old.tables name place → refused_turns turns seed ≡ None → ChangesAt old place (RunsCluster turns seed line) new → Moves old (ExecutesRun name turns seed line) new
 runs old new name turns seed place line all p q a w i =
-    subst (λ (o : Option Refusal). ComesTo new (λ v. MatchOption o (RunsIn w name turns seed line v) (λ refusal. Refuses w refusal line v))) (sym (runs-found w name turns seed f.table f.found ∙ q))
+    subst (λ (o : Option Refusal). ComesTo new (λ v. MatchOption o (RunsIn false w name turns seed line v) (λ refusal. Refuses w refusal line v))) (sym (runs-found w name turns seed f.table f.found ∙ q))
     (record {
       world = record w { tables = with_table w.tables name (record f.table { state = led.state; cluster = a.after }) };
-      holds = record { table = f.table; found = f.found; after = led.state; changes = led.holds; cluster = a.after; events = subst (λ (x : Cluster). RunsAll x seed turns a.after) (sym f.is.cluster) a.changes.events; rest = refl };
+      holds = record { table = f.table; found = f.found; after = led.state; changes = led.holds; cluster = a.after; events = λ e. subst (λ (x : Cluster). RunsAll x seed turns a.after) (sym f.is.cluster) a.changes.events; rest = refl };
       is_in = subst (λ (x : PlayerView). IsIn x (record w { tables = with_table w.tables name (record f.table { state = led.state; cluster = a.after }) })) (sym a.rest)
           (record { replicas = i.replicas; up = i.up; tables = f.set a.after led.state led.shows });
     })
@@ -182,13 +182,13 @@ runs old new name turns seed place line all p q a w i =
     f : FoundIn old.tables w.tables name place a.table
     f = subst (FoundIn old.tables w.tables name place) (let e = sym p.there ∙ a.there in cc) (found-at old w name place i p)
 
-    led : Leads a.after (RunsTurns w.up f.table.state turns line)
-    led = subst (λ (up : ℕ → Bool). Leads a.after (RunsTurns up f.table.state turns line)) ((each-get (IsAtAll old.replicas old.up) old.tables place a.table a.there all).1 ∙ sym i.up) (a.changes.turns_made f.table.state f.is.shows)
+    led : Leads a.after (RunsTurns false w.up f.table.state turns line)
+    led = subst (λ (up : ℕ → Bool). Leads a.after (RunsTurns false up f.table.state turns line)) ((each-get (IsAtAll old.replicas old.up) old.tables place a.table a.there all).1 ∙ sym i.up) (a.changes.turns_made f.table.state f.is.shows)
 
 -- a table that isn't there
 pub no-run-table : (p : PlayerView) (name : List ℕ) (turns seed : ℕ) → HasNone p.tables name → Moves p (ExecutesRun name turns seed (lines.Refused (UnknownTable name))) p
 no-run-table p name turns seed none w i =
-    subst (λ (o : Option Refusal). ComesTo p (λ v. MatchOption o (RunsIn w name turns seed (lines.Refused (UnknownTable name)) v) (λ refusal. Refuses w refusal (lines.Refused (UnknownTable name)) v)))
+    subst (λ (o : Option Refusal). ComesTo p (λ v. MatchOption o (RunsIn false w name turns seed (lines.Refused (UnknownTable name)) v) (λ refusal. Refuses w refusal (lines.Refused (UnknownTable name)) v)))
     (sym (ap (λ (o : Option Table). first_of (refused_without o name ∷ refused_turns turns seed ∷ [])) (none-in p.tables w.tables name none i.tables)))
     (record { world = w; holds = record { reply = refl; unchanged = refl }; is_in = i })
 
@@ -196,7 +196,7 @@ no-run-table p name turns seed none w i =
 pub no-turns : (p : PlayerView) (name : List ℕ) (turns seed place : ℕ) (why : Refusal) (line : Line) → IsPlaceOf p.tables name place → refused_turns turns seed ≡ Some why → line ≡ lines.Refused why → Moves p (ExecutesRun name turns seed line) p
 no-turns p name turns seed place why line f q e w i =
     let t = found-at p w name place i f in
-    subst (λ (o : Option Refusal). ComesTo p (λ v. MatchOption o (RunsIn w name turns seed line v) (λ refusal. Refuses w refusal line v))) (sym (runs-found w name turns seed t.table t.found ∙ q))
+    subst (λ (o : Option Refusal). ComesTo p (λ v. MatchOption o (RunsIn false w name turns seed line v) (λ refusal. Refuses w refusal line v))) (sym (runs-found w name turns seed t.table t.found ∙ q))
     (record { world = w; holds = record { reply = e; unchanged = refl }; is_in = i })
 
 -- the word of that refusal

@@ -50,7 +50,7 @@ up-set count up i b l m (suc j) =
 -- tables that the clusters show, made of these by one event each
 record AreTurned (event : Event) (ds : List NamedCluster) (ts : List Table) : Type 0 where
   news : List Table
-  events : InEach event ts news
+  events : InEach false event ts news
   shown : ShowTables ds news
 
 -- each table shows what it showed
@@ -65,7 +65,7 @@ shown-turned r b (c ∷ cs) (d ∷ ds) (t ∷ ts) n f h =
     let rest = shown-turned r b cs ds ts (omega (arith, n)) (λ j s u p q. f (suc j) s u p q) h.1 in
     record {
       news = record t { cluster = d.cluster } ∷ rest.news;
-      events = (refl, subst (λ (s : Cluster). Makes s (session_event r b ∷ []) d.cluster) (sym h.0.cluster) x.turns.events, rest.events);
+      events = (refl, λ q. subst (λ (s : Cluster). Makes s (session_event r b ∷ []) d.cluster) (sym h.0.cluster) x.turns.events, rest.events);
       shown = (record { name = h.0.name ∙ sym x.name; cluster = refl; shows = x.turns.shows t.state h.0.shows }, rest.shown);
     }
 
@@ -206,33 +206,33 @@ restart-found p w name r i e =
 -- KILL
 pub kills : (p q : PlayerView) (name : List ℕ) (r : ℕ) → replica_of p.replicas name ≡ Some r → 1 ≤ r → r ≤ p.replicas → p.replicas ≤ 8 → length p.up ≡ 8 → is_up p.replicas p.up r ≡ true → TurnsAll p r false q → Moves p (ExecutesKill name lines.Okay) q
 kills p q name r e some few eight n up f w i =
-    subst (λ (o : Option Refusal). ComesTo q (λ v. MatchOption o (Turns w name false lines.Okay v) (λ refusal. Refuses w refusal lines.Okay v))) (sym (kill-found p w name r i e ∙ ap (λ (b : Bool). cond b None (Some (ReplicaDown r))) up))
+    subst (λ (o : Option Refusal). ComesTo q (λ v. MatchOption o (Turns false w name false lines.Okay v) (λ refusal. Refuses w refusal lines.Okay v))) (sym (kill-found p w name r i e ∙ ap (λ (b : Bool). cond b None (Some (ReplicaDown r))) up))
     (record { world = record w { up = with_up w.up r false; tables = (tables-turned p q w r false f i).news }; holds = record { replica = r; at = there p w name r i e; reply = refl; tables = (tables-turned p q w r false f i).news; events = (tables-turned p q w r false f i).events; change = refl }; is_in = turned p q w r false some few eight n f i })
 
 pub kill-down : (p : PlayerView) (name : List ℕ) (r : ℕ) → replica_of p.replicas name ≡ Some r → is_up p.replicas p.up r ≡ false → Moves p (ExecutesKill name (lines.Refused (ReplicaDown r))) p
 kill-down p name r e down w i =
-    subst (λ (o : Option Refusal). ComesTo p (λ v. MatchOption o (Turns w name false (lines.Refused (ReplicaDown r)) v) (λ refusal. Refuses w refusal (lines.Refused (ReplicaDown r)) v))) (sym (kill-found p w name r i e ∙ ap (λ (b : Bool). cond b None (Some (ReplicaDown r))) down))
+    subst (λ (o : Option Refusal). ComesTo p (λ v. MatchOption o (Turns false w name false (lines.Refused (ReplicaDown r)) v) (λ refusal. Refuses w refusal (lines.Refused (ReplicaDown r)) v))) (sym (kill-found p w name r i e ∙ ap (λ (b : Bool). cond b None (Some (ReplicaDown r))) down))
     (record { world = w; holds = record { reply = refl; unchanged = refl }; is_in = i })
 
 pub kill-unknown : (p : PlayerView) (name : List ℕ) → replica_of p.replicas name ≡ None → Moves p (ExecutesKill name (lines.Refused (UnknownReplica name))) p
 kill-unknown p name e w i =
-    subst (λ (o : Option Refusal). ComesTo p (λ v. MatchOption o (Turns w name false (lines.Refused (UnknownReplica name)) v) (λ refusal. Refuses w refusal (lines.Refused (UnknownReplica name)) v)))
+    subst (λ (o : Option Refusal). ComesTo p (λ v. MatchOption o (Turns false w name false (lines.Refused (UnknownReplica name)) v) (λ refusal. Refuses w refusal (lines.Refused (UnknownReplica name)) v)))
     (sym (ap (λ (o : Option ℕ). first_of (refused_name o (Some name) ∷ refused_down w.up o ∷ [])) (ap (λ n. replica_of n name) i.replicas ∙ e)))
     (record { world = w; holds = record { reply = refl; unchanged = refl }; is_in = i })
 
 -- RESTART
 pub restarts : (p q : PlayerView) (name : List ℕ) (r : ℕ) → replica_of p.replicas name ≡ Some r → 1 ≤ r → r ≤ p.replicas → p.replicas ≤ 8 → length p.up ≡ 8 → is_up p.replicas p.up r ≡ false → TurnsAll p r true q → Moves p (ExecutesRestart name lines.Okay) q
 restarts p q name r e some few eight n down f w i =
-    subst (λ (o : Option Refusal). ComesTo q (λ v. MatchOption o (Turns w name true lines.Okay v) (λ refusal. Refuses w refusal lines.Okay v))) (sym (restart-found p w name r i e ∙ ap (λ (b : Bool). cond b (Some (ReplicaUp r)) None) down))
+    subst (λ (o : Option Refusal). ComesTo q (λ v. MatchOption o (Turns false w name true lines.Okay v) (λ refusal. Refuses w refusal lines.Okay v))) (sym (restart-found p w name r i e ∙ ap (λ (b : Bool). cond b (Some (ReplicaUp r)) None) down))
     (record { world = record w { up = with_up w.up r true; tables = (tables-turned p q w r true f i).news }; holds = record { replica = r; at = there p w name r i e; reply = refl; tables = (tables-turned p q w r true f i).news; events = (tables-turned p q w r true f i).events; change = refl }; is_in = turned p q w r true some few eight n f i })
 
 pub restart-up : (p : PlayerView) (name : List ℕ) (r : ℕ) → replica_of p.replicas name ≡ Some r → is_up p.replicas p.up r ≡ true → Moves p (ExecutesRestart name (lines.Refused (ReplicaUp r))) p
 restart-up p name r e up w i =
-    subst (λ (o : Option Refusal). ComesTo p (λ v. MatchOption o (Turns w name true (lines.Refused (ReplicaUp r)) v) (λ refusal. Refuses w refusal (lines.Refused (ReplicaUp r)) v))) (sym (restart-found p w name r i e ∙ ap (λ (b : Bool). cond b (Some (ReplicaUp r)) None) up))
+    subst (λ (o : Option Refusal). ComesTo p (λ v. MatchOption o (Turns false w name true (lines.Refused (ReplicaUp r)) v) (λ refusal. Refuses w refusal (lines.Refused (ReplicaUp r)) v))) (sym (restart-found p w name r i e ∙ ap (λ (b : Bool). cond b (Some (ReplicaUp r)) None) up))
     (record { world = w; holds = record { reply = refl; unchanged = refl }; is_in = i })
 
 pub restart-unknown : (p : PlayerView) (name : List ℕ) → replica_of p.replicas name ≡ None → Moves p (ExecutesRestart name (lines.Refused (UnknownReplica name))) p
 restart-unknown p name e w i =
-    subst (λ (o : Option Refusal). ComesTo p (λ v. MatchOption o (Turns w name true (lines.Refused (UnknownReplica name)) v) (λ refusal. Refuses w refusal (lines.Refused (UnknownReplica name)) v)))
+    subst (λ (o : Option Refusal). ComesTo p (λ v. MatchOption o (Turns false w name true (lines.Refused (UnknownReplica name)) v) (λ refusal. Refuses w refusal (lines.Refused (UnknownReplica name)) v)))
     (sym (ap (λ (o : Option ℕ). first_of (refused_name o (Some name) ∷ refused_up w.up o ∷ [])) (ap (λ n. replica_of n name) i.replicas ∙ e)))
     (record { world = w; holds = record { reply = refl; unchanged = refl }; is_in = i })

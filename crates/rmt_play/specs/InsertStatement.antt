@@ -26,19 +26,19 @@ need_of None = 0
 need_of (Some n) = cond (nat_le 2 n) n 0
 
 -- the rows are split into a block for each partition, and the blocks go in one after the other, until one is refused
-pub record InsertsRows (up : ℕ → Bool) (t : TableState) (a : Asked) (rows : List Row) (line : Line) (u : TableState) : Type 0 where
+pub record InsertsRows (workers : Bool) (up : ℕ → Bool) (t : TableState) (a : Asked) (rows : List Row) (line : Line) (u : TableState) : Type 0 where
   pub blocks : List BlockView
   pub split : IsSplit t.schema rows blocks
   pub all : List Piece
   pub refused : Option Refusal
-  pub inserts : InsertsAll up t a (map without_kinds blocks) all refused u
+  pub inserts : InsertsAll workers up t a (map without_kinds blocks) all refused u
   pub reply : line ≡ lines.Inserted all refused
 
 -- the rows of the INSERT are inserted
-pub record Takes (up : ℕ → Bool) (t : TableState) (r : ℕ) (insert : Insert) (line : Line) (u : TableState) : Type 0 where
+pub record Takes (workers : Bool) (up : ℕ → Bool) (t : TableState) (r : ℕ) (insert : Insert) (line : Line) (u : TableState) : Type 0 where
   pub rows : List Row
   pub read : AreInsertedRows t.schema.columns (all_names t.schema.columns insert.columns) insert.rows rows
-  pub inserts : InsertsRows up t (asked_at r (need_of insert.quorum)) rows line u
+  pub inserts : InsertsRows workers up t (asked_at r (need_of insert.quorum)) rows line u
 
 -- one of the rows of the INSERT is bad, and this is the first; nothing changes
 pub record MeetsBadRow (t : TableState) (insert : Insert) (line : Line) (u : TableState) : Type 0 where
@@ -56,5 +56,5 @@ pub record MeetsDown (up : ℕ → Bool) (t : TableState) (r : ℕ) (insert : In
   pub unchanged : u ≡ t
 
 -- INSERT at the replica of a number, where these replicas are up
-abbrev pub InsertsInto : (ℕ → Bool) → TableState → ℕ → Insert → Line → TableState → Type 0
-InsertsInto up t r insert line u = ((up r ≡ true) × Takes up t r insert line u) ⊎ (MeetsBadRow t insert line u ⊎ MeetsDown up t r insert line u)
+abbrev pub InsertsInto : Bool → (ℕ → Bool) → TableState → ℕ → Insert → Line → TableState → Type 0
+InsertsInto workers up t r insert line u = ((up r ≡ true) × Takes workers up t r insert line u) ⊎ (MeetsBadRow t insert line u ⊎ MeetsDown up t r insert line u)

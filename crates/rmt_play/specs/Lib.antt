@@ -9,6 +9,7 @@ pub use Rattle.rmt_statement_model.specs.Shows
 pub use Rattle.rmt_reply.specs.Printed
 pub use Rattle.rmt_acts.specs.StatementEvents
 pub mod World
+pub mod WorldRests
 pub mod ActRefusals
 pub mod Checks
 pub mod InsertStatement

@@ -20,10 +20,10 @@ IsAsked rule (Some word) (Some partition) = partition_named rule word ≡ Some p
 IsAsked rule word asked = ⊥
 
 -- the parts of that partition, or of each, are merged into one; the reply has the one name of each, and why the next has none
-pub record OptimizesNamed (up : ℕ → Bool) (t : TableState) (r : ℕ) (word : Option PartitionWord) (line : Line) (u : TableState) : Type 0 where
+pub record OptimizesNamed (workers : Bool) (up : ℕ → Bool) (t : TableState) (r : ℕ) (word : Option PartitionWord) (line : Line) (u : TableState) : Type 0 where
   pub asked : Option (Option ℕ)
   pub named : IsAsked t.schema.partition word asked
   pub names : List Name
   pub refused : Option Refusal
-  pub optimizes : OptimizesTable up t r asked names refused u
+  pub optimizes : OptimizesTable workers up t r asked names refused u
   pub reply : line ≡ lines.Optimized names refused

@@ -14,6 +14,8 @@ use Rattle.rmt_model.specs.Content.{Row}
 use Rattle.rmt_events.specs.Clusters.{Cluster}
 use Rattle.rmt_statement_model.specs.TableStates.{TableState, empty_table}
 use Rattle.rmt_statement_model.specs.Shows.{Shows, HoldsNone, Leads, fetching_of, ups}
+use Rattle.rmt_sql.specs.declared.parsed.Parsed.{Parsed}
+use Rattle.rmt_sql.specs.Script.{ReadsAt}
 use Rattle.rmt_statements.specs.declared.act.Act.{Act}
 use Rattle.rmt_statements.specs.declared.act.Act.TheVariants as acts
 use Rattle.rmt_statements.specs.declared.insert.Insert.{Insert}
@@ -35,7 +37,7 @@ use Rattle.rmt_acts.specs.StatementEvents.{Makes}
 use Rattle.rmt_play.specs.Acts.{Acts}
 use Rattle.rmt_play.specs.ActEvents.{ActEvents}
 use Rattle.rmt_play.specs.RunStatement.{RunsTurns}
-use Rattle.rmt_play.specs.Plays.{Creates, PerformsSent, session_event, Turns, RunsIn, Performs, Refuses, ExecutesStatement, Step}
+use Rattle.rmt_play.specs.Plays.{Creates, PerformsSent, session_event, Turns, RunsIn, Performs, Refuses, ExecutesStatement, Executes as ExecutesParsed, EndsAt}
 
 -- ---- what a player has
 
@@ -175,7 +177,7 @@ Declines s t line u v refusal = (line ≡ lines.Refused refusal) × (v ≡ t) ×
 
 -- an act does what it says in its table, by its events
 abbrev pub DoesAct : (ℕ → Bool) → Cluster → TableState → ℕ → Act → Line → Cluster → TableState → Type 0
-DoesAct up s t r act line u v = Acts up t r act line v × ActEvents s r act line u
+DoesAct up s t r act line u v = Acts false up t r act line v × ActEvents s r act line u
 
 -- why an act is refused at a replica that is up
 abbrev pub refusal_there : TableState → Act → Option Refusal
@@ -219,7 +221,7 @@ ExecutesQuery s query Answers Events line u =
 -- what is sent to a replica is done in its table, or refused
 abbrev pub ExecutesSent : Sent → Line → World → World → Type 0
 ExecutesSent sent line old new =
-    MatchOption (first_of (sent_refusals old sent)) (PerformsSent old sent line new) (λ refusal. Refuses old refusal line new)
+    MatchOption (first_of (sent_refusals old sent)) (PerformsSent false old sent line new) (λ refusal. Refuses old refusal line new)
 
 -- the cluster of the table at a place changes so, and nothing else does
 pub record ChangesAt (old : PlayerView) (place : ℕ) (Change : Cluster → Cluster → Type 0) (new : PlayerView) : Type 0 where
@@ -260,38 +262,41 @@ pub record TurnsAll (old : PlayerView) (replica : ℕ) (is_up : Bool) (new : Pla
 
 -- a KILL is done, or refused
 abbrev pub ExecutesKill : List ℕ → Line → World → World → Type 0
-ExecutesKill name line old new = MatchOption (first_of (kill_refusals old name)) (Turns old name false line new) (λ refusal. Refuses old refusal line new)
+ExecutesKill name line old new = MatchOption (first_of (kill_refusals old name)) (Turns false old name false line new) (λ refusal. Refuses old refusal line new)
 
 -- a RESTART is done, or refused
 abbrev pub ExecutesRestart : List ℕ → Line → World → World → Type 0
-ExecutesRestart name line old new = MatchOption (first_of (restart_refusals old name)) (Turns old name true line new) (λ refusal. Refuses old refusal line new)
+ExecutesRestart name line old new = MatchOption (first_of (restart_refusals old name)) (Turns false old name true line new) (λ refusal. Refuses old refusal line new)
 
 -- ---- RUN
 
 -- so many turns of background work are done in a cluster, whatever state it shows, by events that are drawn from the seed
 pub record RunsCluster (turns seed : ℕ) (line : Line) (s u : Cluster) : Type 0 where
-  pub turns_made : (t : TableState) → Shows s t → Leads u (RunsTurns (ups s) t turns line)
+  pub turns_made : (t : TableState) → Shows s t → Leads u (RunsTurns false (ups s) t turns line)
   pub events : RunsAll s seed turns u
 
 -- background work is done in its table, or refused
 abbrev pub ExecutesRun : List ℕ → ℕ → ℕ → Line → World → World → Type 0
 ExecutesRun table turns seed line old new =
-    MatchOption (first_of (run_refusals old table turns seed)) (RunsIn old table turns seed line new) (λ refusal. Refuses old refusal line new)
+    MatchOption (first_of (run_refusals old table turns seed)) (RunsIn false old table turns seed line new) (λ refusal. Refuses old refusal line new)
 
 -- ---- a statement
 
 -- a statement of a form that is played is refused with the first refusal that it meets, or does what it says
 abbrev pub ExecutesPlayed : Statement → Line → World → World → Type 0
 ExecutesPlayed statement line old new =
-    MatchOption (first_of (refusals old statement)) (Performs old statement line new) (λ refusal. Refuses old refusal line new)
+    MatchOption (first_of (refusals old statement)) (Performs false old statement line new) (λ refusal. Refuses old refusal line new)
 
 -- a statement that begins at a place of its script is refused, or does what it says
 abbrev pub Executes : Statement → ℕ → Line → World → World → Type 0
-Executes statement first line old new = ExecutesStatement old statement first line new
+Executes statement first line old new = ExecutesStatement false old statement first line new
 
--- the statement at a place of a script is played, up to another place
-abbrev pub Steps : List ℕ → ℕ → Line → ℕ → World → World → Type 0
-Steps script from line end old new = Step script from old line end new
+-- the statement at a place of a script is played, up to another place; no workers run
+pub record Steps (script : List ℕ) (from : ℕ) (line : Line) (end : ℕ) (old new : World) : Type 0 where
+  pub found : Parsed
+  pub reads : ReadsAt script from found
+  pub ends : EndsAt found end
+  pub executes : ExecutesParsed false old found line new
 
 -- the act that lets a replica fetch in a table, or stops its fetches
 abbrev pub switch_act : Bool → List ℕ → Act

@@ -11,6 +11,7 @@ use Rattle.rmt_reply.specs.Printed.{printed}
 use Rattle.rmt_model.specs.Words.{Each}
 use Rattle.rmt_events.specs.Clusters.{Cluster}
 use Rattle.rmt_play.specs.World.{World}
+use Rattle.rmt_play.specs.WorldRests.{RestsAll}
 use Rattle.rmt_play.specs.Plays.{Played, is_refused}
 use Rattle.rmt_play.specs.Shown.{AreShown, HasReplicas, Agrees, HandsBack}
 use Rattle.rmt_play.specs.declared.end.End.{End}
@@ -36,33 +37,36 @@ abbrev pub GivesScriptWithin : ℕ → Option (List ℕ) → (List ℕ → Type 
 GivesScriptWithin limit left P = GivesScript left (λ script. (length script ≤ limit) × P script)
 
 -- The whole script was played, its replies were written, so many of its statements were refused, and these clusters show
--- its tables: in each the replicas are up and down as the script left them, and those agree that have done the same log.
-pub record PlayedWhole (script : List ℕ) (before after : Option (List ℕ)) (refused : ℕ) (clusters : List Cluster) : Type 0 where
+-- its tables: in each the replicas are up and down as the script left them, and those agree that have done the same log. The world
+-- may rest after the last statement.
+pub record PlayedWhole (workers : Bool) (script : List ℕ) (before after : Option (List ℕ)) (refused : ℕ) (clusters : List Cluster) : Type 0 where
   pub lines : List Line
   pub at : ℕ
-  pub world : World
-  pub played : Played script lines at world
+  pub last : World
+  pub played : Played workers script lines at last
   pub ended : ReadsAt script at parsed.End
   pub written : Appends before after (output lines)
   pub counted : refused ≡ count_by is_refused lines
+  pub world : World
+  pub rests : RestsAll workers last world
   pub shown : AreShown clusters world.tables
   pub replicas : Each (HasReplicas world.replicas world.up) clusters
   pub agree : Each Agrees clusters
 
 -- Some first statements of the script were played, and their replies were written.
-pub record PlayedInPart (before after : Option (List ℕ)) (script : List ℕ) : Type 0 where
+pub record PlayedInPart (workers : Bool) (before after : Option (List ℕ)) (script : List ℕ) : Type 0 where
   pub lines : List Line
   pub at : ℕ
   pub world : World
-  pub played : Played script lines at world
+  pub played : Played workers script lines at world
   pub written : Appends before after (output lines)
 
 -- A prefix of what some first statements of the script reply was written.
-pub record CutShort (before after : Option (List ℕ)) (script : List ℕ) : Type 0 where
+pub record CutShort (workers : Bool) (before after : Option (List ℕ)) (script : List ℕ) : Type 0 where
   pub lines : List Line
   pub at : ℕ
   pub world : World
-  pub played : Played script lines at world
+  pub played : Played workers script lines at world
   pub written : AppendsPrefix before after (output lines)
 
 -- the codes that there are
@@ -70,10 +74,10 @@ abbrev pub IsCode : ℕ → Type 0
 IsCode code = (code ≡ 0) ⊎ (code ≡ 2) ⊎ (code ≡ 3) ⊎ (code ≡ 4) ⊎ (code ≡ 5) ⊎ (code ≡ 6) ⊎ (code ≡ 7)
 
 -- The whole script was played, and the clusters that show its tables are handed back.
-pub record PlayedToEnd (script : List ℕ) (before after : Option (List ℕ)) (refused : ℕ) (end : End) : Type 0 where
+pub record PlayedToEnd (workers : Bool) (script : List ℕ) (before after : Option (List ℕ)) (refused : ℕ) (end : End) : Type 0 where
   pub clusters : List Cluster
   pub handed_back : HandsBack end clusters
-  pub played : PlayedWhole script before after refused clusters
+  pub played : PlayedWhole workers script before after refused clusters
 
 -- the codes of a script that is played
 abbrev pub IsPlayCode : ℕ → Type 0

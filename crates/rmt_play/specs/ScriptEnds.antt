@@ -63,9 +63,9 @@ IsProgress script at old new before after progress.Memory = Keeps before after
 
 -- how the playing of a script ends
 abbrev pub IsScriptEnd : List ℕ → Option (List ℕ) → Option (List ℕ) → ScriptEnd → Type 0
-IsScriptEnd script before after (ends.Whole refused clusters) = PlayedWhole script before after refused clusters
-IsScriptEnd script before after ends.WriteFault = CutShort before after script
-IsScriptEnd script before after ends.Memory = PlayedInPart before after script
+IsScriptEnd script before after (ends.Whole refused clusters) = PlayedWhole false script before after refused clusters
+IsScriptEnd script before after ends.WriteFault = CutShort false before after script
+IsScriptEnd script before after ends.Memory = PlayedInPart false before after script
 
 -- these clusters are handed back by a player
 pub record AreOfPlayer (p : PlayerView) (clusters : List Cluster) : Type 0 where

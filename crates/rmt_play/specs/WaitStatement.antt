@@ -9,7 +9,7 @@ use Rattle.rmt_reply.specs.declared.line.Line.TheVariants as lines
 
 -- no part waits for the mutation any more, and its id is the reply; or the replica lacks a part, or one more entry would pass a
 -- limit
-abbrev pub Waits : (ℕ → Bool) → TableState → ℕ → ℕ → Line → TableState → Type 0
-Waits up t r id (lines.Done done) u = (done ≡ id) × WaitsFor t r id u
-Waits up t r id (lines.Refused refusal) u = LacksSource up t r refusal u ⊎ LacksEntries t r id refusal u
-Waits up t r id line u = ⊥
+abbrev pub Waits : Bool → (ℕ → Bool) → TableState → ℕ → ℕ → Line → TableState → Type 0
+Waits workers up t r id (lines.Done done) u = (done ≡ id) × WaitsFor workers t r id u
+Waits workers up t r id (lines.Refused refusal) u = LacksSource up t r refusal u ⊎ LacksEntries workers t r id refusal u
+Waits workers up t r id line u = ⊥

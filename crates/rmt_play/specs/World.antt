@@ -5,7 +5,7 @@ use Rattle.rmt_events.specs.Clusters.{Cluster}
 use Rattle.rmt_statement_model.specs.TableStates.{TableState, empty_table}
 
 -- a table: its name; its schema, log, blocks and next numbers, and what is known at each replica; and its cluster, as the events
--- of its statements made it
+-- of its statements made it. Where workers run there is no cluster, and the field says nothing.
 pub record Table : Type 0 where
   pub name : List ℕ
   pub state : TableState

@@ -1,5 +1,5 @@
 //! INSERT in its table.
-ghost use Rattle.std.specs.Prelude.{◌≡◌, ◌≢◌, ◌<◌, ◌^◌, None, true, length, IfOk, IfErr};
+ghost use Rattle.std.specs.Prelude.{◌≡◌, ◌≢◌, ◌<◌, ◌^◌, None, true, false, length, IfOk, IfErr};
 ghost use Rattle.std.specs.List.{All};
 ghost use Rattle.rmt_values.specs.Rows.{fits};
 ghost use Rattle.rmt_block.specs.Splits.{IsSplit};
@@ -97,7 +97,7 @@ fn insert_rows(
     requires fit { All (λ row. fits cluster.old.table.schema.columns row ≡ true) rows.rows }
     requires kinds { rows.kinds ≡ kinds_in cluster.old.table.schema.columns }
     ensures inserts { IfOk result (λ line. (t : TableState) → Shows cluster.old t
-        → Leads cluster.new (InsertsRows (ups cluster.old) t (asked_at replica need) rows.rows line)) }
+        → Leads cluster.new (InsertsRows false (ups cluster.old) t (asked_at replica need) rows.rows line)) }
     ensures events { IfOk result (λ line.
         InsertsBy cluster.old (asked_at replica need) line cluster.new) }
     ensures free { IfOk result (λ _. HoldsNone cluster.new) }

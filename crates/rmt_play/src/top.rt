@@ -65,17 +65,17 @@ pub fn play_stepped<K: Sink>(
 
     // The script was played to its end; none of its statements were refused, or some.
     ensures accepted { result.0.code ≡ 0
-        → PlayedWhole script.now (K.written sink.old) (K.written sink.new) 0 result.1 }
-    ensures refused { result.0.code ≡ 2 → PlayedWhole script.now (K.written sink.old)
+        → PlayedWhole false script.now (K.written sink.old) (K.written sink.new) 0 result.1 }
+    ensures refused { result.0.code ≡ 2 → PlayedWhole false script.now (K.written sink.old)
         (K.written sink.new) result.0.refused result.1 }
     ensures some_refused { result.0.code ≡ 2 → 0 < result.0.refused }
     ensures none_refused { result.0.code ≢ 2 → result.0.refused ≡ 0 }
 
     // A write fault, or out of memory: a prefix of an allowed output was written.
     ensures cut_short { result.0.code ≡ 5
-        → CutShort (K.written sink.old) (K.written sink.new) script.now }
+        → CutShort false (K.written sink.old) (K.written sink.new) script.now }
     ensures memory { result.0.code ≡ 6
-        → PlayedInPart (K.written sink.old) (K.written sink.new) script.now }
+        → PlayedInPart false (K.written sink.old) (K.written sink.new) script.now }
 
     ensures write_fault { result.0.code ≡ 5 → Rose (K.faults sink.old) (K.faults sink.new) }
     ensures no_write_fault { result.0.code ≢ 5 → K.faults sink.new ≡ K.faults sink.old }
@@ -109,9 +109,9 @@ pub fn run<S: Source, K: Sink, G: Gate + Sync>(
 ) -> (Status, End)
     // The script was played to its end; none of its statements were refused, or some.
     ensures accepted { result.0.code ≡ 0 → GivesScriptWithin LONGEST (S.left source.old)
-        (λ script. PlayedToEnd script (K.written sink.old) (K.written sink.new) 0 result.1) }
+        (λ script. PlayedToEnd false script (K.written sink.old) (K.written sink.new) 0 result.1) }
     ensures refused { result.0.code ≡ 2 → GivesScriptWithin LONGEST (S.left source.old)
-        (λ script. PlayedToEnd script (K.written sink.old) (K.written sink.new) result.0.refused result.1) }
+        (λ script. PlayedToEnd false script (K.written sink.old) (K.written sink.new) result.0.refused result.1) }
     ensures some_refused { result.0.code ≡ 2 → 0 < result.0.refused }
     ensures none_refused { result.0.code ≢ 2 → result.0.refused ≡ 0 }
     ensures nothing { result.0.code ≢ 0 → result.0.code ≢ 2 → result.1 ≡ ends.Nothing }
@@ -138,7 +138,7 @@ pub fn run<S: Source, K: Sink, G: Gate + Sync>(
     ensures write_fault { result.0.code ≡ 5 → Rose (K.faults sink.old) (K.faults sink.new) }
     ensures no_write_fault { result.0.code ≢ 5 → K.faults sink.new ≡ K.faults sink.old }
     ensures cut_short { result.0.code ≡ 5 → GivesScriptWithin LONGEST (S.left source.old)
-        (CutShort (K.written sink.old) (K.written sink.new)) }
+        (CutShort false (K.written sink.old) (K.written sink.new)) }
 
     // The script was read to its end before any of it was played.
     ensures read { (result.0.code ≡ 0) ⊎ (result.0.code ≡ 2) ⊎ (result.0.code ≡ 5)
@@ -146,7 +146,7 @@ pub fn run<S: Source, K: Sink, G: Gate + Sync>(
 
     // Out of memory: whole replies were written, none before the script was read to its end.
     ensures memory { result.0.code ≡ 6 → GivesScript (S.left source.old)
-        (PlayedInPart (K.written sink.old) (K.written sink.new)) }
+        (PlayedInPart false (K.written sink.old) (K.written sink.new)) }
     ensures memory_unread { result.0.code ≡ 6
         → (IsAtEnd (S.left source.new)) ⊎ (sink.new ≡ sink.old) }
 

@@ -22,7 +22,8 @@ use Rattle.rmt_events.specs.Steps.{NotesNothing, NoNote, Does, Step}
 use Rattle.rmt_events.proofs.Copies.{dropped-behind, entry-front}
 use Rattle.rmt_events.proofs.WholeSteps.{whole-step}
 use Rattle.rmt_statement_model.specs.TableStates.{TableState, learned}
-use Rattle.rmt_statement_model.specs.QuorumCopies.{is_asked, copied, copied_where, copied_to}
+use Rattle.rmt_statement_model.specs.QuorumCopies.{is_asked, copied, copied_where}
+use Rattle.rmt_statement_model.specs.Gathered.{copied_to}
 use Rattle.rmt_statement_model.specs.Shows.{Knows, Shows, fetching_of, ups}
 use Rattle.rmt_statement_model.specs.Attempts.{KnowsPending, HasPending}
 use Rattle.rmt_statement_model.proofs.UpLaws.{not-down, up-step}

@@ -12,7 +12,6 @@ pub mod AttemptSteps
 pub mod ReadLaws
 pub mod SyncLaws
 pub mod LostSourceLaws
-pub mod InsertRows
 pub mod LockSteps
 pub mod RestartRows
 pub mod GainedEntries
@@ -24,6 +23,9 @@ pub mod NoteRows
 pub mod CopyRows
 pub mod SwitchRows
 pub mod RunRows
+pub mod RestLaws
+pub mod GatheredLaws
+pub mod InsertRows
 pub mod PartitionLaws
 pub mod MergeReplies
 pub mod OptimizeRows
@@ -33,3 +35,5 @@ pub mod PendingPlaces
 pub mod PendingLaws
 pub mod WaitRows
 pub mod WaitLeads
+pub mod SteppedLaws
+pub mod WorkerEntries

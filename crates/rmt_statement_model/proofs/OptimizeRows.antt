@@ -1,5 +1,5 @@
 -- OPTIMIZE .. FINAL, partition by partition: one more, the one at which it ends, and what the event for one partition comes to.
-use Rattle.std.proofs.Common.{◌≡◌, ℕ, ◌≤◌, inl, inr, List, [], ◌∷◌, ◌++◌, length, refl, sym, ap, subst, ◌∙◌}
+use Rattle.std.proofs.Common.{◌≡◌, ℕ, ◌≤◌, inl, inr, Bool, false, List, [], ◌∷◌, ◌++◌, length, refl, sym, ap, subst, ◌∙◌}
 use Rattle.std.specs.declared.option.Option.{Option}
 use Rattle.std.specs.declared.option.Option.TheVariants.{Some, None}
 use Rattle.rmt_values.specs.Rows.{Shape}
@@ -25,8 +25,9 @@ use Rattle.rmt_events.specs.Steps.{Does, Step}
 use Rattle.rmt_events.proofs.Moves.{blocks-same}
 use Rattle.rmt_events.proofs.WholeSteps.{whole-step}
 use Rattle.rmt_statement_model.specs.TableStates.{TableState, synced}
-use Rattle.rmt_statement_model.specs.Optimizes.{live_of, MergesLive, Optimizes, AreFirstUnmergeable, CantOptimize, OptimizesAll}
+use Rattle.rmt_statement_model.specs.Optimizes.{live_of, MergesLive, Optimizes, AreFirstUnmergeable, CantOptimize, OptimizesLater, CantLater, OptimizesAll}
 use Rattle.rmt_statement_model.specs.Shows.{Shows, Leads}
+use Rattle.rmt_statement_model.proofs.RestLaws.{rests-none}
 use Rattle.rmt_statement_model.proofs.SwitchLaws.{switch-step}
 use Rattle.rmt_statement_model.proofs.KnowsLaws.{knows-step}
 use Rattle.rmt_statement_model.proofs.ShownSteps.{shows-quiet}
@@ -40,18 +41,31 @@ use Rattle.rmt_events.specs.declared.step_refused.StepRefused.TheVariants as rf
 -- ---- several partitions
 
 -- one more partition that is optimized, the replica brought up to date after it
-pub optimizes-more : (t u v w : TableState) (r : ℕ) (ps : List (Option ℕ)) (p : Option ℕ) (names : List Name) (name : Name) → OptimizesAll t r ps names None u → Optimizes u p name v → w ≡ synced r v → OptimizesAll t r (ps ++ p ∷ []) (names ++ name ∷ []) None w
-optimizes-more t u v w r [] p [] name k m e = (v, subst (λ (x : TableState). Optimizes x p name v) k m, e)
-optimizes-more t u v w r [] p (n ∷ names) name k m e = absurd k
-optimizes-more t u v w r (q ∷ ps) p [] name k m e = absurd k
-optimizes-more t u v w r (q ∷ ps) p (n ∷ names) name k m e = (k.0, k.1, optimizes-more (synced r k.0) u v w r ps p names name k.2 m e)
+pub optimizes-more : (m : Bool) (t u v w : TableState) (r : ℕ) (ps : List (Option ℕ)) (p : Option ℕ) (names : List Name) (name : Name) → OptimizesAll m t r ps names None u → OptimizesLater m u p name v → w ≡ synced r v → OptimizesAll m t r (ps ++ p ∷ []) (names ++ name ∷ []) None w
+optimizes-more m t u v w r [] p [] name k o e = (v, subst (λ (x : TableState). OptimizesLater m x p name v) k o, e)
+optimizes-more m t u v w r [] p (n ∷ names) name k o e = absurd k
+optimizes-more m t u v w r (q ∷ ps) p [] name k o e = absurd k
+optimizes-more m t u v w r (q ∷ ps) p (n ∷ names) name k o e = (k.0, k.1, optimizes-more m (synced r k.0) u v w r ps p names name k.2 o e)
 
 -- the partition at which it ends; what is behind it isn't tried
-pub optimizes-stop : (t u v : TableState) (r : ℕ) (ps rest : List (Option ℕ)) (p : Option ℕ) (names : List Name) (why : Refusal) → OptimizesAll t r ps names None u → CantOptimize u p why × (v ≡ u) → OptimizesAll t r (ps ++ p ∷ rest) names (Some why) v
-optimizes-stop t u v r [] rest p [] why k m = (subst (λ (x : TableState). CantOptimize x p why) k m.0, m.1 ∙ k)
-optimizes-stop t u v r [] rest p (n ∷ names) why k m = absurd k
-optimizes-stop t u v r (q ∷ ps) rest p [] why k m = absurd k
-optimizes-stop t u v r (q ∷ ps) rest p (n ∷ names) why k m = (k.0, k.1, optimizes-stop (synced r k.0) u v r ps rest p names why k.2 m)
+pub optimizes-stop : (m : Bool) (t u v : TableState) (r : ℕ) (ps rest : List (Option ℕ)) (p : Option ℕ) (names : List Name) (why : Refusal) → OptimizesAll m t r ps names None u → CantLater m u p why v → OptimizesAll m t r (ps ++ p ∷ rest) names (Some why) v
+optimizes-stop m t u v r [] rest p [] why k o = subst (λ (x : TableState). CantLater m x p why v) k o
+optimizes-stop m t u v r [] rest p (n ∷ names) why k o = absurd k
+optimizes-stop m t u v r (q ∷ ps) rest p [] why k o = absurd k
+optimizes-stop m t u v r (q ∷ ps) rest p (n ∷ names) why k o = (k.0, k.1, optimizes-stop m (synced r k.0) u v r ps rest p names why k.2 o)
+
+-- the table needn't rest around a partition
+pub optimizes-now : (m : Bool) (t u : TableState) (p : Option ℕ) (name : Name) → Optimizes t p name u → OptimizesLater m t p name u
+optimizes-now m t u p name o = record { at = t; rests = inl refl; mid = u; optimizes = o; after = inl refl }
+
+pub cant-now : (m : Bool) (t u : TableState) (p : Option ℕ) (why : Refusal) → CantOptimize t p why × (u ≡ t) → CantLater m t p why u
+cant-now m t u p why o = record { rests = inl o.1; cant = subst (λ (x : TableState). CantOptimize x p why) (sym o.1) o.0 }
+
+-- and doesn't where no workers run
+pub optimizes-then : (t u : TableState) (p : Option ℕ) (name : Name) → OptimizesLater false t p name u → Optimizes t p name u
+optimizes-then t u p name o =
+    subst (λ (x : TableState). Optimizes t p name x) (sym (rests-none o.mid u o.after))
+    (subst (λ (x : TableState). Optimizes x p name o.mid) (rests-none t o.at o.rests) o.optimizes)
 
 -- a merge of all live names of one partition leaves what is live of another
 merges-still : (t u : TableState) (p : Option ℕ) (name : Name) (q : Option ℕ) → MergesLive t p name u → (p ≡ q → ⊥) → live_of u.log q ≡ live_of t.log q
@@ -69,11 +83,11 @@ merges-still t u p name q m n =
     of-p = ap (λ (x : Name). x.partition) merges.name ∙ first-of-p
 
 -- what is live of a partition is so still behind those that were optimized, where it is none of these
-pub still-live : (t u : TableState) (r : ℕ) (ps : List (Option ℕ)) (names : List Name) (q : Option ℕ) → Lawful t.schema t.log → OptimizesAll t r ps names None u → (Has ps q → ⊥) → live_of u.log q ≡ live_of t.log q
+pub still-live : (t u : TableState) (r : ℕ) (ps : List (Option ℕ)) (names : List Name) (q : Option ℕ) → Lawful t.schema t.log → OptimizesAll false t r ps names None u → (Has ps q → ⊥) → live_of u.log q ≡ live_of t.log q
 still-live t u r [] [] q l k n = ap (λ (x : TableState). live_of x.log q) k
 still-live t u r [] (name ∷ names) q l k n = absurd k
 still-live t u r (p ∷ ps) [] q l k n = absurd k
-still-live t u r (p ∷ ps) (name ∷ names) q l k n = go k.1 (λ f. still-live (synced r k.0) u r ps names q f k.2 (λ h. n (inr h)))
+still-live t u r (p ∷ ps) (name ∷ names) q l k n = go (optimizes-then t k.0 p name k.1) (λ f. still-live (synced r k.0) u r ps names q f k.2 (λ h. n (inr h)))
   where
     go : Optimizes t p name k.0 → (Lawful k.0.schema k.0.log → live_of u.log q ≡ live_of k.0.log q) → live_of u.log q ≡ live_of t.log q
     go (inl m) f = f (subst (λ (x : TableState). Lawful x.schema x.log) (sym m.1) l) ∙ ap (λ (x : TableState). live_of x.log q) m.1

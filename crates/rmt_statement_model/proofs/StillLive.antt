@@ -37,7 +37,7 @@ some-shown s w = (
 )
 
 -- what is live of a partition is so still behind those that were optimized, where it is none of these
-pub live-left : (s u : Cluster) (r : ℕ) (ps : List (Option ℕ)) (names : List Name) (q : Option ℕ) → IsWhole s → ((t : TableState) → Shows s t → Leads u (λ v. OptimizesAll (synced r t) r ps names None v)) → (Has ps q → ⊥) → live_of u.table.log q ≡ live_of s.table.log q
+pub live-left : (s u : Cluster) (r : ℕ) (ps : List (Option ℕ)) (names : List Name) (q : Option ℕ) → IsWhole s → ((t : TableState) → Shows s t → Leads u (λ v. OptimizesAll false (synced r t) r ps names None v)) → (Has ps q → ⊥) → live_of u.table.log q ≡ live_of s.table.log q
 live-left s u r ps names q w f n =
     ap (λ (l : List Entry). live_of l q) (sym v.shows.log) ∙ (still-live (synced r t) v.state r ps names q l v.holds n ∙ ap (λ (x : List Entry). live_of x q) h.log)
   where
@@ -47,7 +47,7 @@ live-left s u r ps names q w f n =
     h : Shows s t
     h = (some-shown s w).1
 
-    v : Leads u (λ x. OptimizesAll (synced r t) r ps names None x)
+    v : Leads u (λ x. OptimizesAll false (synced r t) r ps names None x)
     v = f t h
 
     l : Lawful t.schema t.log

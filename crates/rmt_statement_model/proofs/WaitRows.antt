@@ -9,6 +9,7 @@ use Rattle.rmt_values.specs.declared.limit.Limit.{Limit}
 use Rattle.rmt_names.specs.Names.{Name}
 use Rattle.rmt_entries.specs.declared.entry.Entry.{Entry}
 use Rattle.rmt_entries.specs.declared.entry.Entry.TheVariants.{Mutate, Mutation}
+use Rattle.rmt_model.specs.Words.{Each}
 use Rattle.rmt_model.specs.Lawful.{Lawful, entry_at}
 use Rattle.rmt_model.specs.EntryLimits.{worker_limit}
 use Rattle.rmt_events.specs.Views.{Replica, Table}
@@ -24,12 +25,14 @@ use Rattle.rmt_model.specs.Quorum.{Quorum, quorum_after_note}
 use Rattle.rmt_statement_model.proofs.NoteRows.{note-again}
 use Rattle.rmt_statement_model.specs.TableStates.{TableState, learned_to, synced}
 use Rattle.rmt_statement_model.specs.Shows.{Shows, ups, IsUpToDate}
-use Rattle.rmt_statement_model.specs.Waits.{MutatesUpTo, MutatesParts}
+use Rattle.rmt_statement_model.specs.BackgroundWork.{HadRoom}
+use Rattle.rmt_statement_model.specs.Waits.{MutatesUpTo, MutatesOrComes, MutatesParts, NonePending, SomePending, WaitsFor, LacksEntries}
 use Rattle.rmt_statement_model.proofs.SwitchLaws.{switch-step}
 use Rattle.rmt_statement_model.proofs.KnowsLaws.{knows-step}
 use Rattle.rmt_statement_model.proofs.UpLaws.{not-down}
 use Rattle.rmt_statement_model.proofs.ShownSteps.{shows-quiet}
 use Rattle.rmt_statement_model.proofs.MutationIds.{one-place}
+use Rattle.rmt_reply.specs.declared.refusal.Refusal.TheVariants.{LimitReached}
 use Rattle.rmt_events.specs.declared.event.Event.TheVariants as ev
 use Rattle.rmt_events.specs.declared.reply.Reply.{Reply}
 use Rattle.rmt_events.specs.declared.reply.Reply.TheVariants as rp
@@ -130,8 +133,20 @@ refused-shows s u k old upto limit value w st t h = go st.does
 
 -- ---- several parts
 
+-- parts are mutated up to the mutation of an id, and no entry comes in between; the replica is brought up to date before and after
+pub record MutatesSynced (t : TableState) (r id : ℕ) (u : TableState) : Type 0 where
+  pub numbers : List (Option ℕ × ℕ)
+  pub command : CheckedMutation
+  pub place : ℕ
+  pub at : entry_at t.log place ≡ Some (Mutation id numbers command)
+  pub gained : List Entry
+  pub mutates : Each (MutatesUpTo t.log place id) gained
+  pub room : HadRoom gained t.log
+  pub lawful : Lawful t.schema (gained ++ t.log)
+  pub change : u ≡ synced r (record t { log = gained ++ t.log })
+
 -- none is mutated yet
-pub mutates-none : (t : TableState) (r id place : ℕ) (numbers : List (Option ℕ × ℕ)) (command : CheckedMutation) → Lawful t.schema t.log → entry_at t.log place ≡ Some (Mutation id numbers command) → MutatesParts t r id (synced r t)
+pub mutates-none : (t : TableState) (r id place : ℕ) (numbers : List (Option ℕ × ℕ)) (command : CheckedMutation) → Lawful t.schema t.log → entry_at t.log place ≡ Some (Mutation id numbers command) → MutatesSynced t r id (synced r t)
 mutates-none t r id place numbers command l e = record { numbers = numbers; command = command; place = place; at = e; gained = []; mutates = tt; room = tt; lawful = l; change = refl }
 
 -- what is known after a second sync is what is known after the last one alone
@@ -145,7 +160,7 @@ learned-twice known r n m l = fun_ext (λ s. fun_ext (λ j. same (nat_eq s r) (n
     same true true false c f = let e = f refl in absurd (cc)
 
 -- one more part is
-pub mutates-more : (t u v : TableState) (r id place : ℕ) (e : Entry) → (m : MutatesParts t r id u) → MutatesUpTo t.log m.place id e → worker_limit u.log ≡ None → Lawful t.schema (e ∷ u.log) → v ≡ synced r (record u { log = e ∷ u.log }) → MutatesParts t r id v
+pub mutates-more : (t u v : TableState) (r id place : ℕ) (e : Entry) → (m : MutatesSynced t r id u) → MutatesUpTo t.log m.place id e → worker_limit u.log ≡ None → Lawful t.schema (e ∷ u.log) → v ≡ synced r (record u { log = e ∷ u.log }) → MutatesSynced t r id v
 mutates-more t u v r id place e m h w l c =
     record {
       numbers = m.numbers;
@@ -163,8 +178,59 @@ mutates-more t u v r id place e m h w l c =
     }
 
 -- the place that they are mutated up to is that of the mutation in the longer log
-pub mutates-place : (t u : TableState) (r id place : ℕ) (numbers : List (Option ℕ × ℕ)) (command : CheckedMutation) → (m : MutatesParts t r id u) → entry_at u.log place ≡ Some (Mutation id numbers command) → m.place ≡ place
+pub mutates-place : (t u : TableState) (r id place : ℕ) (numbers : List (Option ℕ × ℕ)) (command : CheckedMutation) → (m : MutatesSynced t r id u) → entry_at u.log place ≡ Some (Mutation id numbers command) → m.place ≡ place
 mutates-place t u r id place numbers command m e =
     one-place t.schema (m.gained ++ t.log) m.place place id m.numbers numbers m.command command m.lawful
     (entry-behind m.gained t.log m.place (Mutation id m.numbers m.command) m.at)
     (subst (λ (l : List Entry). entry_at l place ≡ Some (Mutation id numbers command)) (ap (λ (x : TableState). x.log) m.change) e)
+
+-- ---- as a statement has it
+
+each-own : (w : Bool) (log : List Entry) (place id : ℕ) (es : List Entry) → Each (MutatesUpTo log place id) es → Each (MutatesOrComes w log place id) es
+each-own w log place id [] e = tt
+each-own w log place id (x ∷ es) e = (inl e.0, each-own w log place id es e.1)
+
+-- the table before its replica is brought up to date at the end
+abbrev pub mutated_log : TableState → List Entry → TableState
+mutated_log t gained = record t { log = gained ++ t.log }
+
+pub parts-mutated : (w : Bool) (t u : TableState) (r id : ℕ) → (m : MutatesSynced t r id u) → MutatesParts w t id (mutated_log t m.gained)
+parts-mutated w t u r id m = record {
+  numbers = m.numbers;
+  command = m.command;
+  place = m.place;
+  at = m.at;
+  gained = m.gained;
+  mutates = each-own w t.log m.place id m.gained m.mutates;
+  room = m.room;
+  lawful = m.lawful;
+  noted = [];
+  by_workers = inl refl;
+  change = refl;
+}
+
+-- no part waits
+pub waits-all : (w : Bool) (t u : TableState) (r id : ℕ) → MutatesSynced t r id u → NonePending u.log id → WaitsFor w t r id u
+waits-all w t u r id m n = record {
+  mid = mutated_log t m.gained;
+  mutates = parts-mutated w t u r id m;
+  carried = subst (λ (x : TableState). NonePending x.log id) m.change n;
+  end = mutated_log t m.gained;
+  rests = inl refl;
+  change = m.change;
+}
+
+-- a part waits still, and one more entry would pass a limit
+pub waits-some : (w : Bool) (t u : TableState) (r id : ℕ) (limit : Limit) (value : ℕ) → MutatesSynced t r id u → SomePending u.log id → worker_limit u.log ≡ Some (limit, value) → LacksEntries w t r id (LimitReached limit value) u
+waits-some w t u r id limit value m n e = record {
+  mid = mutated_log t m.gained;
+  mutates = parts-mutated w t u r id m;
+  waits = subst (λ (x : TableState). SomePending x.log id) m.change n;
+  limit = limit;
+  value = value;
+  reached = subst (λ (x : TableState). worker_limit x.log ≡ Some (limit, value)) m.change e;
+  reply = refl;
+  end = mutated_log t m.gained;
+  rests = inl refl;
+  change = m.change;
+}

@@ -19,7 +19,8 @@ use Rattle.rmt_reply.specs.declared.piece.Piece.TheVariants as pieces
 use Rattle.rmt_reply.specs.declared.refusal.Refusal.{Refusal}
 use Rattle.rmt_reply.specs.declared.refusal.Refusal.TheVariants.{TooFewLive, QuorumPending, QuorumUnmet, LimitReached}
 use Rattle.rmt_statement_model.specs.TableStates.{TableState, gains_at, kept_with}
-use Rattle.rmt_statement_model.specs.QuorumCopies.{count_live, gathered_for}
+use Rattle.rmt_statement_model.specs.QuorumCopies.{count_live, Gathers}
+use Rattle.rmt_statement_model.specs.Rests.{Rests}
 
 -- what an INSERT asks for: the replica that writes the blocks, and how many replicas each is to be at
 pub record Asked : Type 0 where
@@ -49,9 +50,9 @@ with_block t a b =
     gains_at a.writer (Get b.partition (number_for t b) b.digest a.writer a.need)
     (record (with_number t b) { blocks = record { partition = b.partition; number = number_for t b; rows = b.rows } ∷ t.blocks; quorum = quorum_after_block (part_for t b) a.need t.quorum })
 
--- the same with the copies that the quorum asks for, where these replicas are up
-abbrev pub with_copies : (ℕ → Bool) → TableState → Asked → Block → TableState
-with_copies up t a b = gathered_for a.need up a.writer (length t.log) (with_block t a b)
+-- the block goes in, and the copies are made that its quorum asks for, where these replicas are up
+abbrev pub GathersBlock : Bool → (ℕ → Bool) → TableState → Asked → Block → TableState → Type 0
+GathersBlock workers up t a b u = Gathers workers a.need up a.writer (length t.log) (with_block t a b) u
 
 -- the limit that one more number of the block's partition would pass, and its count as it stands
 abbrev pub number_limit : TableState → Block → Option (Limit × ℕ)
@@ -77,13 +78,13 @@ pub record IsNew (up : ℕ → Bool) (t : TableState) (a : Asked) (b : Block) : 
   pub unkept : kept_with t b ≡ None
 
 -- the block is accepted: it passes no limit, its part is named by the next number, and its quorum is met where it asks for one
-pub record Accepts (up : ℕ → Bool) (t : TableState) (a : Asked) (b : Block) (piece : Piece) (u : TableState) : Type 0 where
+pub record Accepts (workers : Bool) (up : ℕ → Bool) (t : TableState) (a : Asked) (b : Block) (piece : Piece) (u : TableState) : Type 0 where
   pub is_new : IsNew up t a b
   pub number : number_limit t b ≡ None
   pub room : block_limit t b ≡ None
   pub met : 2 ≤ a.need → u.quorum.pending ≡ None
   pub reply : piece ≡ pieces.Part (part_for t b)
-  pub change : u ≡ with_copies up t a b
+  pub gathers : GathersBlock workers up t a b u
 
 -- the block's id is kept: the answer is the part that it is kept with, and nothing changes
 pub record Repeats (up : ℕ → Bool) (t : TableState) (a : Asked) (b : Block) (piece : Piece) (u : TableState) : Type 0 where
@@ -94,8 +95,8 @@ pub record Repeats (up : ℕ → Bool) (t : TableState) (a : Asked) (b : Block) 
   pub unchanged : u ≡ t
 
 -- a block whose id is kept answers the part that it is kept with; another one is accepted
-abbrev pub Inserts : (ℕ → Bool) → TableState → Asked → Block → Piece → TableState → Type 0
-Inserts up t a b piece u = Accepts up t a b piece u ⊎ Repeats up t a b piece u
+abbrev pub Inserts : Bool → (ℕ → Bool) → TableState → Asked → Block → Piece → TableState → Type 0
+Inserts workers up t a b piece u = Accepts workers up t a b piece u ⊎ Repeats up t a b piece u
 
 -- too few replicas are up for the block, or a part waits for its quorum; nothing changes
 pub record LacksQuorum (up : ℕ → Bool) (t : TableState) (a : Asked) (refusal : Refusal) (u : TableState) : Type 0 where
@@ -122,7 +123,7 @@ pub record LacksRoom (up : ℕ → Bool) (t : TableState) (a : Asked) (b : Block
   pub change : u ≡ with_number t b
 
 -- the block is in, and its part waits for its quorum still: so many replicas have noted it
-pub record LacksCopies (up : ℕ → Bool) (t : TableState) (a : Asked) (b : Block) (refusal : Refusal) (u : TableState) : Type 0 where
+pub record LacksCopies (workers : Bool) (up : ℕ → Bool) (t : TableState) (a : Asked) (b : Block) (refusal : Refusal) (u : TableState) : Type 0 where
   pub is_new : IsNew up t a b
   pub number : number_limit t b ≡ None
   pub room : block_limit t b ≡ None
@@ -130,17 +131,29 @@ pub record LacksCopies (up : ℕ → Bool) (t : TableState) (a : Asked) (b : Blo
   pub waiting : Pending
   pub waits : u.quorum.pending ≡ Some waiting
   pub reply : refusal ≡ QuorumUnmet (length waiting.noted) a.need
-  pub change : u ≡ with_copies up t a b
+  pub gathers : GathersBlock workers up t a b u
 
 -- the block is refused: for its quorum, or for a limit
-abbrev pub Refuses : (ℕ → Bool) → TableState → Asked → Block → Refusal → TableState → Type 0
-Refuses up t a b refusal u =
-    LacksQuorum up t a refusal u ⊎ (LacksNumber up t a b refusal u ⊎ (LacksRoom up t a b refusal u ⊎ LacksCopies up t a b refusal u))
+abbrev pub Refuses : Bool → (ℕ → Bool) → TableState → Asked → Block → Refusal → TableState → Type 0
+Refuses workers up t a b refusal u =
+    LacksQuorum up t a refusal u ⊎ (LacksNumber up t a b refusal u ⊎ (LacksRoom up t a b refusal u ⊎ LacksCopies workers up t a b refusal u))
+
+-- the table rests, and then the block answers a piece of the reply
+pub record InsertsLater (workers : Bool) (up : ℕ → Bool) (t : TableState) (a : Asked) (b : Block) (piece : Piece) (u : TableState) : Type 0 where
+  pub at : TableState
+  pub rests : Rests workers t at
+  pub inserts : Inserts workers up at a b piece u
+
+-- the table rests, and then the block is refused
+pub record RefusesLater (workers : Bool) (up : ℕ → Bool) (t : TableState) (a : Asked) (b : Block) (refusal : Refusal) (u : TableState) : Type 0 where
+  pub at : TableState
+  pub rests : Rests workers t at
+  pub refuses : Refuses workers up at a b refusal u
 
 -- blocks one after the other: a piece of the reply for each that is inserted, and the refusal of the first that isn't, after
 -- which no other is tried
-abbrev pub InsertsAll : (ℕ → Bool) → TableState → Asked → List Block → List Piece → Option Refusal → TableState → Type 0
-InsertsAll up t a [] [] None u = u ≡ t
-InsertsAll up t a (b ∷ bs) [] (Some refusal) u = Refuses up t a b refusal u
-InsertsAll up t a (b ∷ bs) (piece ∷ rest) refused u = (mid : TableState) × Inserts up t a b piece mid × InsertsAll up mid a bs rest refused u
-InsertsAll up t a bs all refused u = ⊥
+abbrev pub InsertsAll : Bool → (ℕ → Bool) → TableState → Asked → List Block → List Piece → Option Refusal → TableState → Type 0
+InsertsAll workers up t a [] [] None u = u ≡ t
+InsertsAll workers up t a (b ∷ bs) [] (Some refusal) u = RefusesLater workers up t a b refusal u
+InsertsAll workers up t a (b ∷ bs) (piece ∷ rest) refused u = (mid : TableState) × InsertsLater workers up t a b piece mid × InsertsAll workers up mid a bs rest refused u
+InsertsAll workers up t a bs all refused u = ⊥

@@ -1,13 +1,15 @@
 pub use Rattle.rmt_events.specs.Steps
 pub mod TableStates
+pub mod BackgroundWork
+pub mod Rests
 pub mod QuorumCopies
 pub mod Inserts
 pub mod Reads
 pub mod LostSources
 pub mod Mutations
 pub mod Drops
-pub mod BackgroundWork
 pub mod Optimizes
 pub mod Waits
 pub mod Shows
 pub mod Attempts
+pub mod Gathered

@@ -16,6 +16,7 @@ use Rattle.rmt_events.specs.TableRefusals.{AreFirstToDiffer, AreFirstInQuorum, A
 use Rattle.rmt_reply.specs.declared.refusal.Refusal.{Refusal}
 use Rattle.rmt_reply.specs.declared.refusal.Refusal.TheVariants.{LimitReached, Unmergeable}
 use Rattle.rmt_statement_model.specs.TableStates.{TableState, synced}
+use Rattle.rmt_statement_model.specs.Rests.{Rests}
 use Rattle.rmt_statement_model.specs.LostSources.{LacksSource}
 
 -- the live names of a partition, in order
@@ -66,13 +67,26 @@ CantOptimize t p (LimitReached limit value) =
     (2 ≤ length (live_of t.log p)) × AreAlike t.log t.quorum.pending (live_of t.log p) × (worker_limit t.log ≡ Some (limit, value))
 CantOptimize t p refusal = ⊥
 
+-- the table rests, the partition gets one part, and the table rests again
+pub record OptimizesLater (workers : Bool) (t : TableState) (p : Option ℕ) (name : Name) (u : TableState) : Type 0 where
+  pub at : TableState
+  pub rests : Rests workers t at
+  pub mid : TableState
+  pub optimizes : Optimizes at p name mid
+  pub after : Rests workers mid u
+
+-- the table rests, and the partition can't get one part then
+pub record CantLater (workers : Bool) (t : TableState) (p : Option ℕ) (refusal : Refusal) (u : TableState) : Type 0 where
+  pub rests : Rests workers t u
+  pub cant : CantOptimize u p refusal
+
 -- one partition after the other, the replica brought up to date after each: its one name, or why there is none, after which no
 -- other partition is tried
-abbrev pub OptimizesAll : TableState → ℕ → List (Option ℕ) → List Name → Option Refusal → TableState → Type 0
-OptimizesAll t r [] [] None u = u ≡ t
-OptimizesAll t r (p ∷ ps) [] (Some refusal) u = CantOptimize t p refusal × (u ≡ t)
-OptimizesAll t r (p ∷ ps) (name ∷ names) refused u = (mid : TableState) × Optimizes t p name mid × OptimizesAll (synced r mid) r ps names refused u
-OptimizesAll t r ps names refused u = ⊥
+abbrev pub OptimizesAll : Bool → TableState → ℕ → List (Option ℕ) → List Name → Option Refusal → TableState → Type 0
+OptimizesAll workers t r [] [] None u = u ≡ t
+OptimizesAll workers t r (p ∷ ps) [] (Some refusal) u = CantLater workers t p refusal u
+OptimizesAll workers t r (p ∷ ps) (name ∷ names) refused u = (mid : TableState) × OptimizesLater workers t p name mid × OptimizesAll workers (synced r mid) r ps names refused u
+OptimizesAll workers t r ps names refused u = ⊥
 
 -- the replica lacks a part, and nothing is merged
 pub record LacksPart (up : ℕ → Bool) (t : TableState) (r : ℕ) (names : List Name) (refused : Option Refusal) (u : TableState) : Type 0 where
@@ -82,5 +96,6 @@ pub record LacksPart (up : ℕ → Bool) (t : TableState) (r : ℕ) (names : Lis
   pub lacks : LacksSource up t r refusal u
 
 -- OPTIMIZE at a replica, which is brought up to date first
-abbrev pub OptimizesTable : (ℕ → Bool) → TableState → ℕ → Option (Option ℕ) → List Name → Option Refusal → TableState → Type 0
-OptimizesTable up t r asked names refused u = LacksPart up t r names refused u ⊎ OptimizesAll (synced r t) r (partitions_asked asked t.log) names refused u
+abbrev pub OptimizesTable : Bool → (ℕ → Bool) → TableState → ℕ → Option (Option ℕ) → List Name → Option Refusal → TableState → Type 0
+OptimizesTable workers up t r asked names refused u =
+    LacksPart up t r names refused u ⊎ OptimizesAll workers (synced r t) r (partitions_asked asked t.log) names refused u

@@ -1,12 +1,13 @@
 -- Copies of a block that was inserted with a quorum: which replicas make them, in which order, and what they note.
 -- ClickHouse documentation, settings, `insert_quorum`: an INSERT succeeds when so many replicas have its data. That the replicas are
 -- asked one after the other, and that there are at most 8, are this program's own.
-use Rattle.std.specs.Prelude.{ℕ, zero, suc, ◌&&◌, not, Bool, true, false, cond, nat_eq, nat_le, List, [], ◌∷◌, length}
+use Rattle.std.specs.Prelude.{◌≡◌, ◌⊎◌, ℕ, zero, suc, ◌<◌, ◌≤◌, ◌&&◌, not, Bool, true, false, nat_eq, List, [], ◌∷◌, length}
 use Rattle.std.specs.List.{filter}
 use Rattle.std.specs.declared.option.Option.{Option}
 use Rattle.std.specs.declared.option.Option.TheVariants.{Some, None}
 use Rattle.rmt_model.specs.Quorum.{Pending, quorum_after_note}
 use Rattle.rmt_statement_model.specs.TableStates.{TableState, learned}
+use Rattle.rmt_statement_model.specs.Rests.{Rests}
 
 -- the numbers that replicas may have
 abbrev pub replica_numbers : List ℕ
@@ -34,16 +35,29 @@ abbrev pub copied_where : Bool → ℕ → ℕ → TableState → TableState
 copied_where true place k t = copied place k t
 copied_where false place k t = t
 
--- the replicas of the first so many numbers, in order, each having made its copy that is asked for one
-abbrev pub copied_to : (ℕ → Bool) → ℕ → ℕ → ℕ → TableState → TableState
-copied_to up writer place zero t = t
-copied_to up writer place (suc n) t =
-    copied_where (is_asked (copied_to up writer place n t).quorum.pending up (copied_to up writer place n t).fetching writer (suc n)) place (suc n) (copied_to up writer place n t)
+-- the table rests, and the writer is noted for the part that waits
+pub record NotesWriter (workers : Bool) (writer : ℕ) (t u : TableState) : Type 0 where
+  pub at : TableState
+  pub rests : Rests workers t at
+  pub change : u ≡ record at { quorum = quorum_after_note writer at.quorum }
 
--- the table, the writer noted for the part that waits, and the others asked then
-abbrev pub gathered : (ℕ → Bool) → ℕ → ℕ → TableState → TableState
-gathered up writer place t = copied_to up writer place 8 (record t { quorum = quorum_after_note writer t.quorum })
+-- the table rests, and the replica of a number makes its copy where it is asked then
+pub record CopiesLater (workers : Bool) (up : ℕ → Bool) (writer place k : ℕ) (t u : TableState) : Type 0 where
+  pub at : TableState
+  pub rests : Rests workers t at
+  pub change : u ≡ copied_where (is_asked at.quorum.pending up at.fetching writer k) place k at
+
+-- the writer is noted, and then the replicas of the first so many numbers are asked, in order
+abbrev pub CopiesTo : Bool → (ℕ → Bool) → ℕ → ℕ → ℕ → TableState → TableState → Type 0
+CopiesTo workers up writer place zero t u = NotesWriter workers writer t u
+CopiesTo workers up writer place (suc n) t u = (mid : TableState) × CopiesTo workers up writer place n t mid × CopiesLater workers up writer place (suc n) mid u
+
+-- the same with all replicas, of which there are at most 8, and the table rests at the end
+pub record CopiesAll (workers : Bool) (up : ℕ → Bool) (writer place : ℕ) (t u : TableState) : Type 0 where
+  pub mid : TableState
+  pub copies : CopiesTo workers up writer place 8 t mid
+  pub rests : Rests workers mid u
 
 -- the same where so many replicas are asked for; fewer than 2 ask for no quorum
-abbrev pub gathered_for : ℕ → (ℕ → Bool) → ℕ → ℕ → TableState → TableState
-gathered_for need up writer place t = cond (nat_le 2 need) (gathered up writer place t) t
+abbrev pub Gathers : Bool → ℕ → (ℕ → Bool) → ℕ → ℕ → TableState → TableState → Type 0
+Gathers workers need up writer place t u = ((need < 2) × (u ≡ t)) ⊎ ((2 ≤ need) × CopiesAll workers up writer place t u)

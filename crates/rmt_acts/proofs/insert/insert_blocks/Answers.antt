@@ -1,4 +1,4 @@
-use Rattle.std.proofs.Common.{◌≡◌, [], ◌∷◌, ◌++◌, List, map, arith, sym, subst}
+use Rattle.std.proofs.Common.{◌≡◌, [], ◌∷◌, ◌++◌, false, List, map, arith, sym, subst}
 use Rattle.std.proofs.lemmas.Grind.{common_steps}
 use Rattle.std.specs.declared.option.Option.TheVariants.{Some, None}
 use Rattle.rmt_events.specs.Clusters.{without_kinds}
@@ -25,7 +25,7 @@ pub returns-in-Refused-clause-inserts : goal.returns-in-Refused-clause-inserts
 returns-in-Refused-clause-inserts c t h =
     let step : c.inserts.block-iterator.rest.items ≡ c.in-Some.block ∷ c.next.new.self.rest.items = grind (arith, common_steps) in
     let came = λ (v : TableState) (k : Shows c.inserts.cluster v). subst (λ (x : Outcome). Leads c.insert_block.new.cluster (ComesTo (ups c.inserts.cluster) v (asked_at c.args.replica c.args.need) (without_kinds c.in-Some.block) x)) c.in-Refused.is (c.in_ok-piece.ensures.inserts v k) in
-    subst (λ (ps : List Piece). Leads c.insert_block.new.cluster (InsertsAll (ups c.args.cluster.now) t (asked_at c.args.replica c.args.need) (map without_kinds c.args.blocks.items) ps (Some c.in-Refused.refusal))) (sym c.new-pieces-in-Refused.ensures)
+    subst (λ (ps : List Piece). Leads c.insert_block.new.cluster (InsertsAll false (ups c.args.cluster.now) t (asked_at c.args.replica c.args.need) (map without_kinds c.args.blocks.items) ps (Some c.in-Refused.refusal))) (sym c.new-pieces-in-Refused.ensures)
     (so-far-stop c.args.cluster.now c.inserts.cluster c.insert_block.new.cluster (asked_at c.args.replica c.args.need) c.args.blocks.items c.inserts.yielded c.inserts.block-iterator.rest.items c.next.new.self.rest.items
     c.in-Some.block c.inserts.pieces.items c.in-Refused.refusal c.inserts.invariant step came t h)
 
@@ -54,5 +54,5 @@ returns-in_err-push-in-Inserted-clause-err c =
 pub returns-clause-inserts : goal.returns-clause-inserts
 returns-clause-inserts c t h =
     let none : c.inserts.block-iterator.rest.items ≡ [] = grind (arith, common_steps) in
-    subst (λ (ps : List Piece). Leads c.inserts.cluster (InsertsAll (ups c.args.cluster.now) t (asked_at c.args.replica c.args.need) (map without_kinds c.args.blocks.items) ps None)) (sym c.new-pieces-2.ensures)
+    subst (λ (ps : List Piece). Leads c.inserts.cluster (InsertsAll false (ups c.args.cluster.now) t (asked_at c.args.replica c.args.need) (map without_kinds c.args.blocks.items) ps None)) (sym c.new-pieces-2.ensures)
     (so-far-end c.args.cluster.now c.inserts.cluster (asked_at c.args.replica c.args.need) c.args.blocks.items c.inserts.yielded c.inserts.block-iterator.rest.items c.inserts.pieces.items c.inserts.invariant none t h)
