@@ -27,7 +27,7 @@ use Rattle.rmt_changes.specs.Changes.{between, applied_all}
 use Rattle.rmt_part.specs.Lineages.{AcceptedView, PartValue, IsGetOf, numbered, entries_of, lineage_of, IsPart}
 use Rattle.rmt_part.proofs.RowChanges.{filter_map-same}
 use Rattle.rmt_part.proofs.PartLaws.{of-log-has}
-use Rattle.rmt_compact.specs.NewParts.{upto_of, IsMutateOf, IsMutated}
+use Rattle.rmt_compact.specs.NewParts.{IsMutateOf, IsMutated}
 use Rattle.rmt_compact.proofs.ToldParts.{told, Makes}
 use Rattle.rmt_compact.proofs.MutateLaws.{mutate-tells, changed-fits, MutateLine, mutate-line, MutatePlaces, mutate-places}
 use Rattle.rmt_compact.proofs.NewPartLemmas.{some-same, no-name}
@@ -131,30 +131,41 @@ kept-fit P f keeps (r ∷ rows) h = go (f r) refl (kept-fit P f keeps rows (λ k
     go None e i = i
     go (Some r') e i = All-cons P r' (filter_map f rows) (keeps r r' e (h zero r (omega arith))) i
 
-pub mutate-name : (token : Token Entry) (old : PartValue) (copy : History) → IsMutateOf token old copy → result_name token.value ≡ None → ⊥
-mutate-name token old copy m h = no-name token.value (IsMutateOf.new m) (ap result_name (IsMutateOf.entry m)) h
+pub mutate-name : (token : Token Entry) (old : PartValue) (tokens : List (Token Entry)) → IsMutateOf token old tokens → result_name token.value ≡ None → ⊥
+mutate-name token old tokens m h = no-name token.value (IsMutateOf.new m) (ap result_name (IsMutateOf.entry m)) h
+
+with-mutation : (e : Entry) (p : Option ℕ) (n : ℕ) → IsMutationWith (Some e) p n → is_mutation e ≡ true
+with-mutation (Mutation id numbers command) p n k = refl
+with-mutation (Get q m digest source need) p n k = absurd k
+with-mutation (Merge new sources count) p n k = absurd k
+with-mutation (Mutate old new upto count mcount) p n k = absurd k
+with-mutation (DropRange q m) p n k = absurd k
 
 -- the mutations up to a mutation's place end at its number
 ends-at : (log : List Entry) (i : ℕ) (p : Option ℕ) (n : ℕ) → IsMutationWith (entry_at log i) p n → (i < length log) × EndAt (mutations_below log (i + 1)) p n
 ends-at log i p n h = go (entry_at log i) refl h
   where
-    is : (e : Entry) → IsMutationWith (Some e) p n → is_mutation e ≡ true
-    is (Mutation id numbers command) k = refl
-    is (Get q m digest source need) k = absurd k
-    is (Merge new sources count) k = absurd k
-    is (Mutate old new upto count mcount) k = absurd k
-    is (DropRange q m) k = absurd k
-
     go : (o : Option Entry) → entry_at log i ≡ o → IsMutationWith o p n → (i < length log) × EndAt (mutations_below log (i + 1)) p n
     go None q k = absurd k
-    go (Some e) q k = (entry-below log i e q, subst (λ (es : List Entry). EndAt es p n) (sym (below-more log i e q (is e k))) k)
+    go (Some e) q k = (entry-below log i e q, subst (λ (es : List Entry). EndAt es p n) (sym (below-more log i e q (with-mutation e p n k))) k)
 
-line-of : (token : Token Entry) (old : PartValue) (copy : History) → Lawful copy.schema copy.log → (m : IsMutateOf token old copy) → MutateLine copy.log old.name m.new m.upto
-line-of token old copy l m = mutate-line copy.schema copy.log old.name m.new m.upto m.count m.mcount l (subst (Has copy.log) m.entry (entry-has copy.log token.place token.value m.stands))
+-- for callers: up to the last one that a Mutate applies there is a mutation
+pub has-mutations : (schema : Shape) (log : List Entry) (old new : Name) (upto count mcount : ℕ) → Lawful schema log → Has log (Mutate old new upto count mcount) → mutations_below log (upto + 1) ≡ [] → ⊥
+has-mutations schema log old new upto count mcount l h none = go (entry_at log upto) refl (MutateLine.at m)
+  where
+    m : MutateLine log old new upto
+    m = mutate-line schema log old new upto count mcount l h
+
+    go : (o : Option Entry) → entry_at log upto ≡ o → IsMutationWith o old.partition (MutateLine.number m) → ⊥
+    go None q k = absurd k
+    go (Some e) q k = let s = below-more log upto e q (with-mutation e old.partition (MutateLine.number m) k) in absurd (cc)
+
+line-of : (token : Token Entry) (old : PartValue) (tokens : List (Token Entry)) → (m : IsMutateOf token old tokens) → MutateLine m.copy.log old.name m.new m.upto
+line-of token old tokens m = mutate-line m.copy.schema m.copy.log old.name m.new m.upto m.count m.mcount m.lawful (subst (Has m.copy.log) m.entry (entry-has m.copy.log token.place token.value m.stands))
 
 -- what the Mutate brings up and what it applies come before it
-places-of : (token : Token Entry) (old : PartValue) (copy : History) → Lawful copy.schema copy.log → (m : IsMutateOf token old copy) → MutatePlaces copy.log token.place old.name m.upto
-places-of token old copy l m = mutate-places copy.schema copy.log token.place old.name m.new m.upto m.count m.mcount l (subst (λ (e : Entry). entry_at copy.log token.place ≡ Some e) m.entry m.stands)
+places-of : (token : Token Entry) (old : PartValue) (tokens : List (Token Entry)) → (m : IsMutateOf token old tokens) → MutatePlaces m.copy.log token.place old.name m.upto
+places-of token old tokens m = mutate-places m.copy.schema m.copy.log token.place old.name m.new m.upto m.count m.mcount m.lawful (subst (λ (e : Entry). entry_at m.copy.log token.place ≡ Some e) m.entry m.stands)
 
 -- what the rows of a Mutate are
 pub record AreMutated (token : Token Entry) (old : PartValue) (name : Name) (tokens : List (Token Entry)) (rows : List Row) : Type 0 where
@@ -163,60 +174,58 @@ pub record AreMutated (token : Token Entry) (old : PartValue) (name : Name) (tok
   pub fit : All (λ row. fits old.schema.columns row ≡ true) rows
   pub same : name.partition ≡ old.name.partition
   pub above : old.made.place < token.place
-  pub reaches : upto_of token.value < token.place
 
-pub are-mutated : (token : Token Entry) (old : PartValue) (copy : History) (name : Name) (tokens : List (Token Entry)) (rows : List Row) → Lawful copy.schema copy.log → IsMutateOf token old copy → IsPart old → result_name token.value ≡ Some name → entries_of tokens ≡ mutations_below copy.log (upto_of token.value + 1) → rows ≡ filter_map (changed (entries_of tokens) name.partition (between (data_version old.name) name.mutation)) old.body.rows → AreMutated token old name tokens rows
-are-mutated token old copy name tokens rows l m is h ts rs = record {
+pub are-mutated : (token : Token Entry) (old : PartValue) (name : Name) (tokens : List (Token Entry)) (rows : List Row) → IsMutateOf token old tokens → IsPart old → result_name token.value ≡ Some name → rows ≡ filter_map (changed (entries_of tokens) name.partition (between (data_version old.name) name.mutation)) old.body.rows → AreMutated token old name tokens rows
+are-mutated token old name tokens rows m is h rs = record {
   keeps = subst (λ (e : Entry). IsLineage e name (record { blocks = map numbered old.blocks; mutations = entries_of tokens })) (sym m.entry) (subst (λ (a : Name). IsLineage (Mutate old.name m.new m.upto m.count m.mcount) a (record { blocks = map numbered old.blocks; mutations = entries_of tokens })) named made.keeps);
   holds =
       rs
       ∙ (ap (λ (a : Name). filter_map (changed (entries_of tokens) a.partition (between (data_version old.name) a.mutation)) old.body.rows) (sym named)
       ∙ (made.holds ∙ (ap (λ (x : Shape). own_content x (record { blocks = map numbered old.blocks; mutations = entries_of tokens }) m.new) (sym m.schema) ∙ ap (own_content old.schema (record { blocks = map numbered old.blocks; mutations = entries_of tokens })) named)));
-  fit = subst (All (λ row. fits old.schema.columns row ≡ true)) (sym rs) (kept-fit (λ row. fits old.schema.columns row ≡ true) (changed (entries_of tokens) name.partition (between (data_version old.name) name.mutation)) (λ row row' e f. subst (λ (x : Shape). fits x.columns row' ≡ true) (sym m.schema) (changed-fits copy.schema copy.log (entries_of tokens) name.partition (between (data_version old.name) name.mutation) row row' l come e (subst (λ (x : Shape). fits x.columns row ≡ true) m.schema f))) old.body.rows is.fit);
+  fit = subst (All (λ row. fits old.schema.columns row ≡ true)) (sym rs) (kept-fit (λ row. fits old.schema.columns row ≡ true) (changed (entries_of tokens) name.partition (between (data_version old.name) name.mutation)) (λ row row' e f. subst (λ (x : Shape). fits x.columns row' ≡ true) (sym m.schema) (changed-fits m.copy.schema m.copy.log (entries_of tokens) name.partition (between (data_version old.name) name.mutation) row row' m.lawful come e (subst (λ (x : Shape). fits x.columns row ≡ true) m.schema f))) old.body.rows is.fit);
   same = ap (λ (a : Name). a.partition) (sym named ∙ line.name);
   above = places.maker old.made.place old.made.value m.of_log.made is.keeps.made;
-  reaches = let u = places.upto in let q = ap upto_of (IsMutateOf.entry m) in omega (arith, u, q);
 }
   where
     named : IsMutateOf.new m ≡ name
     named = some-same (IsMutateOf.new m) name (sym (ap result_name (IsMutateOf.entry m)) ∙ h)
 
-    below : entries_of tokens ≡ mutations_below (History.log copy) (IsMutateOf.upto m + 1)
-    below = ts ∙ ap (λ (e : Entry). mutations_below (History.log copy) (upto_of e + 1)) (IsMutateOf.entry m)
+    below : entries_of tokens ≡ mutations_below (History.log (IsMutateOf.copy m)) (IsMutateOf.upto m + 1)
+    below = AreTokensBelow.entries (IsMutateOf.below m)
 
-    come : Each (Has (History.log copy)) (entries_of tokens)
-    come = subst (Each (Has (History.log copy))) (sym below) (below-has (History.log copy) (IsMutateOf.upto m + 1))
+    come : Each (Has (History.log (IsMutateOf.copy m))) (entries_of tokens)
+    come = subst (Each (Has (History.log (IsMutateOf.copy m)))) (sym below) (below-has (History.log (IsMutateOf.copy m)) (IsMutateOf.upto m + 1))
 
-    stands : Has (History.log copy) (Mutate old.name (IsMutateOf.new m) (IsMutateOf.upto m) (IsMutateOf.count m) (IsMutateOf.mcount m))
-    stands = subst (Has (History.log copy)) (IsMutateOf.entry m) (entry-has (History.log copy) token.place token.value (IsMutateOf.stands m))
+    stands : Has (History.log (IsMutateOf.copy m)) (Mutate old.name (IsMutateOf.new m) (IsMutateOf.upto m) (IsMutateOf.count m) (IsMutateOf.mcount m))
+    stands = subst (Has (History.log (IsMutateOf.copy m))) (IsMutateOf.entry m) (entry-has (History.log (IsMutateOf.copy m)) token.place token.value (IsMutateOf.stands m))
 
-    places : MutatePlaces (History.log copy) token.place old.name (IsMutateOf.upto m)
-    places = places-of token old copy l m
+    places : MutatePlaces (History.log (IsMutateOf.copy m)) token.place old.name (IsMutateOf.upto m)
+    places = places-of token old tokens m
 
-    line : MutateLine (History.log copy) old.name (IsMutateOf.new m) (IsMutateOf.upto m)
-    line = line-of token old copy l m
+    line : MutateLine (History.log (IsMutateOf.copy m)) old.name (IsMutateOf.new m) (IsMutateOf.upto m)
+    line = line-of token old tokens m
 
-    ends : EndAt (mutations_below (History.log copy) (IsMutateOf.upto m + 1)) (Name.partition (IsMutateOf.new m)) (Name.mutation (IsMutateOf.new m))
-    ends = subst (λ (a : Name). EndAt (mutations_below (History.log copy) (IsMutateOf.upto m + 1)) a.partition a.mutation) (sym (MutateLine.name line)) (ends-at (History.log copy) (IsMutateOf.upto m) old.name.partition (MutateLine.number line) (MutateLine.at line)).1
+    ends : EndAt (mutations_below (History.log (IsMutateOf.copy m)) (IsMutateOf.upto m + 1)) (Name.partition (IsMutateOf.new m)) (Name.mutation (IsMutateOf.new m))
+    ends = subst (λ (a : Name). EndAt (mutations_below (History.log (IsMutateOf.copy m)) (IsMutateOf.upto m + 1)) a.partition a.mutation) (sym (MutateLine.name line)) (ends-at (History.log (IsMutateOf.copy m)) (IsMutateOf.upto m) old.name.partition (MutateLine.number line) (MutateLine.at line)).1
 
-    part : IsPartOf (History.schema copy) (History.log copy) (told old)
+    part : IsPartOf (History.schema (IsMutateOf.copy m)) (History.log (IsMutateOf.copy m)) (told old)
     part = record {
       keeps = IsPart.keeps is;
-      comes = of-log-has old (History.log copy) is (IsMutateOf.of_log m);
+      comes = of-log-has old (History.log (IsMutateOf.copy m)) is (IsMutateOf.of_log m);
       holds = ap (λ (d : Data). d.rows) (IsPart.content is) ∙ ap (λ (x : Shape). own_content x (lineage_of old) old.name) (IsMutateOf.schema m);
     }
 
-    made : Makes (History.schema copy) (Mutate old.name (IsMutateOf.new m) (IsMutateOf.upto m) (IsMutateOf.count m) (IsMutateOf.mcount m)) (IsMutateOf.new m) (record { blocks = map numbered old.blocks; mutations = entries_of tokens }) (filter_map (changed (entries_of tokens) (IsMutateOf.new m).partition (between (data_version old.name) (IsMutateOf.new m).mutation)) old.body.rows)
-    made = mutate-tells (History.schema copy) (History.log copy) l (IsMutateOf.new m) (IsMutateOf.upto m) (IsMutateOf.count m) (IsMutateOf.mcount m) (told old) (entries_of tokens) stands part
-        (subst AreNumbered (sym below) (below-numbered (History.schema copy) (History.log copy) (IsMutateOf.upto m + 1) l)) come
+    made : Makes (History.schema (IsMutateOf.copy m)) (Mutate old.name (IsMutateOf.new m) (IsMutateOf.upto m) (IsMutateOf.count m) (IsMutateOf.mcount m)) (IsMutateOf.new m) (record { blocks = map numbered old.blocks; mutations = entries_of tokens }) (filter_map (changed (entries_of tokens) (IsMutateOf.new m).partition (between (data_version old.name) (IsMutateOf.new m).mutation)) old.body.rows)
+    made = mutate-tells (History.schema (IsMutateOf.copy m)) (History.log (IsMutateOf.copy m)) (IsMutateOf.lawful m) (IsMutateOf.new m) (IsMutateOf.upto m) (IsMutateOf.count m) (IsMutateOf.mcount m) (told old) (entries_of tokens) stands part
+        (subst AreNumbered (sym below) (below-numbered (History.schema (IsMutateOf.copy m)) (History.log (IsMutateOf.copy m)) (IsMutateOf.upto m + 1) (IsMutateOf.lawful m))) come
         (subst (λ (es : List Entry). EndAt es (IsMutateOf.new m).partition (IsMutateOf.new m).mutation) (sym below) ends)
 
 -- rows that are a content stand in order
 pub mutated-sorted : (token : Token Entry) (old : PartValue) (name : Name) (tokens : List (Token Entry)) (rows : List Row) → AreMutated token old name tokens rows → IsSorted (key_cmp old.schema.key) rows
 mutated-sorted token old name tokens rows a = subst (IsSorted (key_cmp old.schema.key)) (sym a.holds) (merged-sorted old.schema _)
 
-pub mutated-part : (token : Token Entry) (old : PartValue) (name : Name) (tokens : List (Token Entry)) (rows : List Row) (shape : Shape) (body : Data) (blocks : List AcceptedView) (copy : History) → AreMutated token old name tokens rows → IsPart old → Each (IsTokenBelow copy (upto_of token.value + 1)) tokens → shape ≡ old.schema → body ≡ data_of old.schema rows → blocks ≡ old.blocks → IsPart (record { schema = shape; name = name; body = body; made = token; blocks = blocks; mutations = tokens })
-mutated-part token old name tokens rows shape body blocks copy a is ts s d bs =
+pub mutated-part : (token : Token Entry) (old : PartValue) (name : Name) (tokens : List (Token Entry)) (rows : List Row) (shape : Shape) (body : Data) (blocks : List AcceptedView) → AreMutated token old name tokens rows → IsPart old → (m : IsMutateOf token old tokens) → shape ≡ old.schema → body ≡ data_of old.schema rows → blocks ≡ old.blocks → IsPart (record { schema = shape; name = name; body = body; made = token; blocks = blocks; mutations = tokens })
+mutated-part token old name tokens rows shape body blocks a is m s d bs =
     subst (λ (x : Shape). IsPart (record { schema = x; name = name; body = body; made = token; blocks = blocks; mutations = tokens })) (sym s)
     (subst (λ (l : List AcceptedView). IsPart (record { schema = old.schema; name = name; body = body; made = token; blocks = l; mutations = tokens })) (sym bs)
     (record {
@@ -225,20 +234,20 @@ mutated-part token old name tokens rows shape body blocks copy a is ts s d bs =
       content = d ∙ ap (data_of old.schema) a.holds;
       fit = subst (λ (x : Data). All (λ row. fits old.schema.columns row ≡ true) x.rows) (sym d) a.fit;
       earlier = early old.blocks is.earlier;
-      before = below tokens ts;
+      before = below tokens m.below.places;
     }))
   where
     early : (xs : List AcceptedView) → Each (λ b. b.get.place ≤ old.made.place) xs → Each (λ b. b.get.place ≤ token.place) xs
     early [] f = tt
     early (b ∷ xs) f = ((let i = f.0 in let j = AreMutated.above a in omega (arith, i, j)), early xs f.1)
 
-    below : (xs : List (Token Entry)) → Each (IsTokenBelow copy (upto_of token.value + 1)) xs → Each (λ t. t.place < token.place) xs
+    below : (xs : List (Token Entry)) → Each (IsTokenBelow (IsMutateOf.copy m) (IsMutateOf.upto m + 1)) xs → Each (λ t. t.place < token.place) xs
     below [] f = tt
-    below (t ∷ xs) f = ((let i = f.0.below in let j = AreMutated.reaches a in omega (arith, i, j)), below xs f.1)
+    below (t ∷ xs) f = ((let i = f.0.below in let j = MutatePlaces.upto (places-of token old tokens m) in omega (arith, i, j)), below xs f.1)
 
 -- what the part is, by what went into it
-pub is-mutated : (token : Token Entry) (old : PartValue) (copy : History) (part : PartValue) (shape : Shape) (name : Name) (body : Data) (blocks : List AcceptedView) (tokens : List (Token Entry)) → part ≡ record { schema = shape; name = name; body = body; made = token; blocks = blocks; mutations = tokens } → shape ≡ old.schema → result_name token.value ≡ Some name → blocks ≡ old.blocks → entries_of tokens ≡ mutations_below copy.log (upto_of token.value + 1) → Each (IsTokenBelow copy (upto_of token.value + 1)) tokens → IsMutated token old copy part
-is-mutated token old copy part shape name body blocks tokens e s h bs ts us = subst (IsMutated token old copy) (sym e) (record { schema = s; named = h; made = refl; blocks = bs; mutations = ts; tokens = us })
+pub is-mutated : (token : Token Entry) (old : PartValue) (part : PartValue) (shape : Shape) (name : Name) (body : Data) (blocks : List AcceptedView) (wanted tokens : List (Token Entry)) → part ≡ record { schema = shape; name = name; body = body; made = token; blocks = blocks; mutations = tokens } → shape ≡ old.schema → result_name token.value ≡ Some name → blocks ≡ old.blocks → tokens ≡ wanted → IsMutated token old wanted part
+is-mutated token old part shape name body blocks wanted tokens e s h bs ts = subst (IsMutated token old wanted) (sym e) (record { schema = s; named = h; made = refl; blocks = bs; mutations = ts })
 
 -- ---- what calls tell
 
@@ -250,7 +259,3 @@ rows-told rows old old' all all' p p' l l' h h' e a q m n d = cc
 pub due-rows : (rows old new : List Row) (due all : List (Token Entry)) (p : Option ℕ) (t : ℕ → Bool) → ((row : Row) → applied_all (entries_of due) row ≡ changed (entries_of all) p t row)
     → new ≡ filter_map (applied_all (entries_of due)) rows → rows ≡ old → new ≡ filter_map (changed (entries_of all) p t) old
 due-rows rows old new due all p t f e r = e ∙ (filter_map-same (applied_all (entries_of due)) (changed (entries_of all) p t) f rows ∙ ap (filter_map (changed (entries_of all) p t)) r)
-
--- a list that is the copy's
-pub same-below : (copy : History) (end : ℕ) (wanted : List Entry) (shared list : List (Token Entry)) → AreTokensBelow copy end wanted shared → list ≡ shared → AreTokensBelow copy end wanted list
-same-below copy end wanted shared list a e = subst (AreTokensBelow copy end wanted) (sym e) a

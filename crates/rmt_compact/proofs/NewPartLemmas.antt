@@ -146,7 +146,7 @@ told-parts shape log (p ∷ parts) is s c = (
   told-parts shape log parts is.1 s.1 c.1,
 )
 
-Each-append : {A : Type 0} (P : A → Type 0) (xs ys : List A) → Each P xs → Each P ys → Each P (xs ++ ys)
+pub Each-append : {A : Type 0} (P : A → Type 0) (xs ys : List A) → Each P xs → Each P ys → Each P (xs ++ ys)
 Each-append P [] ys f g = g
 Each-append P (x ∷ xs) ys f g = (f.0, Each-append P xs ys f.1 g)
 

@@ -14,7 +14,8 @@ use Rattle.rmt_model.specs.Lawful.{Lawful}
 use Rattle.rmt_model.specs.Content.{Row}
 use Rattle.rmt_changes.specs.Laws.{EntryFits}
 use Rattle.rmt_history.specs.Copies.{History}
-use Rattle.rmt_history.specs.Mutations.{mutations_below}
+use Rattle.rmt_history.specs.Mutations.{mutations_below, HasOrder, IsTokenBelow}
+use Rattle.rmt_history.proofs.NumberLemmas.{log-order}
 use Rattle.rmt_part.specs.Lineages.{entries_of}
 use Rattle.rmt_compact.proofs.MutateLaws.{entries-fit}
 use Rattle.rmt_compact.proofs.MutatedPartLemmas.{below-has}
@@ -45,3 +46,11 @@ pending-fit copy shape count tokens some l s e d =
 pub kinds-there : (columns : List Column) (kinds : List Kind) (rows : List Row) → HaveKinds kinds rows → All (λ row. fits columns row ≡ true) rows → (length rows ≡ 0 → ⊥) → kinds ≡ kinds_in columns
 kinds-there columns kinds [] h f s = absurd (s refl)
 kinds-there columns kinds (r ∷ rs) h f s = sym h.0 ∙ kinds-fit columns r (f zero r (omega arith))
+
+-- so have their pairs in order
+pub pending-order : (copy : History) (count : ℕ) (tokens some : List (Token Entry)) → Lawful copy.schema copy.log → Each (IsTokenBelow copy count) tokens → some ≡ tokens → All (λ t. HasOrder t.value) some
+pending-order copy count tokens some l h d = subst (λ (ts : List (Token Entry)). All (λ t. HasOrder t.value) ts) (sym d) (go tokens h)
+  where
+    go : (ts : List (Token Entry)) → Each (IsTokenBelow copy count) ts → All (λ t. HasOrder t.value) ts
+    go [] k = λ n d m. absurd (omega (arith, m))
+    go (t ∷ ts) k = All-cons (λ (s : Token Entry). HasOrder s.value) t ts (log-order copy.schema copy.log t.place t.value l k.0.entry) (go ts k.1)

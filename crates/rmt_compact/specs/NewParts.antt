@@ -15,8 +15,8 @@ use Rattle.rmt_granules.specs.MadePart.{data_of}
 use Rattle.rmt_model.specs.Words.{Each}
 use Rattle.rmt_model.specs.Lawful.{Lawful}
 use Rattle.rmt_history.specs.Copies.{History}
-use Rattle.rmt_history.specs.Mutations.{mutations_below, IsTokenBelow}
-use Rattle.rmt_part.specs.Lineages.{AcceptedView, PartValue, entries_of, StandsIn, IsOfLog}
+use Rattle.rmt_history.specs.Mutations.{mutations_below, AreTokensBelow}
+use Rattle.rmt_part.specs.Lineages.{AcceptedView, PartValue, StandsIn, IsOfLog}
 
 -- ---- a block
 
@@ -81,30 +81,25 @@ pub record IsMerged (token : Token Entry) (parts : List PartValue) (part : PartV
 
 -- ---- a mutation
 
--- the token is of a Mutate of this part, which stands in the copy at its place. The part is of the copy's log and schema
-pub record IsMutateOf (token : Token Entry) (part : PartValue) (copy : History) : Type 0 where
+-- the token is of a Mutate of this part, which stands in a lawful copy at its place. The part is of the copy's log and schema, and
+-- the mutations are the copy's up to the Mutate's
+pub record IsMutateOf (token : Token Entry) (part : PartValue) (mutations : List (Token Entry)) : Type 0 where
+  pub copy : History
   pub new : Name
   pub upto : ℕ
   pub count : ℕ
   pub mcount : ℕ
   pub entry : token.value ≡ Mutate part.name new upto count mcount
+  pub lawful : Lawful copy.schema copy.log
   pub stands : StandsIn copy.log token
   pub schema : part.schema ≡ copy.schema
   pub of_log : IsOfLog copy.log part
+  pub below : AreTokensBelow copy (upto + 1) (mutations_below copy.log (upto + 1)) mutations
 
--- the place of the last mutation that a Mutate applies; 0 for what is no Mutate
-abbrev pub upto_of : Entry → ℕ
-upto_of (Mutate old new upto count mcount) = upto
-upto_of (Get p n digest source need) = 0
-upto_of (Merge new sources count) = 0
-upto_of (Mutation id numbers command) = 0
-upto_of (DropRange p n) = 0
-
--- the part is the old one after all mutations up to the new name's. Their tokens are those of the copy
-pub record IsMutated (token : Token Entry) (old : PartValue) (copy : History) (part : PartValue) : Type 0 where
+-- the part is the old one after these mutations, whose tokens it has
+pub record IsMutated (token : Token Entry) (old : PartValue) (applied : List (Token Entry)) (part : PartValue) : Type 0 where
   pub schema : part.schema ≡ old.schema
   pub named : result_name token.value ≡ Some part.name
   pub made : part.made ≡ token
   pub blocks : part.blocks ≡ old.blocks
-  pub mutations : entries_of part.mutations ≡ mutations_below copy.log (upto_of token.value + 1)
-  pub tokens : Each (IsTokenBelow copy (upto_of token.value + 1)) part.mutations
+  pub mutations : part.mutations ≡ applied

@@ -6,7 +6,6 @@ mod fetched_part;
 mod gathered;
 mod merged_part;
 mod mutated_part;
-mod mutation_list;
 mod name;
 mod pending;
 

@@ -18,7 +18,7 @@ use Rattle.rmt_model.specs.CopiedParts.{Copied, IsCopied}
 use Rattle.rmt_model.proofs.Lists.{Each-at}
 use Rattle.rmt_model.proofs.LiveLaws.{Pairwise-cases, not-both}
 use Rattle.rmt_model.proofs.Drops.{some-same, entry-below}
-use Rattle.rmt_granules.specs.Granules.{PartView as Data}
+use Rattle.std.specs.Arc.{arc_value}
 use Rattle.rmt_part.specs.Lineages.{PartValue}
 use Rattle.rmt_part.specs.CopiedPart.{copied}
 use Rattle.rmt_part.proofs.PartLaws.{of-log-longer, of-log-prefix}
@@ -34,8 +34,10 @@ use Rattle.rmt_events.specs.Clusters.{Cluster, without_kinds}
 use Rattle.rmt_events.specs.ClusterChanges.{IsOther}
 use Rattle.rmt_events.specs.ApplyEvents.{IsHolder, LacksBlock, LacksPart, NeedsFetch, MayFetch}
 use Rattle.rmt_events.proofs.Copies.{entry-behind}
-use Rattle.rmt_compact.proofs.SentLemmas.{length-in_key_order}
-use Rattle.rmt_supply.specs.PartSources.{staged_for, IsAccepted, AreOfOneTable, HasSmallParts, IsClusterOf, Does, IsFetchedPart, WaitsForBlock, IsGetFor, HoldsPart, HoldsNothing, HoldsSome, IsOfStaged, IsHeld, IsNowhere, IsMissing, IsStopped}
+use Rattle.rmt_supply.specs.PartSources.{staged_for, IsAccepted, AreOfOneTable, HasSmallParts, IsClusterOf, Does, IsFetchedPart, WaitsForBlock, IsGetFor, HoldsPart, HoldsNothing, HoldsSome, IsOfStaged, IsSent, IsNowhere, IsMissing, IsStopped}
+use Rattle.rmt_supply.specs.declared.held.Held.{Held}
+use Rattle.rmt_supply.specs.declared.held.Held.TheVariants as held
+use Rattle.rmt_supply.specs.TakenParts.{IsHeld, CanSend}
 use Rattle.rmt_supply.proofs.StagedParts.{of-table, staged-seen, block-does}
 
 -- ---- active parts that cover one name
@@ -81,20 +83,18 @@ later-covers r a len p s m c l part h =
 pub held-small : (holder : ReplicaView) (a : Name) (len : ℕ) (part : PartValue) → HasSmallParts holder → HoldsPart holder a len part → length part.body.rows < 2 ^ 32
 held-small holder a len part small h = Each-at (λ p. length p.body.rows < 2 ^ 32) holder.parts part small h.is_in
 
--- so is the part of a staged block
-pub staged-small : (schema : Shape) (holder : ReplicaView) (token : Token Entry) (part : PartValue) → IsOfStaged schema holder token part → length part.body.rows < 2 ^ 32
-staged-small schema holder token part h =
-    let made = ap (λ (d : Data). length d.rows) h.is.body in
-    let ordered = length-in_key_order schema h.block.rows in
-    let few = h.few_rows in
-    omega (arith, made, ordered, few)
+-- what was taken out of it can be sent
+pub can-send : (schema : Shape) (holder : ReplicaView) (token : Token Entry) (a : Name) (len : ℕ) (h : Held) → HasSmallParts holder → IfSome (staged_for holder token.value) (IsAccepted schema token.value) → IsHeld holder token a len (Some h) → CanSend schema h
+can-send schema holder token a len (held.Part part) small k h = held-small holder a len (arc_value part) small h
+can-send schema holder token a len (held.Block block get) small k h =
+    subst (λ (t : Token Entry). IsAccepted schema t.value (arc_value block)) (sym h.copied) (subst (λ (o : Option BlockView). IfSome o (IsAccepted schema token.value)) h.staged k)
 
 -- what it has, where a part comes back
-pub holds-part : {P : Type 0} (o : Option P) (p : P) (value : P → PartValue) (schema : Shape) (holder : ReplicaView) (token : Token Entry) (a : Name) (len : ℕ) → o ≡ Some p → IsHeld schema holder token a len (option_map value o) → HoldsPart holder a len (value p) ⊎ IsOfStaged schema holder token (value p)
-holds-part {P} o p value schema holder token a len e h = subst (λ (v : Option P). IsHeld schema holder token a len (option_map value v)) e h
+pub holds-part : {P : Type 0} (o : Option P) (p : P) (value : P → PartValue) (schema : Shape) (holder : ReplicaView) (token : Token Entry) (a : Name) (len : ℕ) → o ≡ Some p → IsSent schema holder token a len (option_map value o) → HoldsPart holder a len (value p) ⊎ IsOfStaged schema holder token (value p)
+holds-part {P} o p value schema holder token a len e h = subst (λ (v : Option P). IsSent schema holder token a len (option_map value v)) e h
 
 -- a part comes back where it has something
-pub held-some : {P : Type 0} (o : Option P) (value : P → PartValue) (schema : Shape) (holder : ReplicaView) (token : Token Entry) (a : Name) (len : ℕ) → IsHeld schema holder token a len (option_map value o) → HoldsSome holder token a len → IsSome o
+pub held-some : {P : Type 0} (o : Option P) (value : P → PartValue) (schema : Shape) (holder : ReplicaView) (token : Token Entry) (a : Name) (len : ℕ) → IsSent schema holder token a len (option_map value o) → HoldsSome holder token a len → IsSome o
 held-some {P} (Some p) value schema holder token a len h k = refl
 held-some {P} None value schema holder token a len h (inl k) = absurd (h.no_part k.0 k.1)
 held-some {P} None value schema holder token a len h (inr k) = let e = ap is_some h.no_block in absurd (cc)

@@ -2,3 +2,4 @@ pub mod OwnParts
 pub mod StagedParts
 pub mod BlockHolders
 pub mod SearchLemmas
+pub mod TakenLemmas

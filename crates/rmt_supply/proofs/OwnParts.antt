@@ -1,9 +1,9 @@
 -- Parts that a replica makes of its own active parts: what they are made of, and that they do their entry.
 use Rattle.std.proofs.Common.{◌≡◌, ℕ, zero, suc, ◌+◌, ◌<◌, ◌≤◌, inl, inr, Bool, true, false, cond, nat_le, List, [], ◌∷◌, ◌++◌, length, map, take, get_or, refl, sym, ap, subst, arith, ◌∙◌, append_assoc}
-use Rattle.std.specs.Prelude.{MatchOption, IfSome, IsSome}
+use Rattle.std.specs.Prelude.{MatchOption}
 use Rattle.std.proofs.lemmas.List.{map-append}
 use Rattle.std.specs.declared.option.Option.{Option}
-use Rattle.std.specs.declared.option.Option.TheVariants.{Some, None}
+use Rattle.std.specs.declared.option.Option.TheVariants.{Some}
 use Rattle.rmt_values.specs.Rows.{Shape}
 use Rattle.rmt_names.specs.Names.{Name, Covers}
 use Rattle.rmt_entries.specs.Entries.{result_name}
@@ -21,14 +21,13 @@ use Rattle.rmt_model.proofs.LiveLaws.{Covers-refl, Covers-antisym, tight, source
 use Rattle.rmt_model.proofs.VersionLaws.{live-made, made-sized}
 use Rattle.rmt_model.proofs.Drops.{some-same, entry-below, entry-cases}
 use Rattle.rmt_nameset.specs.NameSets.{AreApart}
-use Rattle.rmt_history.specs.Copies.{History}
-use Rattle.rmt_history.specs.Mutations.{IsTokenBelow}
+use Rattle.rmt_history.specs.Mutations.{mutations_below, IsTokenBelow, AreTokensBelow}
 use Rattle.rmt_part.specs.Lineages.{AcceptedView, PartValue, numbered, IsPart, StandsIn, IsOfLog, AgreesWith}
 use Rattle.rmt_part.specs.CopiedPart.{copied}
 use Rattle.rmt_part.proofs.PartLaws.{of-log-prefix}
 use Rattle.rmt_partset.specs.ActiveParts.{part_names, IsCovering}
 use Rattle.rmt_partset.proofs.PartLists.{named-so}
-use Rattle.rmt_compact.specs.NewParts.{blocks_joined, most_tokens, upto_of, IsMergeOf, IsMerged, IsMutateOf, IsMutated}
+use Rattle.rmt_compact.specs.NewParts.{blocks_joined, most_tokens, IsMergeOf, IsMerged, IsMutateOf, IsMutated}
 use Rattle.rmt_compact.proofs.GatheredLemmas.{take-next, take-whole}
 use Rattle.rmt_compact.proofs.MergeLaws.{source-partition}
 use Rattle.rmt_events.specs.Clusters.{Cluster}
@@ -36,7 +35,7 @@ use Rattle.rmt_events.specs.ApplyEvents.{HasSources, IsFromParts}
 use Rattle.rmt_events.proofs.Copies.{lawful-behind, made-behind}
 use Rattle.rmt_events.proofs.Drains.{CutAt, cut-at}
 use Rattle.rmt_replica.specs.Parts.{IsMadeIn}
-use Rattle.rmt_replica.specs.Replicas.{ReplicaView, IsStandingReplica}
+use Rattle.rmt_replica.specs.Replicas.{ReplicaView, IsStandingReplica, copy_of}
 use Rattle.rmt_replica.specs.Answers as own
 use Rattle.rmt_replica.specs.SeenReplica.{shown}
 use Rattle.rmt_replica.proofs.StateViews.{names-shown, active-seen, made-seen}
@@ -97,17 +96,6 @@ Has-at (y ∷ xs) (suc i) x e l = inr (Has-at xs i x e (omega (arith, l)))
 -- the active part that a call found
 pub is-covering : {A : Type 0} (o : Option A) (see : A → PartValue) (parts : List PartValue) (a : Name) (x : A) → MatchOption o ((b : Name) → Has (part_names parts) b → Covers b a → ⊥) (λ y. IsCovering parts a (see y)) → o ≡ Some x → IsCovering parts a (see x)
 is-covering {A} o see parts a x m e = subst (λ (z : Option A). MatchOption z ((b : Name) → Has (part_names parts) b → Covers b a → ⊥) (λ y. IsCovering parts a (see y))) e m
-
--- the entry at a place is found there
-pub is-entry : {A : Type 0} (o : Option A) (see : A → Token Entry) (log copy : List Entry) (i : ℕ) (e : Entry) → MatchOption o (length copy ≤ i) (λ x. entry_at copy i ≡ Some (see x).value) → copy ≡ log → entry_at log i ≡ Some e → IsSome o
-is-entry None see log copy i e m c q = absurd (let k = entry-below log i e q in let l = ap length c in omega (arith, k, l, m))
-is-entry (Some x) see log copy i e m c q = refl
-
-pub token-at : {A : Type 0} (o : Option A) (see : A → Token Entry) (log copy : List Entry) (i : ℕ) (e : Entry) (x : A) (token : Token Entry) → MatchOption o (length copy ≤ i) (λ y. entry_at copy i ≡ Some (see y).value) → IfSome o (λ y. (see y).place ≡ i) → copy ≡ log → entry_at log i ≡ Some e → o ≡ Some x → token ≡ see x → (token.place ≡ i) × (token.value ≡ e)
-token-at {A} o see log copy i e x token m p c q f t =
-    let k = subst (λ (z : Option A). MatchOption z (length copy ≤ i) (λ y. entry_at copy i ≡ Some (see y).value)) f m in
-    let j = subst (λ (z : Option A). IfSome z (λ y. (see y).place ≡ i)) f p in
-    (ap (λ (z : Token Entry). z.place) t ∙ j, ap (λ (z : Token Entry). z.value) t ∙ some-same (see x).value e (sym k ∙ (ap (λ (l : List Entry). entry_at l i) c ∙ q)))
 
 -- ---- parts of the log before an entry
 
@@ -234,23 +222,26 @@ module _ (r : ReplicaView) (i : ℕ) (new : Name) (sources : List Name) (count :
 
 -- ---- the part of a Mutate
 
-module _ (r : ReplicaView) (i : ℕ) (old new : Name) (upto count mcount : ℕ) (source : PartValue) (token : Token Entry) (copy : History) (s : IsStandingReplica r) (q : entry_at r.log i ≡ Some (Mutate old new upto count mcount)) (h : Has r.parts source) (n : source.name ≡ old) (p : token.place ≡ i) (v : token.value ≡ Mutate old new upto count mcount) (cs : copy.schema ≡ r.schema) (cl : copy.log ≡ r.log) where
+module _ (r : ReplicaView) (i : ℕ) (old new : Name) (upto count mcount : ℕ) (source : PartValue) (tokens : List (Token Entry)) (token : Token Entry) (s : IsStandingReplica r) (q : entry_at r.log i ≡ Some (Mutate old new upto count mcount)) (h : Has r.parts source) (n : source.name ≡ old) (b : AreTokensBelow (copy_of r) (upto + 1) (mutations_below r.log (upto + 1)) tokens) (p : token.place ≡ i) (v : token.value ≡ Mutate old new upto count mcount) where
   source-made : IsMadeIn r.schema r.log source
   source-made = Each-at (IsMadeIn r.schema r.log) r.parts source s.made h
 
   token-stands : StandsIn r.log token
   token-stands = ap (entry_at r.log) p ∙ (q ∙ ap Some (sym v))
 
-  pub mutate-of : IsMutateOf token source copy
+  pub mutate-of : IsMutateOf token source tokens
   mutate-of = record {
+    copy = copy_of r;
     new = new;
     upto = upto;
     count = count;
     mcount = mcount;
     entry = v ∙ ap (λ (a : Name). Mutate a new upto count mcount) (sym n);
-    stands = subst (λ (log : List Entry). StandsIn log token) (sym cl) token-stands;
-    schema = source-made.of_schema ∙ sym cs;
-    of_log = subst (λ (log : List Entry). IsOfLog log source) (sym cl) source-made.of_log;
+    lawful = s.lawful;
+    stands = token-stands;
+    schema = source-made.of_schema;
+    of_log = source-made.of_log;
+    below = b;
   }
 
   same-partition : old.partition ≡ new.partition
@@ -259,7 +250,7 @@ module _ (r : ReplicaView) (i : ℕ) (old new : Name) (upto count mcount : ℕ) 
       let m = (lawful-at r.schema r.log i (Mutate old new upto count mcount) s.lawful c).1 in
       sym (ap (λ (a : Name). a.partition) (IsMutate.name m))
 
-  pub mutated-made : (part : PartValue) → IsMutated token source copy part → IsPart part → IsMadeOfActive r i part
+  pub mutated-made : (part : PartValue) → IsMutated token source tokens part → IsPart part → IsMadeOfActive r i part
   mutated-made part m is =
       let named : result_name (Mutate old new upto count mcount) ≡ Some part.name = ap result_name (sym v) ∙ m.named in
       let partition = ap (λ (a : Name). a.partition) n ∙ (same-partition ∙ ap (λ (a : Name). a.partition) (some-same new part.name named)) in
@@ -269,7 +260,7 @@ module _ (r : ReplicaView) (i : ℕ) (old new : Name) (upto count mcount : ℕ) 
         of_log = record {
           made = subst (StandsIn r.log) (sym m.made) token-stands;
           blocks = subst (Each (λ (b : AcceptedView). StandsIn r.log b.get)) (sym m.blocks) source-made.of_log.blocks;
-          mutations = Each-all (StandsIn r.log) part.mutations (λ t k. subst (λ (log : List Entry). StandsIn log t) cl (Each-at (IsTokenBelow copy (upto_of token.value + 1)) part.mutations t m.tokens k).entry);
+          mutations = subst (Each (StandsIn r.log)) (sym m.mutations) (Each-all (StandsIn r.log) tokens (λ t k. (Each-at (IsTokenBelow (copy_of r) (upto + 1)) tokens t b.places k).entry));
         };
         place = ap (λ (t : Token Entry). t.place) m.made ∙ p;
         named = record { entry = Mutate old new upto count mcount; stands = q; makes = named };

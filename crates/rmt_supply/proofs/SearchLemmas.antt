@@ -8,10 +8,9 @@ use Rattle.rmt_names.specs.Names.{Name}
 use Rattle.rmt_entries.specs.declared.entry.Entry.{Entry}
 use Rattle.rmt_entries.specs.declared.entry.Entry.TheVariants.{Get, Merge, Mutate, Mutation, DropRange}
 use Rattle.rmt_row.specs.Token.{Token}
-use Rattle.rmt_model.specs.Words.{Has, Each}
+use Rattle.rmt_model.specs.Words.{Has}
 use Rattle.rmt_model.specs.Lawful.{entry_at}
 use Rattle.rmt_part.specs.Lineages.{PartValue}
-use Rattle.rmt_partset.specs.ActiveParts.{part_names}
 use Rattle.rmt_replica.specs.Replicas.{ReplicaView, IsStandingReplica}
 use Rattle.rmt_replica.specs.Answers as own
 use Rattle.rmt_replica.specs.declared.why.Why.TheVariants as whys
@@ -25,23 +24,17 @@ use Rattle.rmt_supply.proofs.OwnParts.{merged-from-parts, mutated-from-parts, ma
 use Rattle.rmt_supply.proofs.StagedParts.{from-stage, staged-does}
 
 -- a token of a copy's entry, at its place
-pub record IsTokenAt (log : List Entry) (i : ℕ) (token : Token Entry) : Type 0 where
+pub record IsReadAt (log : List Entry) (i : ℕ) (token : Token Entry) : Type 0 where
   pub entry : entry_at log i ≡ Some token.value
   pub place : token.place ≡ i
 
-pub token-there : {A : Type 0} (o : Option A) (f : A → Token Entry) (copy log : List Entry) (i : ℕ) (x : A) → MatchOption o (length copy ≤ i) (λ t. entry_at copy i ≡ Some (f t).value) → IfSome o (λ t. (f t).place ≡ i) → o ≡ Some x → copy ≡ log → IsTokenAt log i (f x)
+pub token-there : {A : Type 0} (o : Option A) (f : A → Token Entry) (copy log : List Entry) (i : ℕ) (x : A) → MatchOption o (length copy ≤ i) (λ t. entry_at copy i ≡ Some (f t).value) → IfSome o (λ t. (f t).place ≡ i) → o ≡ Some x → copy ≡ log → IsReadAt log i (f x)
 token-there o f copy log i x m p e l = record {
   entry = subst (λ (es : List Entry). entry_at es i ≡ Some (f x).value) l (subst (λ o. MatchOption o (length copy ≤ i) (λ t. entry_at copy i ≡ Some (f t).value)) e m);
   place = subst (λ o. IfSome o (λ t. (f t).place ≡ i)) e p;
 }
 
 -- ---- what a replica has itself
-
-pub merge-active : (r : ReplicaView) (v : Entry) (new : Name) (sources names : List Name) (count : ℕ) → own.IsReady r v → v ≡ Merge new sources count → names ≡ sources → Each (Has (part_names r.parts)) names
-merge-active r v new sources names count h e n = subst (λ (l : List Name). Each (Has (part_names r.parts)) l) (sym n) (subst (own.IsReady r) e h)
-
-pub mutate-active : (r : ReplicaView) (v : Entry) (old new : Name) (upto count mcount : ℕ) → own.IsReady r v → v ≡ Mutate old new upto count mcount → Has (part_names r.parts) old
-mutate-active r v old new upto count mcount h e = subst (own.IsReady r) e h
 
 pub merged-built : (r : ReplicaView) (i : ℕ) (v : Entry) (new : Name) (sources : List Name) (count : ℕ) (part : PartValue) (replicas : List ReplicaView) → IsStandingReplica r → own.Waits r i → entry_at r.log i ≡ Some v → own.IsReady r v → v ≡ Merge new sources count → IsMadeOfActive r i part → Does r i part × IsBuilt replicas r i part
 merged-built r i v new sources count part replicas t w q h e m = (
@@ -55,15 +48,11 @@ mutated-built r i v old new upto count mcount part replicas t w q h e m = (
   λ s c. inr (mutated-from-parts r i old new upto count mcount part t (subst (λ (x : Entry). entry_at r.log i ≡ Some x) e q) (subst (own.IsReady r) e h) m s c.schema_is),
 )
 
-pub staged-built : (r : ReplicaView) (i : ℕ) (token : Token Entry) (part : PartValue) (replicas : List ReplicaView) → IsStandingReplica r → own.Waits r i → IsTokenAt r.log i token → IsOfStaged r.schema r token part → Does r i part × IsBuilt replicas r i part
+pub staged-built : (r : ReplicaView) (i : ℕ) (token : Token Entry) (part : PartValue) (replicas : List ReplicaView) → IsStandingReplica r → own.Waits r i → IsReadAt r.log i token → IsOfStaged r.schema r token part → Does r i part × IsBuilt replicas r i part
 staged-built r i token part replicas t w q m = (
   staged-does r i token.value token part t q.entry q.place refl m w,
   λ s c. inl (from-stage r i token.value token part t q.entry q.place refl m s c.schema_is),
 )
-
--- what an option of a part has
-pub found-part : {A : Type 0} (o : Option A) (N : Type 0) (P : A → Type 0) (x : A) → MatchOption o N P → o ≡ Some x → P x
-found-part o N P x m e = subst (λ o. MatchOption o N P) e m
 
 -- ---- what is missing
 
@@ -119,11 +108,6 @@ accepted-here replicas i j r e a q t k =
 -- what holds of the replica at a place holds of each that stands there
 pub at-one : (rs : List ReplicaView) (j : ℕ) (r : ReplicaView) (P : ReplicaView → Type 0) → slice_get rs j ≡ Some r → P r → (x : ReplicaView) → slice_get rs j ≡ Some x → P x
 at-one rs j r P e p x q = let s : r ≡ x = cc in subst P s p
-
--- ---- an entry that is ready
-
-pub ready-entry : (replicas : List ReplicaView) (i j : ℕ) (r : ReplicaView) → AreOfOneTable replicas i → slice_get replicas j ≡ Some r → IsStandingReplica r → own.IsWhy r i whys.Ready → (e : Entry) → entry_at r.log i ≡ Some e → own.IsReady r e × IfSome (staged_for r e) (IsAccepted r.schema e)
-ready-entry replicas i j r a q t w e k = (subst (λ o. IfSome o (own.IsReady r)) k w.1, accepted-here replicas i j r e a q t k)
 
 -- the entry of a place within the copy is there
 pub entry-there : {A : Type 0} (o : Option A) (f : A → Token Entry) (copy : List Entry) (i : ℕ) → MatchOption o (length copy ≤ i) (λ t. entry_at copy i ≡ Some (f t).value) → i < length copy → IsSome o

@@ -1,5 +1,5 @@
 -- The part of a block that is staged, as a cluster sees it, and as the Get of the block wants it.
-use Rattle.std.proofs.Common.{◌≡◌, ℕ, ◌<◌, List, [], ◌∷◌, length, map, sym, ap, subst, ◌∙◌}
+use Rattle.std.proofs.Common.{◌≡◌, ℕ, ◌<◌, ◌^◌, arith, List, [], ◌∷◌, length, map, sym, ap, subst, ◌∙◌}
 use Rattle.std.specs.declared.option.Option.{Option}
 use Rattle.std.specs.declared.option.Option.TheVariants.{Some}
 use Rattle.rmt_values.specs.Rows.{Shape}
@@ -19,8 +19,10 @@ use Rattle.rmt_part.specs.Lineages.{AcceptedView, PartValue, numbered, number_go
 use Rattle.rmt_part.specs.Lineages as parts
 use Rattle.rmt_part.specs.CopiedPart.{copied}
 use Rattle.rmt_part.proofs.CopiedLaws.{part-copied}
+use Rattle.rmt_granules.specs.Granules.{PartView as Data}
 use Rattle.rmt_compact.specs.NewParts.{GetsBlock}
 use Rattle.rmt_compact.specs.NewParts as new
+use Rattle.rmt_compact.proofs.SentLemmas.{length-in_key_order}
 use Rattle.rmt_replica.specs.StagedBlocks.{staged_at}
 use Rattle.rmt_replica.specs.Replicas.{ReplicaView, IsStandingReplica}
 use Rattle.rmt_replica.specs.Answers as own
@@ -132,3 +134,13 @@ from-stage x i e token part t q p v h s c =
 -- and does the entry
 pub staged-does : (x : ReplicaView) (i : ℕ) (e : Entry) (token : Token Entry) (part : PartValue) → IsStandingReplica x → entry_at x.log i ≡ Some e → token.place ≡ i → token.value ≡ e → IsOfStaged x.schema x token part → own.Waits x i → Does x i part
 staged-does x i e token part t q p v h w = block-does x x i token part (q ∙ ap (λ (z : Entry). Some z) (sym v)) p h w
+
+-- ---- how many rows
+
+-- the part of a block has as many as the block
+pub block-small : (schema : Shape) (token : Token Entry) (b : BlockView) (part other : PartValue) → new.IsOfBlock schema token b part → other ≡ part → length b.rows < 2 ^ 32 → length other.body.rows < 2 ^ 32
+block-small schema token b part other is e few =
+    let same = ap (λ (p : PartValue). length p.body.rows) e in
+    let made = ap (λ (d : Data). length d.rows) is.body in
+    let ordered = length-in_key_order schema b.rows in
+    omega (arith, same, made, ordered, few)

@@ -137,7 +137,6 @@ pub record IsOfStaged (schema : Shape) (holder : ReplicaView) (token : Token Ent
   pub block : BlockView
   pub staged : staged_for holder token.value ≡ Some block
   pub accepted : IsAccepted schema token.value block
-  pub few_rows : length block.rows < 2 ^ 32
   pub is : IsOfBlock schema token block part
   pub is_part : IsPart part
 
@@ -177,9 +176,9 @@ pub record HoldsNothing (holder : ReplicaView) (token : Token Entry) (a : Name) 
 abbrev pub HoldsSome : ReplicaView → Token Entry → Name → ℕ → Type 0
 HoldsSome holder token a len = ((part : PartValue) × HoldsPart holder a len part) ⊎ IsSome (staged_for holder token.value)
 
--- what a holder has for the Get of a token, as a part
-abbrev pub IsHeld : Shape → ReplicaView → Token Entry → Name → ℕ → Option PartValue → Type 0
-IsHeld schema holder token a len part = MatchOption part (HoldsNothing holder token a len) (λ p. HoldsPart holder a len p ⊎ IsOfStaged schema holder token p)
+-- what a holder sends for the Get of a token
+abbrev pub IsSent : Shape → ReplicaView → Token Entry → Name → ℕ → Option PartValue → Type 0
+IsSent schema holder token a len part = MatchOption part (HoldsNothing holder token a len) (λ p. HoldsPart holder a len p ⊎ IsOfStaged schema holder token p)
 
 -- no other live replica holds the block of the Get at a place
 abbrev pub IsNowhere : List ReplicaView → ReplicaView → ℕ → Type 0

@@ -3,12 +3,15 @@ ghost use Rattle.std.specs.Prelude.{◌≡◌, ◌<◌, ◌≤◌, ◌^◌, fals
 ghost use Rattle.std.specs.Arc.{arc_value};
 ghost use Rattle.std.specs.Option.{option_map};
 ghost use Rattle.std.specs.declared.option.Option.TheVariants.{Some};
-ghost use Rattle.rmt_part.specs.Lineages.{PartValue};
+ghost use Rattle.rmt_part.specs.Lineages.{PartValue, IsPart};
 ghost use Rattle.rmt_replica.specs.Replicas.{ReplicaView};
-ghost use Rattle.rmt_supply.specs.PartSources.{staged_for, IsAccepted, AreOfOneTable, HasSmallParts, AreSmall, WaitsForBlock, IsGetFor, HoldsPart, HoldsNothing, HoldsSome, IsHeld, IsFoundFor};
+ghost use Rattle.rmt_supply.specs.PartSources.{staged_for, IsAccepted, AreOfOneTable, HasSmallParts, AreSmall, WaitsForBlock, IsGetFor, HoldsPart, HoldsNothing, HoldsSome, IsSent, IsFoundFor};
+ghost use Rattle.rmt_supply.specs.TakenParts.{IsHeld, CanSend, SendsPart};
 
+use crate::built::block_part;
 use crate::found::Found;
-use crate::staged::{is_staged, staged_part};
+use crate::held::Held;
+use crate::staged::{is_staged, staged_block};
 use rmt_compact::refetched;
 use rmt_entries::Entry;
 use rmt_format::encode;
@@ -40,6 +43,28 @@ fn part_within<'a>(
     Some(part)
 }
 
+/// Takes what a holder has for the Get of a token out of the holder: its active part that covers the block's and was made at a
+/// place below `len`, else the block that is staged there. None where it has neither. At an error no memory was left.
+pub fn take_held(
+    holder: &Replica,
+    get: &Seen<Entry>,
+    name: &PartName,
+    len: usize,
+) -> Result<Option<Held>, AllocError>
+    requires { IsGetFor get.now name.now }
+    ensures { IfOk result (IsHeld holder.now get.now name.now len) }
+{
+    if let Some(part) = part_within(holder, name, len) {
+        let part = Arc::try_clone(part)?;
+        return Ok(Some(Held::Part(part)));
+    }
+    let Some(block) = staged_block(holder, get)? else {
+        return Ok(None);
+    };
+    let get = get.copy()?;
+    Ok(Some(Held::Block { block, get }))
+}
+
 /// The part that another replica makes of a holder's: the holder's bytes are sent, and decoded there. At an error no memory was
 /// left.
 fn sent(alloc: Global, part: &Part) -> Result<Arc<Part, Global>, AllocError>
@@ -52,8 +77,28 @@ fn sent(alloc: Global, part: &Part) -> Result<Arc<Part, Global>, AllocError>
     Ok(shared)
 }
 
-/// What a holder sends for the Get of a token: its active part that covers the block's and was made at a place below `len`, else
-/// the part of the block that is staged there. None where it has neither. At an error no memory was left.
+/// Sends what a holder has, as the bytes of a part: the part that another replica makes of them. At an error no memory was left,
+/// and what was taken is gone.
+pub fn send(
+    alloc: Global,
+    held: Held,
+    schema: &Arc<Schema, Global>,
+) -> Result<Arc<Part, Global>, AllocError>
+    requires { CanSend (arc_value schema.now) held }
+    ensures ok { IfOk result (λ part. SendsPart (arc_value schema.now) held (arc_value part)) }
+    ensures part { IfOk result (λ part. IsPart (arc_value part)) }
+{
+    let part = match held {
+        Held::Part(part) => part,
+        Held::Block { block, get } => block_part(alloc, block, get, schema)?,
+    };
+    // What the type keeps is known where a field is read.
+    let _name = part.name();
+    let other = sent(alloc, &part)?;
+    Ok(other)
+}
+
+/// What a holder sends for the Get of a token; none where it has nothing. At an error no memory was left.
 fn held(
     alloc: Global,
     holder: &Replica,
@@ -65,13 +110,13 @@ fn held(
     requires get { IsGetFor get.now name.now }
     requires accepted { IfSome (staged_for holder.now get.now.value) (IsAccepted (arc_value schema.now) get.now.value) }
     requires small { HasSmallParts holder.now }
-    ensures { IfOk result (λ part. IsHeld (arc_value schema.now) holder.now get.now name.now len (option_map arc_value part)) }
+    ensures { IfOk result (λ part. IsSent (arc_value schema.now) holder.now get.now name.now len (option_map arc_value part)) }
 {
-    if let Some(part) = part_within(holder, name, len) {
-        return Ok(Some(sent(alloc, part)?));
-    }
-    match staged_part(alloc, holder, get, schema)? {
-        Some(part) => Ok(Some(sent(alloc, &part)?)),
+    match take_held(holder, get, name, len)? {
+        Some(held) => {
+            let part = send(alloc, held, schema)?;
+            Ok(Some(part))
+        }
         None => Ok(None),
     }
 }
