@@ -89,12 +89,12 @@ drops s a u r p place below w k d t h =
     let x = dropped-at s a p place k in
     let state = record t { log = DropRange p (next_number t.next p) ∷ t.log; next = with_next t.next p (next_number t.next p + 1); quorum = quorum_after_drop p (next_number t.next p) t.quorum } in
     let last = d.does state (drop-shows s a p place w k n t h) in
-    let at : place ≡ length t.log = newest-place s k.after p place n ∙ ap (λ (l : List Entry). length l) (sym h.log) in
+    let at : place ≡ length t.log = newest-place s k.after p place n ∙ ap (λ (l : List Entry). length l) (sym h.table.log) in
     record {
       state = with_drop t r p;
       holds = inl (record {
         exists = subst (λ i. 0 < i) (sym (next-shown s t p h)) n.appends.at.does.exists;
-        room = (ap (λ (y : List (Option ℕ × ℕ)). drop_limit y t.log p) h.next ∙ ap (λ (l : List Entry). drop_limit s.table.next l p) h.log) ∙ n.appends.at.does.within;
+        room = (ap (λ (y : List (Option ℕ × ℕ)). drop_limit y t.log p) h.table.next ∙ ap (λ (l : List Entry). drop_limit s.table.next l p) h.table.log) ∙ n.appends.at.does.within;
         number = number-is a.table.log place x.number below p d.number x.entry ∙ (x.given ∙ sym (next-shown s t p h));
         change = refl;
       });

@@ -32,7 +32,7 @@ digests-told s r read parts schema (Ok a) items e f g k q = λ t h.
       holds = record {
         names = names_in read;
         fair = reading.fair;
-        are = q ∙ (ap (λ (c : Shape). map {B = Name × List ℕ} (λ part. (part.name, digest_in c part)) parts) (f ∙ sym h.schema)
+        are = q ∙ (ap (λ (c : Shape). map {B = Name × List ℕ} (λ part. (part.name, digest_in c part)) parts) (f ∙ sym h.table.schema)
             ∙ (ap (λ (ps : List NamedData). map {B = Name × List ℕ} (λ part. (part.name, digest_in t.schema part)) ps) e ∙ each-digest t.schema (data_at t) read reading.holds));
         change = refl;
       };

@@ -328,9 +328,9 @@ get-pending s u a place w asked g f = go (some-shown s w).0 (some-shown s w).1
         digest = g.block.digest;
         source = a.writer;
         need = a.need;
-        entry = subst (λ (log : List Entry). entry_at log place ≡ Some (Get g.block.partition g.number g.block.digest a.writer a.need)) (sym h.log) g.is.entry;
+        entry = subst (λ (log : List Entry). entry_at log place ≡ Some (Get g.block.partition g.number g.block.digest a.writer a.need)) (sym h.table.log) g.is.entry;
         known = learned-here t.known a.writer place;
-        named = λ q e. g.waits asked q (sym (ap (λ (z : Quorum). z.pending) h.quorum) ∙ e);
+        named = λ q e. g.waits asked q (sym (ap (λ (z : Quorum). z.pending) h.table.quorum) ∙ e);
       };
     }
 

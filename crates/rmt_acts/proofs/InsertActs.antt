@@ -46,7 +46,7 @@ accepts s m c u a b id n place e x k g met t h =
     let begun = x.2 t h in
     let done = (k a b n x.0).2 (with_number t b) begun.shows in
     let shown = subst (λ (up : ℕ → Bool). Shows u (gathered_for a.need up a.writer place (record (with_get (with_number t b) a b n) { known = learned t.known a.writer place }))) e (g _ done.shows) in
-    part-row (ups s) t a n place b u begun.is_new begun.room begun.given done.room done.placed (λ l. ap (λ (q : Quorum). q.pending) shown.quorum ∙ met l) shown
+    part-row (ups s) t a n place b u begun.is_new begun.room begun.given done.room done.placed (λ l. ap (λ (q : Quorum). q.pending) shown.table.quorum ∙ met l) shown
 
 -- a block whose quorum isn't met
 pub lacks-copies : (s m c u : Cluster) (a : Asked) (b : Block) (id n place have : ℕ) → ups c ≡ ups s → Begins s a b (begins.Attempt id n) m → Commits m id (commits.Entry place) c → Spreads c (ups c) a place u → TellsWaiting a.need u (Some have)
@@ -55,7 +55,7 @@ lacks-copies s m c u a b id n place have e x k g waits t h =
     let begun = x.2 t h in
     let done = (k a b n x.0).2 (with_number t b) begun.shows in
     let shown = subst (λ (up : ℕ → Bool). Shows u (gathered_for a.need up a.writer place (record (with_get (with_number t b) a b n) { known = learned t.known a.writer place }))) e (g _ done.shows) in
-    unmet-row (ups s) t a n place b waits.1 have u begun.is_new begun.room begun.given done.room done.placed waits.0 (ap (λ (q : Quorum). q.pending) shown.quorum ∙ waits.2) waits.3 shown
+    unmet-row (ups s) t a n place b waits.1 have u begun.is_new begun.room begun.given done.room done.placed waits.0 (ap (λ (q : Quorum). q.pending) shown.table.quorum ∙ waits.2) waits.3 shown
 
 -- a block that has no room
 pub lacks-room : (s m u : Cluster) (a : Asked) (b : Block) (id n : ℕ) (limit : Limit) (value : ℕ) → Begins s a b (begins.Attempt id n) m → Commits m id (commits.Full limit value) u → (t : TableState) → Shows s t → Leads u (ComesTo (ups s) t a b (outcomes.Refused (LimitReached limit value)))

@@ -129,7 +129,7 @@ one-more s u v r all i names out o name l k f e g d idle up a b m =
 
 -- the partitions that are asked for are so in every state that is shown
 shown-asked : (s : Cluster) (t : TableState) (asked : Option (Option ℕ)) (all : List (Option ℕ)) → all ≡ partitions_asked asked s.table.log → Shows s t → all ≡ partitions_asked asked t.log
-shown-asked s t asked all e h = e ∙ ap (partitions_asked asked) (sym h.log)
+shown-asked s t asked all e h = e ∙ ap (partitions_asked asked) (sym h.table.log)
 
 -- it ends at one that can't be merged
 pub ends-there : (s u v : Cluster) (r : ℕ) (asked : Option (Option ℕ)) (all : List (Option ℕ)) (i : ℕ) (names out : List Name) (o : Optimized) (why : Refusal) → all ≡ partitions_asked asked s.table.log → i < length all

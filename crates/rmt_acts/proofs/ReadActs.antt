@@ -58,16 +58,16 @@ data-read schema t (p ∷ parts) e f =
 reading : (s : Cluster) (k : ℕ) (x : Replica) (parts : List NamedData) → IsWhole s → IsNumbered s k x → parts ≡ parts_read s.table.schema x.parts → (t : TableState) → Shows s t → IsReading t k parts
 reading s k x parts w at e t h = subst (IsReading t k) (sym e) (record {
   fair = subst (AreFair t.log (t.known k)) (sym (names-read s.table.schema x.parts))
-      (subst (λ (l : List Entry). AreFair l (t.known k) (names_of x.parts)) (sym (h.log ∙ f.prefix.is)) (fair-behind f.prefix.gained x.log (t.known k) (names_of x.parts) knows.within knows.fair));
-  holds = data-read s.table.schema t x.parts (sym h.schema) (λ p j. (part-content s x p w f j).1 ∙ sym (ap (λ (c : Shape). content c t.log (rows_at t.blocks) p.name) h.schema
-      ∙ (ap (λ (l : List Entry). content s.table.schema l (rows_at t.blocks) p.name) h.log ∙ ap (λ (bs : List Accepted). content s.table.schema s.table.log (rows_at bs) p.name) h.blocks)));
+      (subst (λ (l : List Entry). AreFair l (t.known k) (names_of x.parts)) (sym (h.table.log ∙ f.prefix.is)) (fair-behind f.prefix.gained x.log (t.known k) (names_of x.parts) knows.within knows.fair));
+  holds = data-read s.table.schema t x.parts (sym h.table.schema) (λ p j. (part-content s x p w f j).1 ∙ sym (ap (λ (c : Shape). content c t.log (rows_at t.blocks) p.name) h.table.schema
+      ∙ (ap (λ (l : List Entry). content s.table.schema l (rows_at t.blocks) p.name) h.table.log ∙ ap (λ (bs : List Accepted). content s.table.schema s.table.log (rows_at bs) p.name) h.blocks)));
 })
   where
     f : Follows s x
     f = follower s k x w at
 
     knows : Knows x (t.known k)
-    knows = subst (λ n. Knows x (t.known n)) at.number (h.knows x at.is_in)
+    knows = subst (λ n. Knows x (t.known n)) at.number (h.table.knows x at.is_in)
 
 -- the key of what is read
 keys-read : (schema : Shape) (parts : List Copied) → All (λ part. part.rows.key ≡ schema.key) (parts_read schema parts)
@@ -117,18 +117,18 @@ known-whole s k x w at t h all = go f.prefix.gained f.prefix.is
     f = follower s k x w at
 
     knows : Knows x (t.known k)
-    knows = subst (λ n. Knows x (t.known n)) at.number (h.knows x at.is_in)
+    knows = subst (λ n. Knows x (t.known n)) at.number (h.table.knows x at.is_in)
 
     go : (gained : List Entry) → s.table.log ≡ gained ++ x.log → x.log ≡ s.table.log
     go [] e = sym e
     go (g ∷ gained) e =
         let long = length-append gained x.log in
-        let lt = ap (λ (l : List Entry). length l) (h.log ∙ e) in
+        let lt = ap (λ (l : List Entry). length l) (h.table.log ∙ e) in
         absurd (cc (knows.within (length x.log) (omega arith), all (length x.log) (omega (arith, long, lt))))
 
 -- the log that is shown is lawful
 shown-lawful : (s : Cluster) (t : TableState) → IsWhole s → Shows s t → Lawful t.schema t.log
-shown-lawful s t w v = subst (λ (c : Shape). Lawful c t.log) (sym v.schema) (subst (λ (l : List Entry). Lawful s.table.schema l) (sym v.log) w.table.lawful)
+shown-lawful s t w v = subst (λ (c : Shape). Lawful c t.log) (sym v.table.schema) (subst (λ (l : List Entry). Lawful s.table.schema l) (sym v.table.log) w.table.lawful)
 
 -- what is answered over its parts, with the mutations of its copy
 pub answers-all : {A E : Type 0} (result : Result A E) (tuples : A → List (List Cell)) (s : Cluster) (k : ℕ) (parts : List NamedData) (pending log : List Entry) (query : CheckedQuery)
@@ -136,9 +136,9 @@ pub answers-all : {A E : Type 0} (result : Result A E) (tuples : A → List (Lis
     → IfOk result (λ a. tuples a ≡ answer_of s.table.schema query (rows_read pending parts))
     → IfOk result (λ a. (t : TableState) → Shows s t → KnowsAll t k → tuples a ≡ answer_of t.schema query (plain_rows t))
 answers-all (Ok a) tuples s k parts pending log query w h p l r e = λ t v all.
-    let same : log ≡ t.log = l h.replica (numbered s k h) ∙ (known-whole s k h.replica w (numbered s k h) t v all ∙ sym v.log) in
+    let same : log ≡ t.log = l h.replica (numbered s k h) ∙ (known-whole s k h.replica w (numbered s k h) t v all ∙ sym v.table.log) in
     let rows : rows_read pending parts ≡ rows_read t.log parts = ap (λ (m : List Entry). rows_read m parts) p ∙ (all-mutations-read log parts ∙ ap (λ (m : List Entry). rows_read m parts) same) in
-    e ∙ (ap (λ (c : Shape). answer_of c query (rows_read pending parts)) (sym v.schema) ∙ (ap (answer_of t.schema query) rows
+    e ∙ (ap (λ (c : Shape). answer_of c query (rows_read pending parts)) (sym v.table.schema) ∙ (ap (answer_of t.schema query) rows
     ∙ one-answer t.schema query (rows_read t.log parts) (plain_rows t) (plain-read t k parts (shown-lawful s t w v) (r t v) all)))
 answers-all (Err x) tuples s k parts pending log query w h p l r e = tt
 

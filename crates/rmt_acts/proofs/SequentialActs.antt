@@ -74,13 +74,15 @@ any-more test keep (a ∷ names) e = go (keep a) (test a) refl e (any-more test 
 -- what is shown by fewer names is known too
 fewer-shown : (s : Cluster) (t : TableState) (r : ℕ) (part : Option Name) (names : List Name) → Shows s (shown_at r names t) → Shows s (shown_at r (without_part part names) t)
 fewer-shown s t r part names h = record {
-  schema = h.schema;
-  log = h.log;
-  next = h.next;
-  quorum = h.quorum;
+  table = record {
+    schema = h.table.schema;
+    log = h.table.log;
+    next = h.table.next;
+    quorum = h.table.quorum;
+    fetching = h.table.fetching;
+    knows = λ x i. knows-fewer x (learned_shown t.log (without_part part names) t.known r x.number) (learned_shown t.log names t.known r x.number) (λ j. still x.number j) (h.table.knows x i);
+  };
   blocks = h.blocks;
-  fetching = h.fetching;
-  knows = λ x i. knows-fewer x (learned_shown t.log (without_part part names) t.known r x.number) (learned_shown t.log names t.known r x.number) (λ j. still x.number j) (h.knows x i);
 }
   where
     shown : (o : Option Name) → covered_by (without_part part names) o ≡ true → covered_by names o ≡ true
@@ -121,8 +123,8 @@ reads-kept s r part last active kept p l f k c t h =
     record {
       active = names_in active;
       fair = reading.fair;
-      read = ap names_in k ∙ (names-kept part active ∙ ap (λ (o : Option Name). without_part o (names_in active)) (p ∙ ap waiting_part (sym h.quorum)));
-      last = λ a e. c a (l ∙ (ap (λ (q : Quorum). q.last) (sym h.quorum) ∙ e));
+      read = ap names_in k ∙ (names-kept part active ∙ ap (λ (o : Option Name). without_part o (names_in active)) (p ∙ ap waiting_part (sym h.table.quorum)));
+      last = λ a e. c a (l ∙ (ap (λ (q : Quorum). q.last) (sym h.table.quorum) ∙ e));
       holds = subst (λ (ps : List NamedData). data_in ps ≡ map (data_at t) (names_in ps)) (sym k) (data-kept part (data_at t) active reading.holds);
     }
 
@@ -137,7 +139,7 @@ lacks-last s r part last a active kept p l f k e c t h = record {
   active = names_in active;
   fair = (f t h).fair;
   part = a;
-  last = ap (λ (q : Quorum). q.last) h.quorum ∙ (sym l ∙ e);
-  uncovered = ap (λ (ns : List Name). list_any (λ b. covers b a) ns) (sym (ap names_in k ∙ (names-kept part active ∙ ap (λ (o : Option Name). without_part o (names_in active)) (p ∙ ap waiting_part (sym h.quorum))))) ∙ c;
+  last = ap (λ (q : Quorum). q.last) h.table.quorum ∙ (sym l ∙ e);
+  uncovered = ap (λ (ns : List Name). list_any (λ b. covers b a) ns) (sym (ap names_in k ∙ (names-kept part active ∙ ap (λ (o : Option Name). without_part o (names_in active)) (p ∙ ap waiting_part (sym h.table.quorum))))) ∙ c;
   reply = refl;
 }

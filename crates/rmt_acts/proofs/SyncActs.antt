@@ -169,14 +169,16 @@ is-lacking s u k a source w up e t h = record {
     change = refl;
   };
   shows = record {
-    schema = v.schema;
-    log = v.log;
-    next = v.next;
-    quorum = v.quorum;
+    table = record {
+      schema = v.table.schema;
+      log = v.table.log;
+      next = v.table.next;
+      quorum = v.table.quorum;
+      fetching = v.table.fetching;
+      knows = subst (λ j. EachKnows u.replicas (learned_to t.known j l.place)) l.before.is.at.number
+          (done-known u l.before.replica t.known l.place whole l.before.is.at.is_in (let b = entry-below l.before.replica.log l.place _ l.waits.at in omega (arith, b)) l.before.done v.table.knows);
+    };
     blocks = v.blocks;
-    fetching = v.fetching;
-    knows = subst (λ j. EachKnows u (learned_to t.known j l.place)) l.before.is.at.number
-        (done-known u l.before.replica t.known l.place whole l.before.is.at.is_in (let b = entry-below l.before.replica.log l.place _ l.waits.at in omega (arith, b)) l.before.done v.knows);
   };
 }
   where
@@ -193,10 +195,10 @@ is-lacking s u k a source w up e t h = record {
     v = drain-keeps s u k w e.drains t h
 
     same-log : l.before.replica.log ≡ t.log
-    same-log = l.before.whole ∙ sym v.log
+    same-log = l.before.whole ∙ sym v.table.log
 
     nowhere : (j : ℕ) → ups s j ≡ true → t.known j l.place ≡ false
-    nowhere j b = unknown-there u k l.place l.before.replica l.partition l.number source l.need l.digest a t.known whole l.before.whole l.waits l.lacks (λ z i. v.knows z i) j (ap (λ (f : ℕ → Bool). f j) ups-are ∙ b)
+    nowhere j b = unknown-there u k l.place l.before.replica l.partition l.number source l.need l.digest a t.known whole l.before.whole l.waits l.lacks (λ z i. v.table.knows z i) j (ap (λ (f : ℕ → Bool). f j) ups-are ∙ b)
 
 -- ---- a replica that has done each Get
 

@@ -106,7 +106,7 @@ begins s u e r need id n b w z k d f t h =
     record {
       unkept = kept-shown s t b w h ∙ d.call.unkept;
       number = number-shown s t b h ∙ d.call.within;
-      given = is-number ∙ (d.call.number ∙ ap (λ (x : List (Option ℕ × ℕ)). next_number x b.partition) (sym h.next));
+      given = is-number ∙ (d.call.number ∙ ap (λ (x : List (Option ℕ × ℕ)). next_number x b.partition) (sym h.table.next));
       shows = shows-next s u e (rp.Attempt id n) t (with_next t.next b.partition (number_for t b + 1)) w z k (keeps-stored s u e (rp.Attempt id n) k (ap (λ (x : Table). x.schema) table-is) (ap (λ (x : Table). x.log) table-is) (ap (λ (x : Table). x.quorum) table-is) (ap (λ (x : Cluster). x.events) d.change) f)
           (numbers d.number d.call.number ∙ sym (ap (λ (x : Cluster). x.table.next) k.stored ∙ ap (λ (x : Table). x.next) table-is)) h;
     }
@@ -118,7 +118,7 @@ begins s u e r need id n b w z k d f t h =
     table-is = ap (λ (x : Cluster). x.table) d.change ∙ d.call.change
 
     numbers : (m : ℕ) → m ≡ next_number s.table.next b.partition → with_next t.next b.partition (number_for t b + 1) ≡ with_next s.table.next b.partition (m + 1)
-    numbers m q = ap (λ (x : List (Option ℕ × ℕ)). with_next x b.partition (next_number x b.partition + 1)) h.next ∙ ap (λ i. with_next s.table.next b.partition (i + 1)) (sym q)
+    numbers m q = ap (λ (x : List (Option ℕ × ℕ)). with_next x b.partition (next_number x b.partition + 1)) h.table.next ∙ ap (λ i. with_next s.table.next b.partition (i + 1)) (sym q)
 
 -- the attempt is open, under the table's next number, and no quorum kept it out
 pub begun : (s u : Cluster) (a : Asked) (raw : Offered) (id n : ℕ) → IsWhole s → Step s (ev.Allocate a.writer raw a.need) (rp.Attempt id n) u

@@ -148,15 +148,17 @@ takes : (s u : Cluster) (id : ℕ) (a : Asked) (b : Block) (n place : ℕ) → I
 takes s u id a b n place w o k c t h =
     record {
       room = room-shown s t b w h ∙ c.call.within;
-      placed = c.placed ∙ ap (λ (l : List Entry). length l) (sym h.log);
+      placed = c.placed ∙ ap (λ (l : List Entry). length l) (sym h.table.log);
       shows = record {
-        schema = h.schema ∙ sym (ap (λ (x : Cluster). x.table.schema) c.change ∙ ap (λ (x : Table). x.schema) c.call.change);
-        log = ap (λ (l : List Entry). Get b.partition n b.digest a.writer a.need ∷ l) h.log ∙ sym (log-after s u id a b n place c);
-        next = h.next ∙ sym (ap (λ (x : Cluster). x.table.next) c.change ∙ ap (λ (x : Table). x.next) c.call.change);
-        quorum = ap (quorum_after_block (block_name b.partition n) a.need) h.quorum ∙ sym (ap (λ (x : Cluster). x.table.quorum) c.change ∙ ap (λ (x : Table). x.quorum) c.call.change);
+        table = record {
+          schema = h.table.schema ∙ sym (ap (λ (x : Cluster). x.table.schema) c.change ∙ ap (λ (x : Table). x.schema) c.call.change);
+          log = ap (λ (l : List Entry). Get b.partition n b.digest a.writer a.need ∷ l) h.table.log ∙ sym (log-after s u id a b n place c);
+          next = h.table.next ∙ sym (ap (λ (x : Cluster). x.table.next) c.change ∙ ap (λ (x : Table). x.next) c.call.change);
+          quorum = ap (quorum_after_block (block_name b.partition n) a.need) h.table.quorum ∙ sym (ap (λ (x : Cluster). x.table.quorum) c.change ∙ ap (λ (x : Table). x.quorum) c.call.change);
+          fetching = h.table.fetching ∙ sym (switch-step s u (ev.Commit id) (rp.Entry place) w tt k);
+          knows = knows-step s u (ev.Commit id) (rp.Entry place) t.known w k h.table.knows;
+        };
         blocks = ap (λ (bs : List Accepted). record { partition = b.partition; number = n; rows = b.rows } ∷ bs) h.blocks ∙ sym (blocks-after s u id a b n place w o c);
-        fetching = h.fetching ∙ sym (switch-step s u (ev.Commit id) (rp.Entry place) w tt k);
-        knows = knows-step s u (ev.Commit id) (rp.Entry place) t.known w k h.knows;
       };
     }
 
@@ -182,6 +184,6 @@ no-room s u id a b n limit value w o k t h = go k.does
           room-shown s t b w h ∙ c.2,
           shows-next s u (ev.Commit id) (rp.Refused (rf.LimitReached limit value)) t t.next w tt k
               (keeps-stored s u (ev.Commit id) (rp.Refused (rf.LimitReached limit value)) k (ap (λ (x : Table). x.schema) q) (ap (λ (x : Table). x.log) q) (ap (λ (x : Table). x.quorum) q) (ap (λ (x : Cluster). x.events) d.ends.change) (λ xs i. refl))
-              (h.next ∙ sym (ap (λ (x : Cluster). x.table.next) k.stored ∙ ap (λ (x : Table). x.next) q)) h,
+              (h.table.next ∙ sym (ap (λ (x : Cluster). x.table.next) k.stored ∙ ap (λ (x : Table). x.next) q)) h,
         )
     go (inr (inr d)) = absurd (refused-commit s id a b n d.why w o d.cause)

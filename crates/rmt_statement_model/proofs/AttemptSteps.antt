@@ -188,4 +188,7 @@ apply-reply s u place a b n reply w up z l st = go st.does
 pub applied-shows : (s u : Cluster) (k i : ℕ) (comes : Applied) → IsWhole s → Step s (ev.Apply k i) (rp.Applied comes) u → (t : TableState) → Shows s t → Shows u (record t { known = learned t.known k i })
 applied-shows s u k i comes w st t h =
     let v = quiet-shows s u (ev.Apply k i) (rp.Applied comes) w tt st t h in
-    record { schema = v.schema; log = v.log; next = v.next; quorum = v.quorum; blocks = v.blocks; fetching = v.fetching; knows = learns-step s u k i comes t.known w st h.knows }
+    record {
+      table = record { schema = v.table.schema; log = v.table.log; next = v.table.next; quorum = v.table.quorum; fetching = v.table.fetching; knows = learns-step s u k i comes t.known w st h.table.knows };
+      blocks = v.blocks;
+    }

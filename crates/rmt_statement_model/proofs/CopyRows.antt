@@ -108,13 +108,13 @@ known-covered s t place r y w h at c kept = at-mark (before place (length y.log)
     get = Get c.partition c.number c.digest c.source c.need
 
     knows : Knows y (t.known r)
-    knows = subst (λ j. Knows y (t.known j)) at.number (h.knows y at.is_in)
+    knows = subst (λ j. Knows y (t.known j)) at.number (h.table.knows y at.is_in)
 
     prefix : IsPrefix y.log s.table.log
     prefix = Follows.prefix (Each-at (Follows s) s.replicas y w.follow at.is_in)
 
     stands : place < length y.log → entry_at y.log place ≡ Some get
-    stands b = entry-front prefix.gained y.log place get b (subst (λ (z : List Entry). entry_at z place ≡ Some get) (h.log ∙ prefix.is) c.entry)
+    stands b = entry-front prefix.gained y.log place get b (subst (λ (z : List Entry). entry_at z place ≡ Some get) (h.table.log ∙ prefix.is) c.entry)
 
     before : (j m : ℕ) → (j < m) ⊎ (m ≤ j)
     before j m = grind arith
@@ -137,7 +137,7 @@ notes s u place k reply t w up h c st = ap (λ (x : Cluster). x.table) st.stored
     nothing : (d : NotesNothing s k reply st.after) → (o : Option Pending) → s.table.quorum.pending ≡ o → st.after.table ≡ record s.table { quorum = quorum_after_note k s.table.quorum }
     nothing d None e = ap (λ (x : Cluster). x.table) d.unchanged ∙ none e
     nothing d (Some q) e =
-        let named : q.part ≡ block_name c.partition c.number = c.named q (ap (λ (x : Quorum). x.pending) h.quorum ∙ e) in
+        let named : q.part ≡ block_name c.partition c.number = c.named q (ap (λ (x : Quorum). x.pending) h.table.quorum ∙ e) in
         let covered = known-covered s t place k d.replica w h d.is.at c (λ x. waiting-kept s q w e (subst (Dropped s.table.log) (sym named) x)) in
         absurd (d.none q e (subst (CoveredBy (names_of d.replica.parts)) (sym named) covered))
 
@@ -164,14 +164,14 @@ note-pending s u place r k f c = record { state = record c.state { quorum = quor
 refused-copy : (s : Cluster) (place r k : ℕ) (t : TableState) (why : StepRefused) → IsWhole s → ups s k ≡ true → fetching_of s k ≡ true → ups s r ≡ true → Shows s t → KnowsPending t place r → HasWholeLog s k → NoApply s k place why → ⊥
 refused-copy s place r k t rf.Down w up f there h c l x = not-down s k w up x
 refused-copy s place r k t rf.NotLive w up f there h c l x =
-    never-past s place k x.0 (Get c.partition c.number c.digest c.source c.need) w (subst (λ (z : List Entry). entry_at z place ≡ Some (Get c.partition c.number c.digest c.source c.need)) h.log c.entry) l x.1.at x.2
+    never-past s place k x.0 (Get c.partition c.number c.digest c.source c.need) w (subst (λ (z : List Entry). entry_at z place ≡ Some (Get c.partition c.number c.digest c.source c.need)) h.table.log c.entry) l x.1.at x.2
 refused-copy s place r k t (rf.NeedsPart name) w up f there h c l x =
     let get : Entry = Get c.partition c.number c.digest c.source c.need in
-    let entry = subst (λ (z : List Entry). entry_at z place ≡ Some get) h.log c.entry in
+    let entry = subst (λ (z : List Entry). entry_at z place ≡ Some get) h.table.log c.entry in
     let own : x.1 ≡ get = own-entry s place k x.0 x.1 get w entry l x.2 in
     let waits = subst (WaitsAt s k place x.0) own x.2 in
     let lacks = subst (λ (e : Entry). LacksPart s k x.0 e name) own x.3 in
-    let none = unknown-there s k place x.0 c.partition c.number c.source c.need c.digest name t.known w (own-log s k x.0 w l x.2.is.at) waits lacks (λ z i. h.knows z i) r there in
+    let none = unknown-there s k place x.0 c.partition c.number c.source c.need c.digest name t.known w (own-log s k x.0 w l x.2.is.at) waits lacks (λ z i. h.table.knows z i) r there in
     let known = c.known in
     absurd (cc)
 refused-copy s place r k t rf.FetchesStopped w up f there h c l x =
@@ -238,8 +238,8 @@ copies-pending s u place r k f c = record { state = copied place k c.state; show
 -- who is asked is told by the cluster
 pub asked-shown : (s : Cluster) (t : TableState) (up : ℕ → Bool) (r k : ℕ) → Shows s t → ups s ≡ up → is_asked t.quorum.pending up t.fetching r k ≡ is_asked s.table.quorum.pending (ups s) (fetching_of s) r k
 asked-shown s t up r k h e =
-    ap (λ (o : Option Pending). is_asked o up t.fetching r k) (ap (λ (q : Quorum). q.pending) h.quorum)
-    ∙ (ap (λ (f : ℕ → Bool). is_asked s.table.quorum.pending up f r k) h.fetching ∙ ap (λ (g : ℕ → Bool). is_asked s.table.quorum.pending g (fetching_of s) r k) (sym e))
+    ap (λ (o : Option Pending). is_asked o up t.fetching r k) (ap (λ (q : Quorum). q.pending) h.table.quorum)
+    ∙ (ap (λ (f : ℕ → Bool). is_asked s.table.quorum.pending up f r k) h.table.fetching ∙ ap (λ (g : ℕ → Bool). is_asked s.table.quorum.pending g (fetching_of s) r k) (sym e))
 
 -- the next one
 pub copied-next : (s u : Cluster) (t : TableState) (up : ℕ → Bool) (r place n : ℕ) (b : Bool) → Shows s (copied_to up r place n t) → ups s ≡ up → is_asked s.table.quorum.pending (ups s) (fetching_of s) r (suc n) ≡ b

@@ -18,7 +18,7 @@ use Rattle.rmt_events.specs.declared.reply.Reply.TheVariants as rp
 
 -- what the state says of a partition's next number is what the table says
 pub next-shown : (s : Cluster) (t : TableState) (p : Option ℕ) → Shows s t → next_number t.next p ≡ next_number s.table.next p
-next-shown s t p h = ap (λ (x : List (Option ℕ × ℕ)). next_number x p) h.next
+next-shown s t p h = ap (λ (x : List (Option ℕ × ℕ)). next_number x p) h.table.next
 
 -- the drop is the table's newest entry, with the partition's next number
 pub record DropsNewest (s : Cluster) (p : Option ℕ) (place : ℕ) (after : Cluster) : Type 0 where
@@ -54,11 +54,11 @@ drop-shows s u p place w k d t h =
     (sym (ap (λ (x : Cluster). x.table.next) k.stored
     ∙ (ap (λ (x : Cluster). x.table.next) d.appends.at.change
     ∙ (ap (λ (x : Table). x.next) d.appends.at.does.change
-    ∙ (ap (λ i. with_next s.table.next p (i + 1)) given ∙ ap (λ (x : List (Option ℕ × ℕ)). with_next x p (next_number t.next p + 1)) (sym h.next))))))
+    ∙ (ap (λ i. with_next s.table.next p (i + 1)) given ∙ ap (λ (x : List (Option ℕ × ℕ)). with_next x p (next_number t.next p + 1)) (sym h.table.next))))))
     (sym (ap (λ (x : Cluster). x.table.quorum) k.stored
     ∙ (ap (λ (x : Cluster). x.table.quorum) d.appends.at.change
     ∙ (ap (λ (x : Table). x.quorum) d.appends.at.does.change
-    ∙ (ap (λ i. quorum_after_drop p i s.table.quorum) given ∙ ap (λ (q : Quorum). quorum_after_drop p (next_number t.next p) q) (sym h.quorum))))))
+    ∙ (ap (λ i. quorum_after_drop p i s.table.quorum) given ∙ ap (λ (q : Quorum). quorum_after_drop p (next_number t.next p) q) (sym h.table.quorum))))))
     h
   where
     given : d.n ≡ next_number t.next p

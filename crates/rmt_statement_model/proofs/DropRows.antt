@@ -62,7 +62,7 @@ drop-reply s u p reply k = go k.does
 
 -- what the state says of the limit of one more drop is what the table says
 limit-shown : (s : Cluster) (t : TableState) (p : Option ℕ) → Shows s t → drop_limit t.next t.log p ≡ drop_limit s.table.next s.table.log p
-limit-shown s t p h = ap (λ (x : List (Option ℕ × ℕ)). drop_limit x t.log p) h.next ∙ ap (λ (l : List Entry). drop_limit s.table.next l p) h.log
+limit-shown s t p h = ap (λ (x : List (Option ℕ × ℕ)). drop_limit x t.log p) h.table.next ∙ ap (λ (l : List Entry). drop_limit s.table.next l p) h.table.log
 
 -- a partition exists where the table says so
 exists-shown : (s : Cluster) (t : TableState) (p : Option ℕ) → Shows s t → 0 < next_number s.table.next p → 0 < next_number t.next p
@@ -127,7 +127,7 @@ drop-row s a b u r p place reply comes w drop pull apply t h =
     let wb = whole-step a b (ev.Pull r) reply wa pull in
     let state = record t { log = DropRange p (next_number t.next p) ∷ t.log; next = with_next t.next p (next_number t.next p + 1); quorum = quorum_after_drop p (next_number t.next p) t.quorum } in
     let last = applied-shows b u r place comes wb apply state (quiet-shows a b (ev.Pull r) reply wa tt pull state (drop-shows s a p place w drop d t h)) in
-    let at : place ≡ length t.log = newest-place s drop.after p place d ∙ ap (λ (l : List Entry). length l) (sym h.log) in
+    let at : place ≡ length t.log = newest-place s drop.after p place d ∙ ap (λ (l : List Entry). length l) (sym h.table.log) in
     record {
       state = with_drop t r p;
       holds = record {

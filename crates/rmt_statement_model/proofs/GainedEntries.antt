@@ -51,11 +51,13 @@ gains-stored s u event reply e k p q v f =
 pub gained-shows : (s u : Cluster) (event : Event) (reply : Reply) (e : Entry) (t : TableState) (next : List (Option ℕ × ℕ)) (quorum : Quorum) → IsWhole s → IsNoSwitch event → Step s event reply u → GainsEntry s u e → IsOfNoBlock e → next ≡ u.table.next → quorum ≡ u.table.quorum → Shows s t → Shows u (record t { log = e ∷ t.log; next = next; quorum = quorum })
 gained-shows s u event reply e t next quorum w z k g q n m h =
     record {
-      schema = h.schema ∙ sym g.schema;
-      log = ap (λ (l : List Entry). e ∷ l) h.log ∙ sym g.log;
-      next = n;
-      quorum = m;
+      table = record {
+        schema = h.table.schema ∙ sym g.schema;
+        log = ap (λ (l : List Entry). e ∷ l) h.table.log ∙ sym g.log;
+        next = n;
+        quorum = m;
+        fetching = h.table.fetching ∙ sym (switch-step s u event reply w z k);
+        knows = knows-step s u event reply t.known w k h.table.knows;
+      };
       blocks = h.blocks ∙ sym (ap (λ (l : List Entry). blocks_in l u.events) g.log ∙ (blocks-behind e s.table.log u.events q ∙ blocks-same s.table.log s.events u.events (λ i l. g.commits i)));
-      fetching = h.fetching ∙ sym (switch-step s u event reply w z k);
-      knows = knows-step s u event reply t.known w k h.knows;
     }

@@ -57,7 +57,7 @@ quorum-none s t need c h q = rw enough (go (nat_le 2 need) refl)
     enough = let e = q.enough in grind (arith, nat_tests)
 
     go : (b : Bool) → nat_le 2 need ≡ b → cond b (refused_waiting t.quorum.pending) None ≡ None
-    go true e = ap refused_waiting (ap (λ (x : Quorum). x.pending) h.quorum ∙ q.quiet (let l : 2 ≤ need = grind (arith, nat_tests) in l))
+    go true e = ap refused_waiting (ap (λ (x : Quorum). x.pending) h.table.quorum ∙ q.quiet (let l : 2 ≤ need = grind (arith, nat_tests) in l))
     go false e = refl
 
 -- too few replicas are up for it
@@ -77,7 +77,7 @@ quorum-waits s t need part c h m =
     let f = m.1 in
     let enough : nat_lt (count_live (ups s)) need ≡ false = grind (arith, nat_tests) in
     let asked : nat_le 2 need ≡ true = grind (arith, nat_tests) in
-    rw (enough, asked) (ap refused_waiting (ap (λ (x : Quorum). x.pending) h.quorum ∙ m.3) ∙ ap (λ (z : Name). Some (QuorumPending z)) m.4)
+    rw (enough, asked) (ap refused_waiting (ap (λ (x : Quorum). x.pending) h.table.quorum ∙ m.3) ∙ ap (λ (z : Name). Some (QuorumPending z)) m.4)
 
 -- ---- one block
 

@@ -32,37 +32,37 @@ use Rattle.rmt_events.specs.declared.reply.Reply.TheVariants as rp
 -- ---- one replica changes
 
 -- it knows what it is to know, and so do the others
-replaced-knows : (s : Cluster) (k : ℕ) (x y : Replica) (old new : ℕ → ℕ → Bool) → IsWhole s → IsNumbered s k x → y.number ≡ x.number → EachKnows s old → (Knows x (old x.number) → Knows y (new y.number)) → ((z : Replica) → (z.number ≡ k → ⊥) → Knows z (old z.number) → Knows z (new z.number)) → (z : Replica) → Has (with_replica s.replicas k y) z → Knows z (new z.number)
+replaced-knows : (s : Cluster) (k : ℕ) (x y : Replica) (old new : ℕ → ℕ → Bool) → IsWhole s → IsNumbered s k x → y.number ≡ x.number → EachKnows s.replicas old → (Knows x (old x.number) → Knows y (new y.number)) → ((z : Replica) → (z.number ≡ k → ⊥) → Knows z (old z.number) → Knows z (new z.number)) → (z : Replica) → Has (with_replica s.replicas k y) z → Knows z (new z.number)
 replaced-knows s k x y old new w at e f g h z i = elim (has-other s.replicas k y z w.rising i) [
   | inl q ↦ subst (λ (v : Replica). Knows v (new v.number)) q (g (f x at.is_in))
   | inr m ↦ h z m.1 (f z m.0)
 ]
 
 -- its copy and its parts don't change
-quiet : (s : Cluster) (k : ℕ) (x y : Replica) (known : ℕ → ℕ → Bool) → IsWhole s → IsNumbered s k x → y.number ≡ x.number → y.log ≡ x.log → y.parts ≡ x.parts → EachKnows s known → (z : Replica) → Has (with_replica s.replicas k y) z → Knows z (known z.number)
+quiet : (s : Cluster) (k : ℕ) (x y : Replica) (known : ℕ → ℕ → Bool) → IsWhole s → IsNumbered s k x → y.number ≡ x.number → y.log ≡ x.log → y.parts ≡ x.parts → EachKnows s.replicas known → (z : Replica) → Has (with_replica s.replicas k y) z → Knows z (known z.number)
 quiet s k x y known w at e l p f =
     replaced-knows s k x y known known w at e f (λ v. subst (λ j. Knows y (known j)) (sym e) (knows-same x y (known x.number) l p v)) (λ z h v. v)
 
 -- it alone changes
-at-replica : (s t : Cluster) (k : ℕ) (Change : Replica → Replica → Type 0) (known : ℕ → ℕ → Bool) → IsWhole s → (a : AtReplica s k Change t) → a.new.number ≡ a.old.number → (Knows a.old (known a.old.number) → Knows a.new (known a.old.number)) → EachKnows s known → EachKnows t known
+at-replica : (s t : Cluster) (k : ℕ) (Change : Replica → Replica → Type 0) (known : ℕ → ℕ → Bool) → IsWhole s → (a : AtReplica s k Change t) → a.new.number ≡ a.old.number → (Knows a.old (known a.old.number) → Knows a.new (known a.old.number)) → EachKnows s.replicas known → EachKnows t.replicas known
 at-replica s t k Change known w a e g f =
-    subst (λ (u : Cluster). EachKnows u known) (sym a.change)
+    subst (λ (u : Cluster). EachKnows u.replicas known) (sym a.change)
     (replaced-knows s k a.old a.new known known w a.at e f (λ v. subst (λ j. Knows a.new (known j)) (sym e) (g v)) (λ z n v. v))
 
 -- ---- an entry is looked at
 
 -- the place is known at the replica, and all else is known as it was
-applies-known : (s t : Cluster) (k i : ℕ) (reply : Reply) (known : ℕ → ℕ → Bool) → IsWhole s → Applies s k i reply t → EachKnows s known → EachKnows t (learned known k i)
+applies-known : (s t : Cluster) (k i : ℕ) (reply : Reply) (known : ℕ → ℕ → Bool) → IsWhole s → Applies s k i reply t → EachKnows s.replicas known → EachKnows t.replicas (learned known k i)
 applies-known s t k i reply known w a f =
     let r = a.at in
     let n = number-applies s r.old r.new i a.comes r.does.1 in
-    subst (λ (u : Cluster). EachKnows u (learned known k i)) (sym r.change)
+    subst (λ (u : Cluster). EachKnows u.replicas (learned known k i)) (sym r.change)
     (replaced-knows s k r.old r.new known (learned known k i) w r.at n f
     (λ v. knows-here r.old r.new k i known (copy-applies s r.old r.new i a.comes r.does.1) n r.does.0 v (learns-applies s r.old r.new i a.comes (known r.old.number) w (follower s k r.old w r.at) v r.does.1))
     (λ z m v. knows-elsewhere z k i known m v))
 
 -- what was known stays known
-applies-knows : (s t : Cluster) (k i : ℕ) (reply : Reply) (known : ℕ → ℕ → Bool) → IsWhole s → Applies s k i reply t → EachKnows s known → EachKnows t known
+applies-knows : (s t : Cluster) (k i : ℕ) (reply : Reply) (known : ℕ → ℕ → Bool) → IsWhole s → Applies s k i reply t → EachKnows s.replicas known → EachKnows t.replicas known
 applies-knows s t k i reply known w a f z h = knows-fewer z (learned known k i z.number) (known z.number) (λ j e. more (nat_eq z.number k && nat_eq j i) (known z.number j) e) (applies-known s t k i reply known w a f z h)
   where
     more : (b d : Bool) → d ≡ true → (b || d) ≡ true
@@ -72,67 +72,67 @@ applies-knows s t k i reply known w a f z h = knows-fewer z (learned known k i z
 -- ---- each event
 
 -- what the event does, before it is stored
-knows-does : (s t : Cluster) (e : Event) (r : Reply) (known : ℕ → ℕ → Bool) → IsWhole s → Does s e r t → EachKnows s known → EachKnows t known
-knows-does s t (ev.Allocate k b need) r known w (inl d) f = subst (λ (u : Cluster). EachKnows u known) (sym d.change) f
-knows-does s t (ev.Allocate k b need) r known w (inr d) f = subst (λ (u : Cluster). EachKnows u known) (sym d.unchanged) f
-knows-does s t (ev.Again id) r known w (inl d) f = subst (λ (u : Cluster). EachKnows u known) (sym d.change) f
-knows-does s t (ev.Again id) r known w (inr d) f = subst (λ (u : Cluster). EachKnows u known) (sym d.unchanged) f
+knows-does : (s t : Cluster) (e : Event) (r : Reply) (known : ℕ → ℕ → Bool) → IsWhole s → Does s e r t → EachKnows s.replicas known → EachKnows t.replicas known
+knows-does s t (ev.Allocate k b need) r known w (inl d) f = subst (λ (u : Cluster). EachKnows u.replicas known) (sym d.change) f
+knows-does s t (ev.Allocate k b need) r known w (inr d) f = subst (λ (u : Cluster). EachKnows u.replicas known) (sym d.unchanged) f
+knows-does s t (ev.Again id) r known w (inl d) f = subst (λ (u : Cluster). EachKnows u.replicas known) (sym d.change) f
+knows-does s t (ev.Again id) r known w (inr d) f = subst (λ (u : Cluster). EachKnows u.replicas known) (sym d.unchanged) f
 knows-does s t (ev.Stage id) r known w (inl d) f =
     let a = d.at in
     at-replica s t d.attempt.replica _ known w a (ap (λ (z : Replica). z.number) a.does) (λ v. knows-same a.old a.new (known a.old.number) (ap (λ (z : Replica). z.log) a.does) (ap (λ (z : Replica). z.parts) a.does) v) f
-knows-does s t (ev.Stage id) r known w (inr d) f = subst (λ (u : Cluster). EachKnows u known) (sym d.unchanged) f
-knows-does s t (ev.Commit id) r known w (inl d) f = subst (λ (u : Cluster). EachKnows u known) (sym d.change) f
+knows-does s t (ev.Stage id) r known w (inr d) f = subst (λ (u : Cluster). EachKnows u.replicas known) (sym d.unchanged) f
+knows-does s t (ev.Commit id) r known w (inl d) f = subst (λ (u : Cluster). EachKnows u.replicas known) (sym d.change) f
 knows-does s t (ev.Commit id) r known w (inr (inl d)) f =
     let e = d.ends in
-    subst (λ (u : Cluster). EachKnows u known) (sym e.change) (quiet s e.attempt.replica e.replica e.new known w e.at (ap (λ (z : Replica). z.number) e.unstages) (ap (λ (z : Replica). z.log) e.unstages) (ap (λ (z : Replica). z.parts) e.unstages) f)
-knows-does s t (ev.Commit id) r known w (inr (inr d)) f = subst (λ (u : Cluster). EachKnows u known) (sym d.unchanged) f
+    subst (λ (u : Cluster). EachKnows u.replicas known) (sym e.change) (quiet s e.attempt.replica e.replica e.new known w e.at (ap (λ (z : Replica). z.number) e.unstages) (ap (λ (z : Replica). z.log) e.unstages) (ap (λ (z : Replica). z.parts) e.unstages) f)
+knows-does s t (ev.Commit id) r known w (inr (inr d)) f = subst (λ (u : Cluster). EachKnows u.replicas known) (sym d.unchanged) f
 knows-does s t (ev.Abandon id) r known w (inl d) f =
     let e = d.0 in
-    subst (λ (u : Cluster). EachKnows u known) (sym e.change) (quiet s e.attempt.replica e.replica e.new known w e.at (ap (λ (z : Replica). z.number) e.unstages) (ap (λ (z : Replica). z.log) e.unstages) (ap (λ (z : Replica). z.parts) e.unstages) f)
-knows-does s t (ev.Abandon id) r known w (inr d) f = subst (λ (u : Cluster). EachKnows u known) (sym d.unchanged) f
+    subst (λ (u : Cluster). EachKnows u.replicas known) (sym e.change) (quiet s e.attempt.replica e.replica e.new known w e.at (ap (λ (z : Replica). z.number) e.unstages) (ap (λ (z : Replica). z.log) e.unstages) (ap (λ (z : Replica). z.parts) e.unstages) f)
+knows-does s t (ev.Abandon id) r known w (inr d) f = subst (λ (u : Cluster). EachKnows u.replicas known) (sym d.unchanged) f
 knows-does s t (ev.Pull k) r known w (inl d) f =
     let a = d.at in
     at-replica s t k _ known w a (ap (λ (z : Replica). z.number) a.does) (λ v. knows-pulls a.old a.new s.table.log (known a.old.number) (Follows.prefix (follower s k a.old w a.at)) v a.does) f
-knows-does s t (ev.Pull k) r known w (inr d) f = subst (λ (u : Cluster). EachKnows u known) (sym d.unchanged) f
+knows-does s t (ev.Pull k) r known w (inr d) f = subst (λ (u : Cluster). EachKnows u.replicas known) (sym d.unchanged) f
 knows-does s t (ev.Apply k i) r known w (inl d) f = applies-knows s t k i r known w d f
-knows-does s t (ev.Apply k i) r known w (inr d) f = subst (λ (u : Cluster). EachKnows u known) (sym d.unchanged) f
-knows-does s t (ev.Merge k sources) r known w (inl d) f = subst (λ (u : Cluster). EachKnows u known) (sym d.appends.at.change) f
-knows-does s t (ev.Merge k sources) r known w (inr d) f = subst (λ (u : Cluster). EachKnows u known) (sym d.unchanged) f
-knows-does s t (ev.Mutate k part upto) r known w (inl d) f = subst (λ (u : Cluster). EachKnows u known) (sym d.appends.at.change) f
-knows-does s t (ev.Mutate k part upto) r known w (inr d) f = subst (λ (u : Cluster). EachKnows u known) (sym d.unchanged) f
-knows-does s t (ev.CreateMutation command) r known w (inl d) f = subst (λ (u : Cluster). EachKnows u known) (sym d.at.change) f
-knows-does s t (ev.CreateMutation command) r known w (inr d) f = subst (λ (u : Cluster). EachKnows u known) (sym d.unchanged) f
-knows-does s t (ev.DropPartition p) r known w (inl d) f = subst (λ (u : Cluster). EachKnows u known) (sym d.1.at.change) f
-knows-does s t (ev.DropPartition p) r known w (inr (inl d)) f = subst (λ (u : Cluster). EachKnows u known) (sym d.unchanged) f
-knows-does s t (ev.DropPartition p) r known w (inr (inr d)) f = subst (λ (u : Cluster). EachKnows u known) (sym d.unchanged) f
+knows-does s t (ev.Apply k i) r known w (inr d) f = subst (λ (u : Cluster). EachKnows u.replicas known) (sym d.unchanged) f
+knows-does s t (ev.Merge k sources) r known w (inl d) f = subst (λ (u : Cluster). EachKnows u.replicas known) (sym d.appends.at.change) f
+knows-does s t (ev.Merge k sources) r known w (inr d) f = subst (λ (u : Cluster). EachKnows u.replicas known) (sym d.unchanged) f
+knows-does s t (ev.Mutate k part upto) r known w (inl d) f = subst (λ (u : Cluster). EachKnows u.replicas known) (sym d.appends.at.change) f
+knows-does s t (ev.Mutate k part upto) r known w (inr d) f = subst (λ (u : Cluster). EachKnows u.replicas known) (sym d.unchanged) f
+knows-does s t (ev.CreateMutation command) r known w (inl d) f = subst (λ (u : Cluster). EachKnows u.replicas known) (sym d.at.change) f
+knows-does s t (ev.CreateMutation command) r known w (inr d) f = subst (λ (u : Cluster). EachKnows u.replicas known) (sym d.unchanged) f
+knows-does s t (ev.DropPartition p) r known w (inl d) f = subst (λ (u : Cluster). EachKnows u.replicas known) (sym d.1.at.change) f
+knows-does s t (ev.DropPartition p) r known w (inr (inl d)) f = subst (λ (u : Cluster). EachKnows u.replicas known) (sym d.unchanged) f
+knows-does s t (ev.DropPartition p) r known w (inr (inr d)) f = subst (λ (u : Cluster). EachKnows u.replicas known) (sym d.unchanged) f
 knows-does s t (ev.Kill k) r known w d f =
-    subst (λ (u : Cluster). EachKnows u known) (sym d.change) (quiet s k d.old d.new known w d.at (ap (λ (z : Replica). z.number) d.dies) (ap (λ (z : Replica). z.log) d.dies) (ap (λ (z : Replica). z.parts) d.dies) f)
+    subst (λ (u : Cluster). EachKnows u.replicas known) (sym d.change) (quiet s k d.old d.new known w d.at (ap (λ (z : Replica). z.number) d.dies) (ap (λ (z : Replica). z.log) d.dies) (ap (λ (z : Replica). z.parts) d.dies) f)
 knows-does s t (ev.Restart k) r known w d f =
-    subst (λ (u : Cluster). EachKnows u known) (sym d.change) (quiet s k d.old d.new known w d.at (ap (λ (z : Replica). z.number) d.wakes) (ap (λ (z : Replica). z.log) d.wakes) (ap (λ (z : Replica). z.parts) d.wakes) f)
+    subst (λ (u : Cluster). EachKnows u.replicas known) (sym d.change) (quiet s k d.old d.new known w d.at (ap (λ (z : Replica). z.number) d.wakes) (ap (λ (z : Replica). z.log) d.wakes) (ap (λ (z : Replica). z.parts) d.wakes) f)
 knows-does s t (ev.Note k) r known w (inl d) f =
-    subst (λ (u : Cluster). EachKnows u known) (sym d.change)
+    subst (λ (u : Cluster). EachKnows u.replicas known) (sym d.change)
     (quiet s k d.old d.new known w d.is.at (ap (λ (z : Replica). z.number) d.notes.change) (ap (λ (z : Replica). z.log) d.notes.change) (ap (λ (z : Replica). z.parts) d.notes.change) f)
-knows-does s t (ev.Note k) r known w (inr (inl d)) f = subst (λ (u : Cluster). EachKnows u known) (sym d.unchanged) f
-knows-does s t (ev.Note k) r known w (inr (inr d)) f = subst (λ (u : Cluster). EachKnows u known) (sym d.unchanged) f
+knows-does s t (ev.Note k) r known w (inr (inl d)) f = subst (λ (u : Cluster). EachKnows u.replicas known) (sym d.unchanged) f
+knows-does s t (ev.Note k) r known w (inr (inr d)) f = subst (λ (u : Cluster). EachKnows u.replicas known) (sym d.unchanged) f
 knows-does s t (ev.Fetches k allowed) r known w d f =
-    subst (λ (u : Cluster). EachKnows u known) (sym d.change) (quiet s k d.old (record d.old { fetches = allowed }) known w d.at refl refl refl f)
+    subst (λ (u : Cluster). EachKnows u.replicas known) (sym d.change) (quiet s k d.old (record d.old { fetches = allowed }) known w d.at refl refl refl f)
 
 -- each event leaves known what was
-pub knows-step : (s t : Cluster) (e : Event) (r : Reply) (known : ℕ → ℕ → Bool) → IsWhole s → Step s e r t → EachKnows s known → EachKnows t known
-knows-step s t e r known w k f = subst (λ (u : Cluster). EachKnows u known) (sym k.stored) (knows-does s k.after e r known w k.does f)
+pub knows-step : (s t : Cluster) (e : Event) (r : Reply) (known : ℕ → ℕ → Bool) → IsWhole s → Step s e r t → EachKnows s.replicas known → EachKnows t.replicas known
+knows-step s t e r known w k f = subst (λ (u : Cluster). EachKnows u.replicas known) (sym k.stored) (knows-does s k.after e r known w k.does f)
 
 -- an entry that a replica looked at is known there
-pub learns-step : (s t : Cluster) (k i : ℕ) (comes : Applied) (known : ℕ → ℕ → Bool) → IsWhole s → Step s (ev.Apply k i) (rp.Applied comes) t → EachKnows s known → EachKnows t (learned known k i)
-learns-step s t k i comes known w d f = subst (λ (u : Cluster). EachKnows u (learned known k i)) (sym d.stored) (looked d.does)
+pub learns-step : (s t : Cluster) (k i : ℕ) (comes : Applied) (known : ℕ → ℕ → Bool) → IsWhole s → Step s (ev.Apply k i) (rp.Applied comes) t → EachKnows s.replicas known → EachKnows t.replicas (learned known k i)
+learns-step s t k i comes known w d f = subst (λ (u : Cluster). EachKnows u.replicas (learned known k i)) (sym d.stored) (looked d.does)
   where
-    looked : Does s (ev.Apply k i) (rp.Applied comes) d.after → EachKnows d.after (learned known k i)
+    looked : Does s (ev.Apply k i) (rp.Applied comes) d.after → EachKnows d.after.replicas (learned known k i)
     looked (inl a) = applies-known s d.after k i (rp.Applied comes) known w a f
     looked (inr a) = let e = a.answer in absurd (cc)
 
 -- ---- one replica knows more
 
 -- it knows these places besides, and each other one what it knew
-pub known-more : (s : Cluster) (x : Replica) (known : ℕ → ℕ → Bool) (more : ℕ → Bool) → IsWhole s → Has s.replicas x → Knows x (λ j. more j || known x.number j) → EachKnows s known → EachKnows s (λ k j. (nat_eq k x.number && more j) || known k j)
+pub known-more : (s : Cluster) (x : Replica) (known : ℕ → ℕ → Bool) (more : ℕ → Bool) → IsWhole s → Has s.replicas x → Knows x (λ j. more j || known x.number j) → EachKnows s.replicas known → EachKnows s.replicas (λ k j. (nat_eq k x.number && more j) || known k j)
 known-more s x known more w h here f z i = go (nat-same z.number x.number)
   where
     drops-left : (a b : Bool) (c : Bool) → a ≡ true → ((a && b) || c) ≡ true → (b || c) ≡ true
@@ -166,7 +166,7 @@ neither false true p q = absurd (cc)
 -- ---- a replica that has done its first entries
 
 -- these are known there
-pub done-known : (s : Cluster) (x : Replica) (known : ℕ → ℕ → Bool) (len : ℕ) → IsWhole s → Has s.replicas x → len ≤ length x.log → ((j : ℕ) → j < len → done_at x.done j ≡ true) → EachKnows s known → EachKnows s (learned_to known x.number len)
+pub done-known : (s : Cluster) (x : Replica) (known : ℕ → ℕ → Bool) (len : ℕ) → IsWhole s → Has s.replicas x → len ≤ length x.log → ((j : ℕ) → j < len → done_at x.done j ≡ true) → EachKnows s.replicas known → EachKnows s.replicas (learned_to known x.number len)
 done-known s x known len w h b d f = known-more s x known (λ j. nat_lt j len) w h here f
   where
     not-below : (j n : ℕ) → n ≤ j → nat_lt j n ≡ false
@@ -190,7 +190,7 @@ done-known s x known len w h b d f = known-more s x known (λ j. nat_lt j len) w
     }
 
 -- all is known at a replica that has the whole log, and has done all of it
-pub drained-known : (s : Cluster) (x : Replica) (known : ℕ → ℕ → Bool) → IsWhole s → Has s.replicas x → x.log ≡ s.table.log → IsDrained x → EachKnows s known → EachKnows s (learned_to known x.number (length s.table.log))
+pub drained-known : (s : Cluster) (x : Replica) (known : ℕ → ℕ → Bool) → IsWhole s → Has s.replicas x → x.log ≡ s.table.log → IsDrained x → EachKnows s.replicas known → EachKnows s.replicas (learned_to known x.number (length s.table.log))
 drained-known s x known w h e d f =
     let n = ap (λ (l : List Entry). length l) e in
     done-known s x known (length s.table.log) w h (omega (arith, n)) (λ j l. d j (omega (arith, l, n))) f

@@ -46,7 +46,7 @@ mutation-reply s u command reply k = go k.does
 
 -- what the state says of the limit of one more mutation is what the table says
 limit-shown : (s : Cluster) (t : TableState) → Shows s t → mutation_limit t.next t.log ≡ mutation_limit s.table.next s.table.log
-limit-shown s t h = ap (λ (x : List (Option ℕ × ℕ)). mutation_limit x t.log) h.next ∙ ap (λ (l : List Entry). mutation_limit s.table.next l) h.log
+limit-shown s t h = ap (λ (x : List (Option ℕ × ℕ)). mutation_limit x t.log) h.table.next ∙ ap (λ (l : List Entry). mutation_limit s.table.next l) h.table.log
 
 -- the mutation is made, with the table's next id and numbers
 pub mutation-row : (s u : Cluster) (command : CheckedMutation) (place : ℕ) → IsWhole s → Step s (ev.CreateMutation command) (rp.Entry place) u → (t : TableState) → Shows s t → Leads u (λ v. Mutates t command (mutation_count s.table.log) v)
@@ -60,7 +60,7 @@ mutation-row s u command place w k t h = go k.does
           state = with_mutation t command;
           holds = record {
             room = limit-shown s t h ∙ d.at.does.within;
-            numbered = ap (λ (l : List Entry). mutation_count l) (sym h.log);
+            numbered = ap (λ (l : List Entry). mutation_count l) (sym h.table.log);
             change = refl;
           };
           shows = gained-shows s u (ev.CreateMutation command) (rp.Entry place) (Mutation (mutation_count t.log) t.next command) t (next_numbers_after t.next) t.quorum w tt k
@@ -68,11 +68,11 @@ mutation-row s u command place w k t h = go k.does
               (ap (λ (x : Table). x.schema) q ∙ ap (λ (x : Table). x.schema) d.at.does.change)
               (ap (λ (x : Table). x.log) q
               ∙ (ap (λ (x : Table). x.log) d.at.does.change
-              ∙ (ap (λ (l : List Entry). Mutation (mutation_count l) s.table.next command ∷ s.table.log) (sym h.log) ∙ ap (λ (x : List (Option ℕ × ℕ)). Mutation (mutation_count t.log) x command ∷ s.table.log) (sym h.next))))
+              ∙ (ap (λ (l : List Entry). Mutation (mutation_count l) s.table.next command ∷ s.table.log) (sym h.table.log) ∙ ap (λ (x : List (Option ℕ × ℕ)). Mutation (mutation_count t.log) x command ∷ s.table.log) (sym h.table.next))))
               (ap (λ (x : Cluster). x.events) d.at.change) (λ xs i. refl))
               tt
-              (ap (λ (x : List (Option ℕ × ℕ)). next_numbers_after x) h.next ∙ sym (ap (λ (x : Cluster). x.table.next) k.stored ∙ (ap (λ (x : Table). x.next) q ∙ ap (λ (x : Table). x.next) d.at.does.change)))
-              (h.quorum ∙ sym (ap (λ (x : Cluster). x.table.quorum) k.stored ∙ (ap (λ (x : Table). x.quorum) q ∙ ap (λ (x : Table). x.quorum) d.at.does.change)))
+              (ap (λ (x : List (Option ℕ × ℕ)). next_numbers_after x) h.table.next ∙ sym (ap (λ (x : Cluster). x.table.next) k.stored ∙ (ap (λ (x : Table). x.next) q ∙ ap (λ (x : Table). x.next) d.at.does.change)))
+              (h.table.quorum ∙ sym (ap (λ (x : Cluster). x.table.quorum) k.stored ∙ (ap (λ (x : Table). x.quorum) q ∙ ap (λ (x : Table). x.quorum) d.at.does.change)))
               h;
         }
 

@@ -66,13 +66,15 @@ note-commits s u k reply st i = ap (λ (x : Cluster). committed_at x.events i) s
 pub noted-shows : (s u : Cluster) (k : ℕ) (reply : Reply) → IsWhole s → Step s (ev.Note k) reply u → u.table ≡ record s.table { quorum = quorum_after_note k s.table.quorum } → (t : TableState) → Shows s t → Shows u (record t { quorum = quorum_after_note k t.quorum })
 noted-shows s u k reply w st e t h =
     record {
-      schema = h.schema ∙ sym (ap (λ (x : Table). x.schema) e);
-      log = h.log ∙ sym log;
-      next = h.next ∙ sym (ap (λ (x : Table). x.next) e);
-      quorum = ap (λ (q : Quorum). quorum_after_note k q) h.quorum ∙ sym (ap (λ (x : Table). x.quorum) e);
+      table = record {
+        schema = h.table.schema ∙ sym (ap (λ (x : Table). x.schema) e);
+        log = h.table.log ∙ sym log;
+        next = h.table.next ∙ sym (ap (λ (x : Table). x.next) e);
+        quorum = ap (λ (q : Quorum). quorum_after_note k q) h.table.quorum ∙ sym (ap (λ (x : Table). x.quorum) e);
+        fetching = h.table.fetching ∙ sym (switch-step s u (ev.Note k) reply w tt st);
+        knows = knows-step s u (ev.Note k) reply t.known w st h.table.knows;
+      };
       blocks = h.blocks ∙ (sym (blocks-same s.table.log s.events u.events (λ i l. note-commits s u k reply st i)) ∙ ap (λ (l : List Entry). blocks_in l u.events) (sym log));
-      fetching = h.fetching ∙ sym (switch-step s u (ev.Note k) reply w tt st);
-      knows = knows-step s u (ev.Note k) reply t.known w st h.knows;
     }
   where
     log : u.table.log ≡ s.table.log

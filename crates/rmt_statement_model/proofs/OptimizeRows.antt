@@ -141,13 +141,15 @@ merged-lawful s u k sources place w step m =
 merged-shows : (s u : Cluster) (k : ℕ) (sources : List Name) (place : ℕ) → IsWhole s → Step s (ev.Merge k sources) (rp.Entry place) u → (m : MergesInto s k sources (rp.Entry place) u) → (t : TableState) → Shows s t → Shows u (record t { log = Merge m.name sources m.count ∷ t.log })
 merged-shows s u k sources place w step m t h =
     record {
-      schema = h.schema ∙ sym (ap (λ (x : Cluster). x.table.schema) m.change ∙ m.schema);
-      log = ap (λ (l : List Entry). Merge m.name sources m.count ∷ l) h.log ∙ sym log-is;
-      next = h.next ∙ sym (ap (λ (x : Cluster). x.table.next) m.change ∙ m.next);
-      quorum = h.quorum ∙ sym (ap (λ (x : Cluster). x.table.quorum) m.change ∙ m.quorum);
+      table = record {
+        schema = h.table.schema ∙ sym (ap (λ (x : Cluster). x.table.schema) m.change ∙ m.schema);
+        log = ap (λ (l : List Entry). Merge m.name sources m.count ∷ l) h.table.log ∙ sym log-is;
+        next = h.table.next ∙ sym (ap (λ (x : Cluster). x.table.next) m.change ∙ m.next);
+        quorum = h.table.quorum ∙ sym (ap (λ (x : Cluster). x.table.quorum) m.change ∙ m.quorum);
+        fetching = h.table.fetching ∙ sym (switch-step s u (ev.Merge k sources) (rp.Entry place) w tt step);
+        knows = knows-step s u (ev.Merge k sources) (rp.Entry place) t.known w step h.table.knows;
+      };
       blocks = h.blocks ∙ (sym (blocks-same s.table.log s.events u.events (λ i l. ap (λ (x : Cluster). committed_at x.events i) m.change)) ∙ ap (λ (l : List Entry). blocks_in l u.events) (sym log-is));
-      fetching = h.fetching ∙ sym (switch-step s u (ev.Merge k sources) (rp.Entry place) w tt step);
-      knows = knows-step s u (ev.Merge k sources) (rp.Entry place) t.known w step h.knows;
     }
   where
     log-is : u.table.log ≡ Merge m.name sources m.count ∷ s.table.log
@@ -162,11 +164,11 @@ merged-row s u k p first second rest place w e step t h =
         first = first;
         second = second;
         rest = rest;
-        sources = ap (λ (x : List Entry). live_of x p) h.log ∙ e;
+        sources = ap (λ (x : List Entry). live_of x p) h.table.log ∙ e;
         count = m.count;
-        quiet = subst (λ (q : Quorum). AreQuiet q.pending (first ∷ second ∷ rest)) (sym h.quorum) m.quiet;
-        room = ap worker_limit h.log ∙ m.within;
-        lawful = subst (λ (c : Shape). Lawful c (Merge m.name (first ∷ second ∷ rest) m.count ∷ t.log)) (sym h.schema) (subst (λ (x : List Entry). Lawful s.table.schema (Merge m.name (first ∷ second ∷ rest) m.count ∷ x)) (sym h.log) l);
+        quiet = subst (λ (q : Quorum). AreQuiet q.pending (first ∷ second ∷ rest)) (sym h.table.quorum) m.quiet;
+        room = ap worker_limit h.table.log ∙ m.within;
+        lawful = subst (λ (c : Shape). Lawful c (Merge m.name (first ∷ second ∷ rest) m.count ∷ t.log)) (sym h.table.schema) (subst (λ (x : List Entry). Lawful s.table.schema (Merge m.name (first ∷ second ∷ rest) m.count ∷ x)) (sym h.table.log) l);
         change = refl;
       }));
       shows = merged-shows s u k (first ∷ second ∷ rest) place w step m t h;
@@ -180,7 +182,7 @@ merged-row s u k p first second rest place w e step t h =
 
 -- the partition has one live name, which stays
 pub one-row : (s : Cluster) (p : Option ℕ) (a : Name) → live_of s.table.log p ≡ a ∷ [] → (t : TableState) → Shows s t → Leads s (λ v. Optimizes t p a v)
-one-row s p a e t h = record { state = t; holds = inl (ap (λ (x : List Entry). live_of x p) h.log ∙ e, refl); shows = h }
+one-row s p a e t h = record { state = t; holds = inl (ap (λ (x : List Entry). live_of x p) h.table.log ∙ e, refl); shows = h }
 
 -- ---- the names aren't merged
 
@@ -205,8 +207,8 @@ refuses s u k names why w step = go step.does
 -- what is said of the log, the part that waits for its quorum and the partition's live names is said of the table's
 names-shown : (C : List Entry → Option Pending → List Name → Type 0) (s : Cluster) (p : Option ℕ) (names : List Name) (t : TableState) → live_of s.table.log p ≡ names → Shows s t → C s.table.log s.table.quorum.pending names → C t.log t.quorum.pending (live_of t.log p)
 names-shown C s p names t e h c =
-    subst (λ (q : Quorum). C t.log q.pending (live_of t.log p)) (sym h.quorum)
-    (subst (λ (l : List Entry). C l s.table.quorum.pending (live_of l p)) (sym h.log)
+    subst (λ (q : Quorum). C t.log q.pending (live_of t.log p)) (sym h.table.quorum)
+    (subst (λ (l : List Entry). C l s.table.quorum.pending (live_of l p)) (sym h.table.log)
     (subst (λ (xs : List Name). C s.table.log s.table.quorum.pending xs) (sym e) c))
 
 -- the first two neighbours of different versions are named

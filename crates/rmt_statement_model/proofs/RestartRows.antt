@@ -24,7 +24,7 @@ killed-shows s u k r w st t h =
     let q = ap (λ (x : Cluster). x.table) d.change ∙ d.closes in
     shows-next s u (ev.Kill k) r t t.next w tt st
     (keeps-stored s u (ev.Kill k) r st (ap (λ (x : Table). x.schema) q) (ap (λ (x : Table). x.log) q) (ap (λ (x : Table). x.quorum) q) (ap (λ (x : Cluster). x.events) d.change) (λ xs i. refl))
-    (h.next ∙ sym (ap (λ (x : Cluster). x.table.next) st.stored ∙ ap (λ (x : Table). x.next) q)) h
+    (h.table.next ∙ sym (ap (λ (x : Cluster). x.table.next) st.stored ∙ ap (λ (x : Table). x.next) q)) h
 
 -- so does the begin of another one
 pub restarted-shows : (s u : Cluster) (k : ℕ) (r : Reply) → IsWhole s → Step s (ev.Restart k) r u → (t : TableState) → Shows s t → Shows u t
@@ -37,7 +37,7 @@ restarted-shows s u k r w st t h =
     (ap (λ (x : Table). x.log) q ∙ (ap (λ (x : Table). x.log) d.opens ∙ ap (λ (x : Table). x.log) d.closes))
     (ap (λ (x : Table). x.quorum) q ∙ (ap (λ (x : Table). x.quorum) d.opens ∙ ap (λ (x : Table). x.quorum) d.closes))
     (ap (λ (x : Cluster). x.events) d.change) (λ xs i. refl))
-    (h.next ∙ sym (ap (λ (x : Cluster). x.table.next) st.stored ∙ (ap (λ (x : Table). x.next) q ∙ (ap (λ (x : Table). x.next) d.opens ∙ ap (λ (x : Table). x.next) d.closes)))) h
+    (h.table.next ∙ sym (ap (λ (x : Cluster). x.table.next) st.stored ∙ (ap (λ (x : Table). x.next) q ∙ (ap (λ (x : Table). x.next) d.opens ∙ ap (λ (x : Table). x.next) d.closes)))) h
 
 -- what is shown stays
 pub restart-shows : (s m u : Cluster) (k : ℕ) (r q : Reply) → IsWhole s → Step s (ev.Kill k) r m → Step m (ev.Restart k) q u → (t : TableState) → Shows s t → Shows u t

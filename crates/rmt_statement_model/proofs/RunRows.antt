@@ -40,7 +40,7 @@ use Rattle.rmt_events.specs.declared.step_refused.StepRefused.{StepRefused}
 
 -- the log of a state that a whole cluster shows is lawful
 shown-lawful : (s : Cluster) (t : TableState) → IsWhole s → Shows s t → Lawful t.schema t.log
-shown-lawful s t w h = subst (λ (c : Shape). Lawful c t.log) (sym h.schema) (subst (λ (l : List Entry). Lawful s.table.schema l) (sym h.log) (IsSoundTable.lawful w.table))
+shown-lawful s t w h = subst (λ (c : Shape). Lawful c t.log) (sym h.table.schema) (subst (λ (l : List Entry). Lawful s.table.schema l) (sym h.table.log) (IsSoundTable.lawful w.table))
 
 -- no work leaves the table
 pub works-none : (up : ℕ → Bool) (t : TableState) (n : ℕ) → Lawful t.schema t.log → Works up n t t
@@ -117,10 +117,10 @@ worker-no-block (DropRange p n) q = absurd q
 gained-move : (s u : Cluster) (e : Event) (reply : Reply) (x : Entry) → IsWhole s → IsNoSwitch e → Step s e reply u → GainsEntry s u x → IsOfWorker x → worker_limit s.table.log ≡ None → u.table.next ≡ s.table.next → u.table.quorum ≡ s.table.quorum → (t : TableState) → Shows s t → Leads u (Works (ups s) 1 t)
 gained-move s u e reply x w z k g q b n m t h =
     let shows : Shows u (record t { log = x ∷ t.log; next = t.next; quorum = t.quorum }) =
-    gained-shows s u e reply x t t.next t.quorum w z k g (worker-no-block x q) (h.next ∙ sym n) (h.quorum ∙ sym m) h in
+    gained-shows s u e reply x t t.next t.quorum w z k g (worker-no-block x q) (h.table.next ∙ sym n) (h.table.quorum ∙ sym m) h in
     record {
       state = record t { log = x ∷ t.log };
-      holds = record { gained = x ∷ []; workers = (q, tt); within = omega arith; room = (ap worker_limit h.log ∙ b, tt); lawful = shown-lawful u (record t { log = x ∷ t.log }) (whole-step s u e reply w k) shows; noted = []; live = tt; change = refl };
+      holds = record { gained = x ∷ []; workers = (q, tt); within = omega arith; room = (ap worker_limit h.table.log ∙ b, tt); lawful = shown-lawful u (record t { log = x ∷ t.log }) (whole-step s u e reply w k) shows; noted = []; live = tt; change = refl };
       shows = shows;
     }
 

@@ -145,7 +145,7 @@ knows-shown schema x gained known l k = record {
         absurd (none-behind schema gained x.log (names_of x.parts) l (AreFair.made_here k.fair) j g r.0 r.1 (shown-makes (gained ++ x.log) (names_of x.parts) j r.0 r.1 e))
 
 -- and each other replica what it knew
-shown-known : (s : Cluster) (x : Replica) (known : ℕ → ℕ → Bool) → IsWhole s → Has s.replicas x → EachKnows s known → EachKnows s (learned_shown s.table.log (names_of x.parts) known x.number)
+shown-known : (s : Cluster) (x : Replica) (known : ℕ → ℕ → Bool) → IsWhole s → Has s.replicas x → EachKnows s.replicas known → EachKnows s.replicas (learned_shown s.table.log (names_of x.parts) known x.number)
 shown-known s x known w h f = known-more s x known (is_shown s.table.log (names_of x.parts)) w h here f
   where
     follows : Follows s x
@@ -159,12 +159,14 @@ shown-known s x known w h f = known-more s x known (is_shown s.table.log (names_
 -- the cluster shows the state in which that is known
 pub shown-shows : (s : Cluster) (k : ℕ) (x : Replica) (t : TableState) → IsWhole s → IsNumbered s k x → Shows s t → Shows s (shown_at k (names_of x.parts) t)
 shown-shows s k x t w at h = record {
-  schema = h.schema;
-  log = h.log;
-  next = h.next;
-  quorum = h.quorum;
+  table = record {
+    schema = h.table.schema;
+    log = h.table.log;
+    next = h.table.next;
+    quorum = h.table.quorum;
+    fetching = h.table.fetching;
+    knows = subst (λ (l : List Entry). EachKnows s.replicas (learned_shown l (names_of x.parts) t.known k)) (sym h.table.log)
+        (subst (λ (n : ℕ). EachKnows s.replicas (learned_shown s.table.log (names_of x.parts) t.known n)) at.number (shown-known s x t.known w at.is_in h.table.knows));
+  };
   blocks = h.blocks;
-  fetching = h.fetching;
-  knows = subst (λ (l : List Entry). EachKnows s (learned_shown l (names_of x.parts) t.known k)) (sym h.log)
-      (subst (λ (n : ℕ). EachKnows s (learned_shown s.table.log (names_of x.parts) t.known n)) at.number (shown-known s x t.known w at.is_in h.knows));
 }

@@ -33,13 +33,13 @@ knows-nothing s x w h =
 pub some-shown : (s : Cluster) → IsWhole s → (t : TableState) × Shows s t
 some-shown s w = (
   record { schema = s.table.schema; log = s.table.log; blocks = accepted s; next = s.table.next; quorum = s.table.quorum; fetching = fetching_of s; known = λ r i. false },
-  record { schema = refl; log = refl; next = refl; quorum = refl; blocks = refl; fetching = refl; knows = λ x h. knows-nothing s x w h },
+  record { table = record { schema = refl; log = refl; next = refl; quorum = refl; fetching = refl; knows = λ x h. knows-nothing s x w h }; blocks = refl },
 )
 
 -- what is live of a partition is so still behind those that were optimized, where it is none of these
 pub live-left : (s u : Cluster) (r : ℕ) (ps : List (Option ℕ)) (names : List Name) (q : Option ℕ) → IsWhole s → ((t : TableState) → Shows s t → Leads u (λ v. OptimizesAll false (synced r t) r ps names None v)) → (Has ps q → ⊥) → live_of u.table.log q ≡ live_of s.table.log q
 live-left s u r ps names q w f n =
-    ap (λ (l : List Entry). live_of l q) (sym v.shows.log) ∙ (still-live (synced r t) v.state r ps names q l v.holds n ∙ ap (λ (x : List Entry). live_of x q) h.log)
+    ap (λ (l : List Entry). live_of l q) (sym v.shows.table.log) ∙ (still-live (synced r t) v.state r ps names q l v.holds n ∙ ap (λ (x : List Entry). live_of x q) h.table.log)
   where
     t : TableState
     t = (some-shown s w).0
@@ -51,4 +51,4 @@ live-left s u r ps names q w f n =
     v = f t h
 
     l : Lawful t.schema t.log
-    l = subst (λ (c : Shape). Lawful c t.log) (sym h.schema) (subst (λ (x : List Entry). Lawful s.table.schema x) (sym h.log) (IsSoundTable.lawful w.table))
+    l = subst (λ (c : Shape). Lawful c t.log) (sym h.table.schema) (subst (λ (x : List Entry). Lawful s.table.schema x) (sym h.table.log) (IsSoundTable.lawful w.table))

@@ -18,13 +18,15 @@ use Rattle.rmt_statement_model.proofs.SwitchLaws.{fetching-with}
 pub switched-shows : (s u : Cluster) (k : ℕ) (allowed : Bool) (reply : Reply) → IsWhole s → Step s (ev.Fetches k allowed) reply u → (t : TableState) → Shows s t → Shows u (with_switch t k allowed)
 switched-shows s u k allowed reply w st t h =
     record {
-      schema = h.schema ∙ sym (ap (λ (x : Table). x.schema) table);
-      log = h.log ∙ sym (ap (λ (x : Table). x.log) table);
-      next = h.next ∙ sym (ap (λ (x : Table). x.next) table);
-      quorum = h.quorum ∙ sym (ap (λ (x : Table). x.quorum) table);
+      table = record {
+        schema = h.table.schema ∙ sym (ap (λ (x : Table). x.schema) table);
+        log = h.table.log ∙ sym (ap (λ (x : Table). x.log) table);
+        next = h.table.next ∙ sym (ap (λ (x : Table). x.next) table);
+        quorum = h.table.quorum ∙ sym (ap (λ (x : Table). x.quorum) table);
+        fetching = fun_ext (λ j. ap (λ (f : ℕ → Bool). cond (nat_eq k j) allowed (f j)) h.table.fetching ∙ sym (switched j));
+        knows = knows-step s u (ev.Fetches k allowed) reply t.known w st h.table.knows;
+      };
       blocks = h.blocks ∙ (sym (blocks-same s.table.log s.events u.events (λ i l. commits i)) ∙ ap (λ (l : List Entry). blocks_in l u.events) (sym (ap (λ (x : Table). x.log) table)));
-      fetching = fun_ext (λ j. ap (λ (f : ℕ → Bool). cond (nat_eq k j) allowed (f j)) h.fetching ∙ sym (switched j));
-      knows = knows-step s u (ev.Fetches k allowed) reply t.known w st h.knows;
     }
   where
     d : Switches s k allowed reply st.after

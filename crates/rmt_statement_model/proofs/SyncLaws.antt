@@ -36,14 +36,16 @@ after-ups s u (x ∷ rest) w a p = ups-step a.0 u x.0 x.1 (whole-after s a.0 res
 pub synced-shows : (u : Cluster) (k : ℕ) (t : TableState) → IsWhole u → IsUpToDate u k → Shows u t → Shows u (synced k t)
 synced-shows u k t w d h =
     record {
-      schema = h.schema;
-      log = h.log;
-      next = h.next;
-      quorum = ap (λ (q : Quorum). quorum_after_note k q) h.quorum ∙ d.noted;
+      table = record {
+        schema = h.table.schema;
+        log = h.table.log;
+        next = h.table.next;
+        quorum = ap (λ (q : Quorum). quorum_after_note k q) h.table.quorum ∙ d.noted;
+        fetching = h.table.fetching;
+        knows = subst (λ n. EachKnows u.replicas (learned_to t.known k n)) (ap (λ (l : List Entry). length l) (sym h.table.log))
+            (subst (λ j. EachKnows u.replicas (learned_to t.known j (length u.table.log))) d.at.number (drained-known u d.replica t.known w d.at.is_in d.whole d.drained h.table.knows));
+      };
       blocks = h.blocks;
-      fetching = h.fetching;
-      knows = subst (λ n. EachKnows u (learned_to t.known k n)) (ap (λ (l : List Entry). length l) (sym h.log))
-          (subst (λ j. EachKnows u (learned_to t.known j (length u.table.log))) d.at.number (drained-known u d.replica t.known w d.at.is_in d.whole d.drained h.knows));
     }
 
 -- a pull, and an entry that is looked at, leave the table as it is

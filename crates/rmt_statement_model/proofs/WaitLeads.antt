@@ -20,7 +20,7 @@ use Rattle.rmt_events.specs.Clusters.{Cluster}
 use Rattle.rmt_events.specs.Whole.{IsWhole}
 use Rattle.rmt_reply.specs.declared.refusal.Refusal.TheVariants.{LimitReached}
 use Rattle.rmt_statement_model.specs.TableStates.{TableState, synced}
-use Rattle.rmt_statement_model.specs.Shows.{Shows, Leads}
+use Rattle.rmt_statement_model.specs.Shows.{Shows, ShowsTable, Leads}
 use Rattle.rmt_statement_model.specs.Waits.{IsCarried, WaitsFor, LacksEntries}
 use Rattle.rmt_statement_model.proofs.PendingLaws.{none-pending, some-pending, new-carried}
 use Rattle.rmt_statement_model.proofs.WaitRows.{MutatesSynced, mutates-none, mutates-more, mutates-place, waits-all, waits-some}
@@ -35,14 +35,14 @@ placed-still s w x place e m q = subst (λ (l : List Entry). entry_at l place �
 
 -- the log that is shown is lawful
 shown-lawful : (s : Cluster) (t : TableState) → Lawful s.table.schema s.table.log → Shows s t → Lawful t.schema t.log
-shown-lawful s t w h = subst (λ (c : Shape). Lawful c t.log) (sym h.schema) (subst (Lawful s.table.schema) (sym h.log) w)
+shown-lawful s t w h = subst (λ (c : Shape). Lawful c t.log) (sym h.table.schema) (subst (Lawful s.table.schema) (sym h.table.log) w)
 
 -- the replica is up to date, and no part is mutated yet
 pub wait-begins : (t : TableState) (s : Cluster) (k id place : ℕ) (numbers : List (Option ℕ × ℕ)) (command : CheckedMutation) → IsWhole s → entry_at s.table.log place ≡ Some (Mutation id numbers command) → Shows s (synced k t) → Leads s (λ v. MutatesSynced t k id v)
 wait-begins t s k id place numbers command w e h =
     record {
       state = synced k t;
-      holds = mutates-none t k id place numbers command (shown-lawful s (synced k t) (IsSoundTable.lawful w.table) h) (subst (λ (l : List Entry). entry_at l place ≡ Some (Mutation id numbers command)) (sym h.log) e);
+      holds = mutates-none t k id place numbers command (shown-lawful s (synced k t) (IsSoundTable.lawful w.table) h) (subst (λ (l : List Entry). entry_at l place ≡ Some (Mutation id numbers command)) (sym h.table.log) e);
       shows = h;
     }
 
@@ -60,7 +60,7 @@ wait-goes-on t s w k id place i count mcount old name numbers command h e n l b 
       state = synced k next;
       holds = mutates-more t g.state (synced k next) k id place (Mutate old name i count mcount) g.holds
           (let q = mutates-place t g.state k id place numbers command g.holds there in omega (arith, q, l), carried-before t g.state k id name g.holds carried)
-          (ap worker_limit (Shows.log g.shows) ∙ b)
+          (ap worker_limit (ShowsTable.log (Shows.table g.shows)) ∙ b)
           (subst (λ (c : Shape). Lawful c next.log) (ap (λ (x : TableState). x.schema) (MutatesSynced.change g.holds)) lawful) refl;
       shows = shown;
     }
@@ -75,11 +75,11 @@ wait-goes-on t s w k id place i count mcount old name numbers command h e n l b 
     lawful = shown-lawful w (synced k next) h shown
 
     there : entry_at g.state.log place ≡ Some (Mutation id numbers command)
-    there = subst (λ (x : List Entry). entry_at x place ≡ Some (Mutation id numbers command)) (sym (Shows.log g.shows)) e
+    there = subst (λ (x : List Entry). entry_at x place ≡ Some (Mutation id numbers command)) (sym (ShowsTable.log (Shows.table g.shows))) e
 
     carried : IsCarried g.state.log id name
     carried = new-carried g.state.schema g.state.log place id i count mcount old name numbers command lawful there
-        (subst (λ (x : List Entry). last_pending x old (place + 1) ≡ Some i) (sym (Shows.log g.shows)) n)
+        (subst (λ (x : List Entry). last_pending x old (place + 1) ≡ Some i) (sym (ShowsTable.log (Shows.table g.shows))) n)
 
 -- no mutation up to the place is pending for a live name
 pub wait-ends : (t : TableState) (s : Cluster) (k id place : ℕ) (numbers : List (Option ℕ × ℕ)) (command : CheckedMutation) → IsWhole s → entry_at s.table.log place ≡ Some (Mutation id numbers command) → ((a : Name) → Has (live s.table.log) a → last_pending s.table.log a (place + 1) ≡ None) → Leads s (λ v. MutatesSynced t k id v) → Leads s (λ v. WaitsFor false t k id v)
@@ -87,8 +87,8 @@ wait-ends t s k id place numbers command w e n g =
     record {
       state = g.state;
       holds = waits-all false t g.state k id g.holds (none-pending g.state.schema g.state.log place id numbers command (shown-lawful s g.state (IsSoundTable.lawful w.table) (Leads.shows g))
-          (subst (λ (l : List Entry). entry_at l place ≡ Some (Mutation id numbers command)) (sym (Shows.log g.shows)) e)
-          (subst (λ (l : List Entry). (a : Name) → Has (live l) a → last_pending l a (place + 1) ≡ None) (sym (Shows.log g.shows)) n));
+          (subst (λ (l : List Entry). entry_at l place ≡ Some (Mutation id numbers command)) (sym (ShowsTable.log (Shows.table g.shows))) e)
+          (subst (λ (l : List Entry). (a : Name) → Has (live l) a → last_pending l a (place + 1) ≡ None) (sym (ShowsTable.log (Shows.table g.shows))) n));
       shows = g.shows;
     }
 
@@ -101,9 +101,9 @@ wait-stops t s u k id place i old numbers command limit value w e h n f g =
       state = g.state;
       holds = waits-some false t g.state k id limit value g.holds
           (some-pending g.state.schema g.state.log place id i numbers command old (shown-lawful s g.state (IsSoundTable.lawful w.table) (Leads.shows g))
-          (subst (λ (l : List Entry). entry_at l place ≡ Some (Mutation id numbers command)) (sym (Shows.log g.shows)) e)
-          (subst (λ (l : List Entry). Has (live l) old) (sym (Shows.log g.shows)) h)
-          (subst (λ (l : List Entry). last_pending l old (place + 1) ≡ Some i) (sym (Shows.log g.shows)) n))
+          (subst (λ (l : List Entry). entry_at l place ≡ Some (Mutation id numbers command)) (sym (ShowsTable.log (Shows.table g.shows))) e)
+          (subst (λ (l : List Entry). Has (live l) old) (sym (ShowsTable.log (Shows.table g.shows))) h)
+          (subst (λ (l : List Entry). last_pending l old (place + 1) ≡ Some i) (sym (ShowsTable.log (Shows.table g.shows))) n))
           r.0;
       shows = r.1;
     }

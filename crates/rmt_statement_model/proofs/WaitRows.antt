@@ -106,13 +106,15 @@ mutate-shows s u k old upto place w st m t h = go st.does
   where
     go : Does s (ev.Mutate k old upto) (rp.Entry place) st.after → Shows u (record t { log = Mutate old m.name upto m.count m.mcount ∷ t.log })
     go (inl a) = record {
-      schema = h.schema ∙ sym m.schema;
-      log = ap (λ (l : List Entry). Mutate old m.name upto m.count m.mcount ∷ l) h.log ∙ sym m.log;
-      next = h.next ∙ sym (ap (λ (x : Cluster). x.table.next) st.stored ∙ (ap (λ (x : Cluster). x.table.next) a.appends.at.change ∙ ap (λ (x : Table). x.next) a.appends.at.does.change));
-      quorum = h.quorum ∙ sym (ap (λ (x : Cluster). x.table.quorum) st.stored ∙ (ap (λ (x : Cluster). x.table.quorum) a.appends.at.change ∙ ap (λ (x : Table). x.quorum) a.appends.at.does.change));
+      table = record {
+        schema = h.table.schema ∙ sym m.schema;
+        log = ap (λ (l : List Entry). Mutate old m.name upto m.count m.mcount ∷ l) h.table.log ∙ sym m.log;
+        next = h.table.next ∙ sym (ap (λ (x : Cluster). x.table.next) st.stored ∙ (ap (λ (x : Cluster). x.table.next) a.appends.at.change ∙ ap (λ (x : Table). x.next) a.appends.at.does.change));
+        quorum = h.table.quorum ∙ sym (ap (λ (x : Cluster). x.table.quorum) st.stored ∙ (ap (λ (x : Cluster). x.table.quorum) a.appends.at.change ∙ ap (λ (x : Table). x.quorum) a.appends.at.does.change));
+        fetching = h.table.fetching ∙ sym (switch-step s u (ev.Mutate k old upto) (rp.Entry place) w tt st);
+        knows = knows-step s u (ev.Mutate k old upto) (rp.Entry place) t.known w st h.table.knows;
+      };
       blocks = h.blocks ∙ (sym (blocks-same s.table.log s.events u.events (λ i l. ap (λ (x : Cluster). committed_at x.events i) st.stored ∙ ap (λ (x : Cluster). committed_at x.events i) a.appends.at.change)) ∙ ap (λ (l : List Entry). blocks_in l u.events) (sym m.log));
-      fetching = h.fetching ∙ sym (switch-step s u (ev.Mutate k old upto) (rp.Entry place) w tt st);
-      knows = knows-step s u (ev.Mutate k old upto) (rp.Entry place) t.known w st h.knows;
     }
     go (inr a) = let q = a.answer in absurd (cc)
 
@@ -127,7 +129,7 @@ refused-shows s u k old upto limit value w st t h = go st.does
     go (inr a) =
         let e : a.why ≡ rf.LimitReached limit value = let q = a.answer in cc in
         let c = subst (λ (y : StepRefused). NoMutate s k old upto y) e a.cause in (
-          ap worker_limit h.log ∙ c.3.1,
+          ap worker_limit h.table.log ∙ c.3.1,
           shows-quiet s u (ev.Mutate k old upto) (rp.Refused (rf.LimitReached limit value)) t w tt st (ap (λ (x : Cluster). x.table) a.unchanged) (ap (λ (x : Cluster). x.events) a.unchanged) (λ xs i. refl) h,
         )
 

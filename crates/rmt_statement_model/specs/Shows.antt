@@ -6,7 +6,7 @@ use Rattle.rmt_model.specs.Words.{Has}
 use Rattle.rmt_model.specs.Fair.{AreFair}
 use Rattle.rmt_model.specs.CopiedParts.{names_of}
 use Rattle.rmt_model.specs.Quorum.{quorum_after_note}
-use Rattle.rmt_events.specs.Views.{Replica}
+use Rattle.rmt_events.specs.Views.{Replica, Table}
 use Rattle.rmt_events.specs.Clusters.{Cluster, accepted}
 use Rattle.rmt_events.specs.ClusterChanges.{IsNumbered, KeepsTable}
 use Rattle.rmt_events.specs.ReplicaCalls.{IsDrained}
@@ -18,34 +18,38 @@ pub record Knows (x : Replica) (known : ℕ → Bool) : Type 0 where
   pub fair : AreFair x.log known (names_of x.parts)
 
 -- each replica knows what is known there
-abbrev pub EachKnows : Cluster → (ℕ → ℕ → Bool) → Type 0
-EachKnows s known = (x : Replica) → Has s.replicas x → Knows x (known x.number)
+abbrev pub EachKnows : List Replica → (ℕ → ℕ → Bool) → Type 0
+EachKnows replicas known = (x : Replica) → Has replicas x → Knows x (known x.number)
 
 -- whether the replica of a number may fetch; one that isn't there may
 abbrev pub fetching_at : List Replica → ℕ → Bool
 fetching_at [] k = true
 fetching_at (x ∷ others) k = cond (nat_eq x.number k) x.fetches (fetching_at others k)
 
--- which replicas may fetch
+-- which replicas of a cluster may fetch
 abbrev pub fetching_of : Cluster → ℕ → Bool
 fetching_of s k = fetching_at s.replicas k
 
+-- a table with these replicas is in this state, whatever blocks were accepted
+pub record ShowsTable (table : Table) (replicas : List Replica) (t : TableState) : Type 0 where
+  pub schema : t.schema ≡ table.schema
+  pub log : t.log ≡ table.log
+  pub next : t.next ≡ table.next
+  pub quorum : t.quorum ≡ table.quorum
+  pub fetching : t.fetching ≡ fetching_at replicas
+  pub knows : EachKnows replicas t.known
+
 -- the cluster has the table in this state
 pub record Shows (s : Cluster) (t : TableState) : Type 0 where
-  pub schema : t.schema ≡ s.table.schema
-  pub log : t.log ≡ s.table.log
-  pub next : t.next ≡ s.table.next
-  pub quorum : t.quorum ≡ s.table.quorum
+  pub table : ShowsTable s.table s.replicas t
   pub blocks : t.blocks ≡ accepted s
-  pub fetching : t.fetching ≡ fetching_of s
-  pub knows : EachKnows s t.known
 
 -- whether the replica of a number is up; one that isn't there isn't
 abbrev pub up_at : List Replica → ℕ → Bool
 up_at [] k = false
 up_at (x ∷ others) k = cond (nat_eq x.number k) x.up (up_at others k)
 
--- which replicas are up
+-- which replicas of a cluster are up
 abbrev pub ups : Cluster → ℕ → Bool
 ups s k = up_at s.replicas k
 
