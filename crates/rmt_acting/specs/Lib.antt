@@ -1,0 +1,5 @@
+pub use Rattle.rmt_acts.specs.StatementEvents
+pub use Rattle.rmt_statement_model.specs.Shows
+pub use Rattle.rmt_statement_model.specs.Rests
+pub mod Acting
+pub mod Stepped
