@@ -7,6 +7,7 @@ use Rattle.std.specs.declared.result.Result.{Result}
 use Rattle.std.specs.declared.result.Result.TheVariants.{Ok, Err}
 use Rattle.std.specs.declared.option.Option.{Option}
 use Rattle.std.specs.declared.option.Option.TheVariants.{Some, None}
+use Rattle.std.specs.declared.alloc.AllocError.{AllocError}
 use Rattle.rmt_values.specs.Rows.{Shape}
 use Rattle.rmt_values.specs.declared.schema_error.SchemaError.{SchemaError}
 use Rattle.rmt_reply.specs.declared.line.Line.{Line}
@@ -19,11 +20,13 @@ use Rattle.rmt_events.specs.Clusters.{Cluster, accepted}
 use Rattle.rmt_events.specs.Starts.{new_replica}
 use Rattle.rmt_cluster.specs.NewClusters.{AreCounted, IsNewCluster}
 use Rattle.rmt_statement_model.specs.Shows.{Knows, up_at, fetching_at}
+use Rattle.rmt_play.specs.declared.answer.Answer.{Answer}
+use Rattle.rmt_play.specs.declared.answer.Answer.TheVariants as answers
 use Rattle.rmt_play.specs.World.{Table, World, new_table}
 use Rattle.rmt_play.specs.Checks.{first_of, refused_with, refused_schema, refused_columns, too_many_tables, create_refusals, is_played, refusals, refusal_of}
 use Rattle.rmt_statements.specs.declared.statement.Statement.{Statement}
 use Rattle.rmt_play.specs.Plays.{Creates, Performs, Refuses}
-use Rattle.rmt_play.specs.PlayerSteps.{NamedCluster, PlayerView, IsIn, ComesTo, Moves, IsPlaceOf, HasNone, IsFound, IsNewTable, is_up, Executes, ExecutesCreate, ExecutesPlayed}
+use Rattle.rmt_play.specs.PlayerSteps.{NamedCluster, PlayerView, IsIn, Moves, IsPlaceOf, HasNone, IsFound, IsNewTable, is_up, Answers, CreatesNone, HandsOut, IsReplied, Executes, ExecutesCreate, ExecutesPlayed}
 use Rattle.rmt_play.proofs.TableLemmas.{length-shown, append-shown, none-in}
 use Rattle.rmt_play.proofs.SendLemmas.{found-at}
 
@@ -35,6 +38,15 @@ adds p name schema c h w i = record {
   is_in = record { replicas = i.replicas; up = i.up; tables = append-shown p.tables w.tables (record { name = name; cluster = c }) (new_table name schema c) i.tables (record { name = refl; cluster = refl; shows = h.shows }) };
 }
 
+-- a CREATE does so, whatever schema was made or refused
+abbrev pub CreatesMade : PlayerView → List ℕ → Result Shape SchemaError → Answer → PlayerView → Type 0
+CreatesMade p name made a q = MatchResult made (λ schema. Answers p (ExecutesCreate name None schema) a q) (λ e. Answers p (CreatesNone name e) a q)
+
+-- what a statement comes to by one relation it comes to by another that follows
+pub answers-weaker : (p q : PlayerView) (Does More : Line → World → World → Type 0) → ((line : Line) (w v : World) → IsIn p w → Does line w v → More line w v) → (a : Answer) → Answers p Does a q → Answers p More a q
+answers-weaker p q Does More f (answers.Reply line) m = λ w i. let x = m w i in record { world = x.world; holds = f line w x.world i x.holds; is_in = x.is_in }
+answers-weaker p q Does More f (answers.Creates table schema) m = (m.0, λ line w v i c. f line w v i (m.1 line w v i c))
+
 -- the name is taken
 exists-holds : (p : PlayerView) (w : World) (name : List ℕ) (refusal : Option SchemaError) (schema : Shape) (line : Line) (place : ℕ) → IsIn p w → IsPlaceOf p.tables name place → line ≡ lines.Refused (TableExists name) → ExecutesCreate name refusal schema line w w
 exists-holds p w name refusal schema line place i f e =
@@ -43,8 +55,7 @@ exists-holds p w name refusal schema line place i f e =
     (sym (ap (λ (o : Option Table). first_of (refused_with o name ∷ refused_schema refusal ∷ too_many_tables (length w.tables) ∷ refused_columns refusal ∷ [])) t.found))
     (record { reply = e; unchanged = refl })
 
-pub exists-already : (p : PlayerView) (name : List ℕ) (made : Result Shape SchemaError) (line : Line) (place : ℕ) → IsPlaceOf p.tables name place → line ≡ lines.Refused (TableExists name)
-    → MatchResult made (λ schema. Moves p (ExecutesCreate name None schema line) p) (λ e. Moves p (λ w v. (schema : Shape) → ExecutesCreate name (Some e) schema line w v) p)
+pub exists-already : (p : PlayerView) (name : List ℕ) (made : Result Shape SchemaError) (line : Line) (place : ℕ) → IsPlaceOf p.tables name place → line ≡ lines.Refused (TableExists name) → CreatesMade p name made (answers.Reply line) p
 exists-already p name (Ok schema) line place f e = λ w i. record { world = w; holds = exists-holds p w name None schema line place i f e; is_in = i }
 exists-already p name (Err refusal) line place f e = λ w i. record { world = w; holds = λ schema. exists-holds p w name (Some refusal) schema line place i f e; is_in = i }
 
@@ -76,43 +87,41 @@ pub full-refused : (p : PlayerView) (name : List ℕ) (schema : Shape) (line : L
 full-refused p name schema line why none q e w i =
     record { world = w; holds = refused-holds p w name None schema line why i none (full-first (too_many_tables (length p.tables)) ∙ q) e; is_in = i }
 
--- the table is made
-pub created : (p q : PlayerView) (name : List ℕ) (schema : Shape) (line : Line) → HasNone p.tables name → too_many_tables (length p.tables) ≡ None → Moves p (λ w v. Creates w name schema line v) q → Moves p (ExecutesCreate name None schema line) q
-created p q name schema line none room m w i =
-    subst (λ (o : Option Refusal). ComesTo q (λ v. MatchOption o (Creates w name schema line v) (λ why. Refuses w why line v)))
-    (sym (free p w name None i none ∙ (full-first (too_many_tables (length p.tables)) ∙ room))) (m w i)
+-- whoever makes the table has played it
+pub created : (p : PlayerView) (name : List ℕ) (schema : Shape) → HasNone p.tables name → too_many_tables (length p.tables) ≡ None → HandsOut p (ExecutesCreate name None schema) name schema
+created p name schema none room line w v i m =
+    subst (λ (o : Option Refusal). MatchOption o (Creates w name schema line v) (λ why. Refuses w why line v))
+    (sym (free p w name None i none ∙ (full-first (too_many_tables (length p.tables)) ∙ room))) m
 
 -- ---- by what was made of the columns
 
--- a CREATE does so, whatever schema was made or refused
-abbrev pub CreatesMade : PlayerView → List ℕ → Result Shape SchemaError → Line → PlayerView → Type 0
-CreatesMade p name made line q =
-    MatchResult made (λ schema. Moves p (ExecutesCreate name None schema line) q) (λ e. Moves p (λ w v. (schema : Shape) → ExecutesCreate name (Some e) schema line w v) q)
-
 pub made-refused : (p : PlayerView) (name : List ℕ) (made : Result Shape SchemaError) (refusal : SchemaError) (line : Line) (why : Refusal) → made ≡ Err refusal → HasNone p.tables name
-    → first_of (refused_schema (Some refusal) ∷ too_many_tables (length p.tables) ∷ refused_columns (Some refusal) ∷ []) ≡ Some why → line ≡ lines.Refused why → CreatesMade p name made line p
+    → first_of (refused_schema (Some refusal) ∷ too_many_tables (length p.tables) ∷ refused_columns (Some refusal) ∷ []) ≡ Some why → line ≡ lines.Refused why → CreatesMade p name made (answers.Reply line) p
 made-refused p name made refusal line why m none q e =
-    subst (λ (r : Result Shape SchemaError). CreatesMade p name r line p) (sym m) (schema-refused p name refusal line why none q e)
+    subst (λ (r : Result Shape SchemaError). CreatesMade p name r (answers.Reply line) p) (sym m) (schema-refused p name refusal line why none q e)
 
 pub made-full : (p : PlayerView) (name : List ℕ) (made : Result Shape SchemaError) (schema : Shape) (line : Line) (why : Refusal) → made ≡ Ok schema → HasNone p.tables name
-    → too_many_tables (length p.tables) ≡ Some why → line ≡ lines.Refused why → CreatesMade p name made line p
+    → too_many_tables (length p.tables) ≡ Some why → line ≡ lines.Refused why → CreatesMade p name made (answers.Reply line) p
 made-full p name made schema line why m none q e =
-    subst (λ (r : Result Shape SchemaError). CreatesMade p name r line p) (sym m) (full-refused p name schema line why none q e)
+    subst (λ (r : Result Shape SchemaError). CreatesMade p name r (answers.Reply line) p) (sym m) (full-refused p name schema line why none q e)
 
-pub made-created : (p q : PlayerView) (name : List ℕ) (made : Result Shape SchemaError) (schema : Shape) (line : Line) → made ≡ Ok schema → HasNone p.tables name
-    → too_many_tables (length p.tables) ≡ None → Moves p (λ w v. Creates w name schema line v) q → CreatesMade p name made line q
-made-created p q name made schema line m none room c =
-    subst (λ (r : Result Shape SchemaError). CreatesMade p name r line q) (sym m) (created p q name schema line none room c)
+pub made-created : (p : PlayerView) (name : List ℕ) (made : Result Shape SchemaError) (schema : Shape) → made ≡ Ok schema → HasNone p.tables name → too_many_tables (length p.tables) ≡ None → CreatesMade p name made (answers.Creates name schema) p
+made-created p name made schema m none room =
+    subst (λ (r : Result Shape SchemaError). CreatesMade p name r (answers.Creates name schema) p) (sym m) (refl, created p name schema none room)
 
 -- a CREATE of which this schema or this refusal is known
-pub create-played : {E : Type 0} (p q : PlayerView) (name : List ℕ) (refusal : Option SchemaError) (schema : Shape) (made : Result Shape SchemaError) (r : Result Line E) → IfOk made (λ s. s ≡ schema) → IfOk made (λ s. refusal ≡ None)
-    → IfErr made (λ e. refusal ≡ Some e) → IfOk r (λ line. CreatesMade p name made line q) → IfOk r (λ line. Moves p (ExecutesCreate name refusal schema line) q)
-create-played p q name refusal schema made (Err e) o k f m = tt
-create-played p q name refusal schema (Ok s) (Ok line) o k f m =
-    subst (λ (x : Option SchemaError). Moves p (ExecutesCreate name x schema line) q) (sym k) (subst (λ (x : Shape). Moves p (ExecutesCreate name None x line) q) o m)
-create-played p q name refusal schema (Err e) (Ok line) o k f m = λ w i.
-    let x = m w i in
-    record { world = x.world; holds = subst (λ (y : Option SchemaError). ExecutesCreate name y schema line w x.world) (sym f) (x.holds schema); is_in = x.is_in }
+pub create-played : (p q : PlayerView) (name : List ℕ) (refusal : Option SchemaError) (schema : Shape) (made : Result Shape SchemaError) (a : Answer) → IfOk made (λ s. s ≡ schema) → IfOk made (λ s. refusal ≡ None)
+    → IfErr made (λ e. refusal ≡ Some e) → CreatesMade p name made a q → Answers p (ExecutesCreate name refusal schema) a q
+create-played p q name refusal schema (Ok s) a o k f m =
+    subst (λ (x : Option SchemaError). Answers p (ExecutesCreate name x schema) a q) (sym k) (subst (λ (x : Shape). Answers p (ExecutesCreate name None x) a q) o m)
+create-played p q name refusal schema (Err e) a o k f m =
+    answers-weaker p q (CreatesNone name e) (ExecutesCreate name refusal schema) (λ line w v i h. subst (λ (y : Option SchemaError). ExecutesCreate name y schema line w v) (sym f) (h schema)) a m
+
+-- a statement that was played
+pub replied-answers : (p q : PlayerView) (Does : Line → World → World → Type 0) (r : Result Line AllocError) (s : Result Answer AllocError) → IsReplied r s → IfOk r (λ line. Moves p (Does line) q) → IfOk s (λ a. Answers p Does a q)
+replied-answers p q Does (Ok line) s e m = subst (λ (x : Result Answer AllocError). IfOk x (λ a. Answers p Does a q)) (sym e) m
+replied-answers p q Does (Err x) (Ok a) e m = absurd (cc)
+replied-answers p q Does (Err x) (Err y) e m = tt
 
 -- ---- a form that isn't played
 
@@ -128,11 +137,11 @@ unplayed-refused p statement first e w i =
     }
 
 -- one that is played
-pub played : (p q : PlayerView) (statement : Statement) (first : ℕ) (line : Line) → is_played (length p.tables) statement ≡ true → Moves p (ExecutesPlayed statement line) q → Moves p (Executes statement first line) q
-played p q statement first line e m w i =
-    let same : refusal_of w statement first ≡ first_of (refusals w statement) =
-    ap (λ (b : Bool). first_of (cond b None (Some (Syntax first)) ∷ refusals w statement)) (ap (λ n. is_played n statement) (length-shown p.tables w.tables i.tables) ∙ e) in
-    subst (λ (o : Option Refusal). ComesTo q (λ v. MatchOption o (Performs false w statement line v) (λ why. Refuses w why line v))) (sym same) (m w i)
+pub played : (p q : PlayerView) (statement : Statement) (first : ℕ) (a : Answer) → is_played (length p.tables) statement ≡ true → Answers p (ExecutesPlayed statement) a q → Answers p (Executes statement first) a q
+played p q statement first a e m = answers-weaker p q (ExecutesPlayed statement) (Executes statement first) (λ line w v i h. subst (λ (o : Option Refusal). MatchOption o (Performs false w statement line v) (λ why. Refuses w why line v)) (sym (same w i)) h) a m
+  where
+    same : (w : World) → IsIn p w → refusal_of w statement first ≡ first_of (refusals w statement)
+    same w i = ap (λ (b : Bool). first_of (cond b None (Some (Syntax first)) ∷ refusals w statement)) (ap (λ n. is_played n statement) (length-shown p.tables w.tables i.tables) ∙ e)
 
 -- ---- whether a name is taken
 
@@ -203,13 +212,15 @@ new-table schema count up c k n = record {
   ups_given = take count up;
   is_new = k;
   shows = record {
-    schema = sym (ap (λ (d : Cluster). d.table.schema) k.is_new);
-    log = sym (ap (λ (d : Cluster). d.table.log) k.is_new);
-    next = sym (ap (λ (d : Cluster). d.table.next) k.is_new);
-    quorum = sym (ap (λ (d : Cluster). d.table.quorum) k.is_new);
+    table = record {
+      schema = sym (ap (λ (d : Cluster). d.table.schema) k.is_new);
+      log = sym (ap (λ (d : Cluster). d.table.log) k.is_new);
+      next = sym (ap (λ (d : Cluster). d.table.next) k.is_new);
+      quorum = sym (ap (λ (d : Cluster). d.table.quorum) k.is_new);
+      fetching = fun_ext (all-fetch c.replicas (λ x h. ap (λ (y : Replica). y.fetches) (k.replicas.each x h).0));
+      knows = λ x h. subst (λ (y : Replica). Knows y (λ i. false)) (sym (k.replicas.each x h).0) (nothing-known x.number x.up);
+    };
     blocks = sym (ap accepted k.is_new);
-    fetching = fun_ext (all-fetch c.replicas (λ x h. ap (λ (y : Replica). y.fetches) (k.replicas.each x h).0));
-    knows = λ x h. subst (λ (y : Replica). Knows y (λ i. false)) (sym (k.replicas.each x h).0) (nothing-known x.number x.up);
   };
   all = n;
   ups_are = fun_ext (ups-new c.replicas count up k.numbered k.up_ones);

@@ -5,6 +5,7 @@ pub mod SendLemmas
 pub mod TurnLemmas
 pub mod CreateLemmas
 pub mod ActLemmas
+pub mod SeenLemmas
 pub mod CommandLemmas
 pub mod SequentialLemmas
 pub mod RefusedActs

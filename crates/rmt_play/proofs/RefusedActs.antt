@@ -4,9 +4,8 @@ use Rattle.std.specs.Prelude.{MatchOption}
 use Rattle.std.specs.declared.option.Option.{Option}
 use Rattle.std.specs.declared.option.Option.TheVariants.{Some, None}
 use Rattle.rmt_values.specs.Rows.{Shape}
-use Rattle.rmt_events.specs.Clusters.{Cluster}
 use Rattle.rmt_statement_model.specs.TableStates.{TableState}
-use Rattle.rmt_statement_model.specs.Shows.{fetching_of, ups}
+use Rattle.rmt_acting.specs.Acting.{Seen}
 use Rattle.rmt_statements.specs.declared.act.Act.{Act}
 use Rattle.rmt_statements.specs.declared.act.Act.TheVariants as acts
 use Rattle.rmt_statements.specs.declared.insert.Insert.{Insert}
@@ -15,52 +14,54 @@ use Rattle.rmt_reply.specs.declared.refusal.Refusal.{Refusal}
 use Rattle.rmt_reply.specs.declared.refusal.Refusal.TheVariants.{ReplicaDown, FetchesStopped}
 use Rattle.rmt_play.specs.Checks.{first_of}
 use Rattle.rmt_play.specs.ActRefusals.{refused_down, refused_stopped, act_refusal, act_refusals, down_refusal, id_refusal, stopped_refusal, syncs_first}
-use Rattle.rmt_play.specs.PlayerSteps.{DoesAct, Declines, ExecutesAt, ExecutesThere, IsOwnRefusal, MayFetchFor, held_refusal}
+use Rattle.rmt_play.specs.ActSteps.{DoesAct, Declines, ExecutesAt, ExecutesThere, MayFetchFor, held_refusal}
+use Rattle.rmt_play.specs.PlayerSteps.{IsOwnRefusal}
+use Rattle.rmt_play.proofs.SeenLemmas.{brings-none}
 
 -- ---- what holds a replica
 
 -- a replica that is down
-pub held-down : (s : Cluster) (r : ℕ) (act : Act) → ups s r ≡ false → held_refusal s r act ≡ Some (ReplicaDown r)
+pub held-down : {w : Bool} (s : Seen w) (r : ℕ) (act : Act) → s.ups r ≡ false → held_refusal s r act ≡ Some (ReplicaDown r)
 held-down s r act e = rw e refl
 
 -- one that is up
-pub held-up : (s : Cluster) (r : ℕ) (act : Act) → ups s r ≡ true → held_refusal s r act ≡ stopped_refusal (fetching_of s) r act
-held-up s r act e = rw e (alone (stopped_refusal (fetching_of s) r act))
+pub held-up : {w : Bool} (s : Seen w) (r : ℕ) (act : Act) → s.ups r ≡ true → held_refusal s r act ≡ stopped_refusal s.fetching r act
+held-up s r act e = rw e (alone (stopped_refusal s.fetching r act))
   where
     alone : (o : Option Refusal) → first_of (None ∷ o ∷ []) ≡ o
     alone None = refl
     alone (Some w) = refl
 
 -- one that is up and may not fetch
-pub held-stopped : (s : Cluster) (r : ℕ) (act : Act) → ups s r ≡ true → syncs_first act ≡ true → fetching_of s r ≡ false → held_refusal s r act ≡ Some (FetchesStopped r)
+pub held-stopped : {w : Bool} (s : Seen w) (r : ℕ) (act : Act) → s.ups r ≡ true → syncs_first act ≡ true → s.fetching r ≡ false → held_refusal s r act ≡ Some (FetchesStopped r)
 held-stopped s r act up first stopped = held-up s r act up ∙ rw (first, stopped) refl
 
 -- one that is up, where the act doesn't bring it up to date
-pub held-not : (s : Cluster) (r : ℕ) (act : Act) → ups s r ≡ true → syncs_first act ≡ false → held_refusal s r act ≡ None
+pub held-not : {w : Bool} (s : Seen w) (r : ℕ) (act : Act) → s.ups r ≡ true → syncs_first act ≡ false → held_refusal s r act ≡ None
 held-not s r act up first = held-up s r act up ∙ rw first refl
 
 -- one that is up and may fetch
-pub held-free : (s : Cluster) (r : ℕ) (act : Act) → ups s r ≡ true → fetching_of s r ≡ true → held_refusal s r act ≡ None
+pub held-free : {w : Bool} (s : Seen w) (r : ℕ) (act : Act) → s.ups r ≡ true → s.fetching r ≡ true → held_refusal s r act ≡ None
 held-free s r act up f = held-up s r act up ∙ go (syncs_first act)
   where
-    go : (b : Bool) → cond b (refused_stopped (fetching_of s) r) None ≡ None
+    go : (b : Bool) → cond b (refused_stopped s.fetching r) None ≡ None
     go true = rw f refl
     go false = refl
 
 -- nothing holds it
-pub record IsFree (s : Cluster) (r : ℕ) (act : Act) : Type 0 where
-  pub up : ups s r ≡ true
+pub record IsFree {w : Bool} (s : Seen w) (r : ℕ) (act : Act) : Type 0 where
+  pub up : s.ups r ≡ true
   pub fetches : MayFetchFor s r act
 
-pub held-none : (s : Cluster) (r : ℕ) (act : Act) → held_refusal s r act ≡ None → IsFree s r act
-held-none s r act e = go (ups s r) refl
+pub held-none : {w : Bool} (s : Seen w) (r : ℕ) (act : Act) → held_refusal s r act ≡ None → IsFree s r act
+held-none s r act e = go (s.ups r) refl
   where
-    fetches : (b : Bool) → fetching_of s r ≡ b → ups s r ≡ true → MayFetchFor s r act
+    fetches : (b : Bool) → s.fetching r ≡ b → s.ups r ≡ true → MayFetchFor s r act
     fetches true q up first = q
     fetches false q up first = let x = held-stopped s r act up first q in absurd (cc)
 
-    go : (b : Bool) → ups s r ≡ b → IsFree s r act
-    go true q = record { up = q; fetches = fetches (fetching_of s r) refl q }
+    go : (b : Bool) → s.ups r ≡ b → IsFree s r act
+    go true q = record { up = q; fetches = fetches (s.fetching r) refl q }
     go false q = let x = held-down s r act q in absurd (cc)
 
 -- ---- what is refused
@@ -78,12 +79,12 @@ first-held None None (Some w) i held q = q
 first-held None None None i held q = absurd (cc)
 
 -- the replica's own refusal is last, or first where the act has none
-declines : (up : ℕ → Bool) (s : Cluster) (t : TableState) (r : ℕ) (act : Act) (held : Refusal) (why : Option Refusal) → act_refusal t act ≡ why → first_of (down_refusal up r act ∷ stopped_refusal t.fetching r act ∷ []) ≡ Some held → ExecutesAt up s t r act (lines.Refused (or_held held why)) s t
-declines up s t r act held why own q =
-    subst (λ (o : Option Refusal). MatchOption o (DoesAct up s t r act (lines.Refused (or_held held why)) s t) (Declines s t (lines.Refused (or_held held why)) s t)) (sym first) (refl, refl, refl)
+declines : {w : Bool} (s : Seen w) (t : TableState) (r : ℕ) (act : Act) (held : Refusal) (why : Option Refusal) → act_refusal t act ≡ why → first_of (down_refusal s.ups r act ∷ stopped_refusal t.fetching r act ∷ []) ≡ Some held → ExecutesAt s r act (lines.Refused (or_held held why)) s t t
+declines s t r act held why own q =
+    subst (λ (o : Option Refusal). MatchOption o (DoesAct s t r act (lines.Refused (or_held held why)) s t) (Declines s t (lines.Refused (or_held held why)) s t)) (sym first) (refl, refl, λ _. refl)
   where
-    first : first_of (act_refusals up t r act) ≡ Some (or_held held why)
-    first = first-held (act_refusal t act) (down_refusal up r act) (stopped_refusal t.fetching r act) (id_refusal t act) held q ∙ ap (λ (o : Option Refusal). Some (or_held held o)) own
+    first : first_of (act_refusals s.ups t r act) ≡ Some (or_held held why)
+    first = first-held (act_refusal t act) (down_refusal s.ups r act) (stopped_refusal t.fetching r act) (id_refusal t act) held q ∙ ap (λ (o : Option Refusal). Some (or_held held o)) own
 
 -- an INSERT's replica is down
 down-held : (up : ℕ → Bool) (r : ℕ) (held : Refusal) → first_of (refused_down up (Some r) ∷ None ∷ []) ≡ Some held → (up r ≡ false) × (held ≡ ReplicaDown r)
@@ -94,41 +95,41 @@ down-held up r held q = go (up r) refl q
     go false e k = (e, cc)
 
 -- an INSERT is refused for its columns, a bad row, or the replica
-insert-declines : (up : ℕ → Bool) (s : Cluster) (t : TableState) (r : ℕ) (insert : Insert) (held : Refusal) (why : Option Refusal) → (up r ≡ false) × (held ≡ ReplicaDown r) → IsOwnRefusal t.schema (acts.Insert insert) why → ExecutesAt up s t r (acts.Insert insert) (lines.Refused (or_held held why)) s t
-insert-declines up s t r insert held None d k =
-    subst (λ (o : Option Refusal). MatchOption (first_of (o ∷ None ∷ None ∷ None ∷ [])) (DoesAct up s t r (acts.Insert insert) (lines.Refused held) s t) (Declines s t (lines.Refused held) s t)) (sym k.1.known)
-    (inr (inr (record { down = d.0; rows = k.0; read = k.1.read; reply = ap (λ (w : Refusal). lines.Refused w) d.1; unchanged = refl })), refl)
-insert-declines up s t r insert held (Some why) d (inl q) =
-    subst (λ (o : Option Refusal). MatchOption (first_of (o ∷ None ∷ None ∷ None ∷ [])) (DoesAct up s t r (acts.Insert insert) (lines.Refused why) s t) (Declines s t (lines.Refused why) s t)) (sym q) (refl, refl, refl)
-insert-declines up s t r insert held (Some why) d (inr b) =
-    subst (λ (o : Option Refusal). MatchOption (first_of (o ∷ None ∷ None ∷ None ∷ [])) (DoesAct up s t r (acts.Insert insert) (lines.Refused why) s t) (Declines s t (lines.Refused why) s t)) (sym b.known)
-    (inr (inl (record { row = b.row; refused = b.refused; reply = ap (λ (w : Refusal). lines.Refused w) b.is; unchanged = refl })), refl)
+insert-declines : {w : Bool} (s : Seen w) (t : TableState) (r : ℕ) (insert : Insert) (held : Refusal) (why : Option Refusal) → (s.ups r ≡ false) × (held ≡ ReplicaDown r) → IsOwnRefusal t.schema (acts.Insert insert) why → ExecutesAt s r (acts.Insert insert) (lines.Refused (or_held held why)) s t t
+insert-declines s t r insert held None d k =
+    subst (λ (o : Option Refusal). MatchOption (first_of (o ∷ None ∷ None ∷ None ∷ [])) (DoesAct s t r (acts.Insert insert) (lines.Refused held) s t) (Declines s t (lines.Refused held) s t)) (sym k.1.known)
+    (inr (inr (record { down = d.0; rows = k.0; read = k.1.read; reply = ap (λ (w : Refusal). lines.Refused w) d.1; unchanged = refl })), λ _. refl)
+insert-declines s t r insert held (Some why) d (inl q) =
+    subst (λ (o : Option Refusal). MatchOption (first_of (o ∷ None ∷ None ∷ None ∷ [])) (DoesAct s t r (acts.Insert insert) (lines.Refused why) s t) (Declines s t (lines.Refused why) s t)) (sym q) (refl, refl, λ _. refl)
+insert-declines s t r insert held (Some why) d (inr b) =
+    subst (λ (o : Option Refusal). MatchOption (first_of (o ∷ None ∷ None ∷ None ∷ [])) (DoesAct s t r (acts.Insert insert) (lines.Refused why) s t) (Declines s t (lines.Refused why) s t)) (sym b.known)
+    (inr (inl (record { row = b.row; refused = b.refused; reply = ap (λ (w : Refusal). lines.Refused w) b.is; unchanged = refl })), λ _. refl)
 
-each-declines : (up : ℕ → Bool) (s : Cluster) (t : TableState) (r : ℕ) (act : Act) (held : Refusal) (why : Option Refusal) → first_of (refused_down up (Some r) ∷ stopped_refusal t.fetching r act ∷ []) ≡ Some held → IsOwnRefusal t.schema act why → ExecutesAt up s t r act (lines.Refused (or_held held why)) s t
-each-declines up s t r (acts.Insert insert) held why q k = insert-declines up s t r insert held why (down-held up r held q) k
-each-declines up s t r (acts.Select table query mode) held why q k = declines up s t r (acts.Select table query mode) held why (k t refl) q
-each-declines up s t r (acts.Explain table query) held why q k = declines up s t r (acts.Explain table query) held why (k t refl) q
-each-declines up s t r (acts.Mutate table command) held why q k = declines up s t r (acts.Mutate table command) held why (k t refl) q
-each-declines up s t r (acts.DropPartition table word) held why q k = declines up s t r (acts.DropPartition table word) held why (k t refl) q
-each-declines up s t r (acts.Optimize table word) held why q k = declines up s t r (acts.Optimize table word) held why (k t refl) q
-each-declines up s t r (acts.ShowParts table) held why q k = declines up s t r (acts.ShowParts table) held why (k t refl) q
-each-declines up s t r (acts.CheckTable table) held why q k = declines up s t r (acts.CheckTable table) held why (k t refl) q
-each-declines up s t r (acts.WaitMutation table id) held why q k = declines up s t r (acts.WaitMutation table id) held why (k t refl) q
-each-declines up s t r (acts.SyncReplica table) held why q k = declines up s t r (acts.SyncReplica table) held why (k t refl) q
-each-declines up s t r (acts.RestartReplica table) held why q k = declines up s t r (acts.RestartReplica table) held why (k t refl) q
-each-declines up s t r (acts.StopFetches table) held why q k = declines up s t r (acts.StopFetches table) held why (k t refl) q
-each-declines up s t r (acts.StartFetches table) held why q k = declines up s t r (acts.StartFetches table) held why (k t refl) q
+each-declines : {w : Bool} (s : Seen w) (t : TableState) (r : ℕ) (act : Act) (held : Refusal) (why : Option Refusal) → first_of (refused_down s.ups (Some r) ∷ stopped_refusal t.fetching r act ∷ []) ≡ Some held → IsOwnRefusal t.schema act why → ExecutesAt s r act (lines.Refused (or_held held why)) s t t
+each-declines s t r (acts.Insert insert) held why q k = insert-declines s t r insert held why (down-held s.ups r held q) k
+each-declines s t r (acts.Select table query mode) held why q k = declines s t r (acts.Select table query mode) held why (k t refl) q
+each-declines s t r (acts.Explain table query) held why q k = declines s t r (acts.Explain table query) held why (k t refl) q
+each-declines s t r (acts.Mutate table command) held why q k = declines s t r (acts.Mutate table command) held why (k t refl) q
+each-declines s t r (acts.DropPartition table word) held why q k = declines s t r (acts.DropPartition table word) held why (k t refl) q
+each-declines s t r (acts.Optimize table word) held why q k = declines s t r (acts.Optimize table word) held why (k t refl) q
+each-declines s t r (acts.ShowParts table) held why q k = declines s t r (acts.ShowParts table) held why (k t refl) q
+each-declines s t r (acts.CheckTable table) held why q k = declines s t r (acts.CheckTable table) held why (k t refl) q
+each-declines s t r (acts.WaitMutation table id) held why q k = declines s t r (acts.WaitMutation table id) held why (k t refl) q
+each-declines s t r (acts.SyncReplica table) held why q k = declines s t r (acts.SyncReplica table) held why (k t refl) q
+each-declines s t r (acts.RestartReplica table) held why q k = declines s t r (acts.RestartReplica table) held why (k t refl) q
+each-declines s t r (acts.StopFetches table) held why q k = declines s t r (acts.StopFetches table) held why (k t refl) q
+each-declines s t r (acts.StartFetches table) held why q k = declines s t r (acts.StartFetches table) held why (k t refl) q
 
--- in a cluster, whatever state it shows
-held-refused : (s : Cluster) (r : ℕ) (act : Act) (held : Refusal) (why : Option Refusal) → held_refusal s r act ≡ Some held → IsOwnRefusal s.table.schema act why → ExecutesThere s r act (lines.Refused (or_held held why)) s
-held-refused s r act held why q k t h =
-    let own = subst (λ (c : Shape). IsOwnRefusal c act why) (sym h.schema) k in
-    let there = subst (λ (f : ℕ → Bool). first_of (refused_down (ups s) (Some r) ∷ stopped_refusal f r act ∷ []) ≡ Some held) (sym h.fetching) q in
-    record { state = t; holds = each-declines (ups s) s t r act held why there own; shows = h }
+-- whatever state was shown
+pub held-refused : {w : Bool} (s : Seen w) (r : ℕ) (act : Act) (held : Refusal) (why : Option Refusal) → held_refusal s r act ≡ Some held → IsOwnRefusal s.shape act why → ExecutesThere s r act (lines.Refused (or_held held why)) s
+held-refused s r act held why q k =
+    brings-none s (ExecutesAt s r act (lines.Refused (or_held held why)) s)
+    (λ t known. each-declines s t r act held why (subst (λ (f : ℕ → Bool). first_of (refused_down s.ups (Some r) ∷ stopped_refusal f r act ∷ []) ≡ Some held) (sym known.fetching) q)
+    (subst (λ (c : Shape). IsOwnRefusal c act why) (sym known.schema) k))
 
 -- the two ways
-pub own-refused : (s : Cluster) (r : ℕ) (act : Act) (held refusal : Refusal) → held_refusal s r act ≡ Some held → IsOwnRefusal s.table.schema act (Some refusal) → ExecutesThere s r act (lines.Refused refusal) s
+pub own-refused : {w : Bool} (s : Seen w) (r : ℕ) (act : Act) (held refusal : Refusal) → held_refusal s r act ≡ Some held → IsOwnRefusal s.shape act (Some refusal) → ExecutesThere s r act (lines.Refused refusal) s
 own-refused s r act held refusal q k = held-refused s r act held (Some refusal) q k
 
-pub replica-refused : (s : Cluster) (r : ℕ) (act : Act) (held : Refusal) → held_refusal s r act ≡ Some held → IsOwnRefusal s.table.schema act None → ExecutesThere s r act (lines.Refused held) s
+pub replica-refused : {w : Bool} (s : Seen w) (r : ℕ) (act : Act) (held : Refusal) → held_refusal s r act ≡ Some held → IsOwnRefusal s.shape act None → ExecutesThere s r act (lines.Refused held) s
 replica-refused s r act held q k = held-refused s r act held None q k

@@ -21,7 +21,12 @@ use Rattle.rmt_cluster.specs.Runs.{RunsAll}
 use Rattle.rmt_play.specs.ActEvents.{ActEvents}
 use Rattle.rmt_play.specs.RunStatement.{RunsTurns}
 use Rattle.rmt_play.specs.Plays.{PerformsSent, RunsIn, Refuses, with_table}
-use Rattle.rmt_play.specs.PlayerSteps.{PlayerView, IsAtAll, IsIn, ComesTo, Moves, IsPlaceOf, HasNone, ChangesAt, ActsAt, DoesAct, Declines, refusal_there, held_refusal, ExecutesIn, ExecutesAt, ExecutesThere, ExecutesSent, RunsCluster, ExecutesRun}
+use Rattle.rmt_play.specs.PlayerSteps.{PlayerView, IsAtAll, IsIn, ComesTo, Moves, IsPlaceOf, HasNone, ActsAt, RunsAt, ExecutesSent, ExecutesRun}
+use Rattle.rmt_play.specs.ActSteps.{DoesAct, Declines, refusal_there, held_refusal, ExecutesAct, ExecutesIn, ExecutesAt, ExecutesThere}
+use Rattle.rmt_acting.specs.Acting.{Seen}
+use Rattle.rmt_acting.specs.Stepped.{seen_of}
+use Rattle.rmt_play.specs.Acts.{Acts}
+use Rattle.rmt_play.proofs.SeenLemmas.{brings-on, led}
 use Rattle.rmt_play.proofs.RefusedActs.{held-none, held-up}
 use Rattle.rmt_play.proofs.TableLemmas.{FoundIn, each-get, found-in, none-in, with-same}
 
@@ -72,12 +77,13 @@ up-refusals up t r act h p = own act (down act) p
     own (acts.StartFetches table) d q = two None (down_refusal up r (acts.StartFetches table)) None d refl
 
 -- so it does there what it does where nothing holds the replica
-pub there-up : (s u : Cluster) (r : ℕ) (act : Act) (line : Line) → held_refusal s r act ≡ None → ExecutesIn s r act line u → ExecutesThere s r act line u
-there-up s u r act line e f t k =
-    let l = f t k in
+pub there-up : {w : Bool} (s u : Seen w) (r : ℕ) (act : Act) (line : Line) → held_refusal s r act ≡ None → ExecutesIn s r act line u → ExecutesThere s r act line u
+there-up s u r act line e f =
     let free = held-none s r act e in
-    let stopped : stopped_refusal t.fetching r act ≡ None = ap (λ (g : ℕ → Bool). stopped_refusal g r act) k.fetching ∙ (sym (held-up s r act free.up) ∙ e) in
-    record { state = l.state; holds = subst (λ (o : Option Refusal). MatchOption o (DoesAct (ups s) s t r act line u l.state) (Declines s t line u l.state)) (sym (up-refusals (ups s) t r act free.up stopped)) l.holds; shows = l.shows }
+    brings-on s u (ExecutesAct s r act line u) (ExecutesAt s r act line u)
+    (λ t v known shown c.
+    let stopped : stopped_refusal t.fetching r act ≡ None = ap (λ (g : ℕ → Bool). stopped_refusal g r act) known.fetching ∙ (sym (held-up s r act free.up) ∙ e) in
+    subst (λ (o : Option Refusal). MatchOption o (DoesAct s t r act line u v) (Declines s t line u v)) (sym (up-refusals s.ups t r act free.up stopped)) c) f
 
 -- ---- in the world
 
@@ -98,12 +104,16 @@ refusals-there w sent t r e at =
 pub found-at : (p : PlayerView) (w : World) (name : List ℕ) (place : ℕ) → IsIn p w → (f : IsPlaceOf p.tables name place) → FoundIn p.tables w.tables name place f.table
 found-at p w name place i f = found-in p.tables w.tables name place f.table f.there f.named f.first i.tables
 
+-- an act does what it says, where these replicas are up, by its events
+abbrev DoesIn : (ℕ → Bool) → Cluster → TableState → ℕ → Act → Line → Cluster → TableState → Type 0
+DoesIn up s t r act line u v = Acts false up t r act line v × (false ≡ false → ActEvents s r act line u)
+
 -- an act that is done in its table
 pub sends : (old new : PlayerView) (sent : Sent) (place replica : ℕ) (line : Line) → Each (IsAtAll old.replicas old.up) old.tables → IsPlaceOf old.tables (table_named sent.act) place → replica_at old.replicas sent.replica ≡ Some replica
     → ActsAt old place replica sent.act line new → Moves old (ExecutesSent sent line) new
 sends old new sent place replica line all p at a w i =
     subst (λ (o : Option Refusal). ComesTo new (λ v. MatchOption o (PerformsSent false w sent line v) (λ refusal. Refuses w refusal line v))) (sym refused)
-    (go (first_of (act_refusals w.up f.table.state replica sent.act)) led.state led.shows led.holds)
+    (go (first_of (act_refusals w.up f.table.state replica sent.act)) there.state there.shows done)
   where
     same : p.table ≡ a.table
     same = let e = sym p.there ∙ a.there in cc
@@ -123,21 +133,24 @@ sends old new sent place replica line all p at a w i =
     s : Cluster
     s = a.table.cluster
 
-    led : Leads a.after (ExecutesAt w.up s f.table.state replica sent.act line a.after)
-    led = subst (λ (up : ℕ → Bool). Leads a.after (ExecutesAt up s f.table.state replica sent.act line a.after)) ups-are (a.changes f.table.state f.is.shows)
+    there : Leads a.after (ExecutesAt (seen_of s) replica sent.act line (seen_of a.after) f.table.state)
+    there = led s a.after (ExecutesAt (seen_of s) replica sent.act line (seen_of a.after)) a.changes f.table.state f.is.shows
+
+    done : MatchOption (first_of (act_refusals w.up f.table.state replica sent.act)) (DoesIn w.up s f.table.state replica sent.act line a.after there.state) (Declines (seen_of s) f.table.state line (seen_of a.after) there.state)
+    done = subst (λ (up : ℕ → Bool). MatchOption (first_of (act_refusals up f.table.state replica sent.act)) (DoesIn up s f.table.state replica sent.act line a.after there.state) (Declines (seen_of s) f.table.state line (seen_of a.after) there.state)) ups-are there.holds
 
     is_in : (v : TableState) → Shows a.after v → IsIn new (record w { tables = with_table w.tables (table_named sent.act) (record f.table { state = v; cluster = a.after }) })
     is_in v h = subst (λ (q : PlayerView). IsIn q (record w { tables = with_table w.tables (table_named sent.act) (record f.table { state = v; cluster = a.after }) })) (sym a.rest)
         (record { replicas = i.replicas; up = i.up; tables = f.set a.after v h })
 
-    go : (o : Option Refusal) (v : TableState) → Shows a.after v → MatchOption o (DoesAct w.up s f.table.state replica sent.act line a.after v) (Declines s f.table.state line a.after v) → ComesTo new (λ u. MatchOption o (PerformsSent false w sent line u) (λ refusal. Refuses w refusal line u))
+    go : (o : Option Refusal) (v : TableState) → Shows a.after v → MatchOption o (DoesIn w.up s f.table.state replica sent.act line a.after v) (Declines (seen_of s) f.table.state line (seen_of a.after) v) → ComesTo new (λ u. MatchOption o (PerformsSent false w sent line u) (λ refusal. Refuses w refusal line u))
     go None v h k = record {
       world = record w { tables = with_table w.tables (table_named sent.act) (record f.table { state = v; cluster = a.after }) };
-      holds = record { replica = replica; at = here; acts = record { table = f.table; found = f.found; after = v; changes = k.0; cluster = a.after; events = λ q. subst (λ (x : Cluster). ActEvents x replica sent.act line a.after) (sym f.is.cluster) k.1; rest = refl } };
+      holds = record { replica = replica; at = here; acts = record { table = f.table; found = f.found; after = v; changes = k.0; cluster = a.after; events = λ q. subst (λ (x : Cluster). ActEvents x replica sent.act line a.after) (sym f.is.cluster) (k.1 q); rest = refl } };
       is_in = is_in v h;
     }
     go (Some refusal) v h k =
-        let same : record f.table { state = v; cluster = a.after } ≡ f.table = ap (λ (x : TableState). record f.table { state = x; cluster = a.after }) k.1 ∙ ap (λ (x : Cluster). record f.table { cluster = x }) (k.2 ∙ sym f.is.cluster) in
+        let same : record f.table { state = v; cluster = a.after } ≡ f.table = ap (λ (x : TableState). record f.table { state = x; cluster = a.after }) k.1 ∙ ap (λ (x : Cluster). record f.table { cluster = x }) (k.2 refl ∙ sym f.is.cluster) in
         let stays = ap (λ (x : Table). with_table w.tables (table_named sent.act) x) same ∙ with-same w.tables (table_named sent.act) f.table f.found in
         record {
           world = w;
@@ -169,21 +182,22 @@ runs-found w name turns seed t e =
     ap (λ (o : Option Table). first_of (refused_without o name ∷ refused_turns turns seed ∷ [])) e ∙ alone (refused_turns turns seed)
 
 -- background work that is done in its table
-pub runs : (old new : PlayerView) (name : List ℕ) (turns seed place : ℕ) (line : Line) → Each (IsAtAll old.replicas old.up) old.tables → IsPlaceOf old.tables name place → refused_turns turns seed ≡ None → ChangesAt old place (RunsCluster turns seed line) new → Moves old (ExecutesRun name turns seed line) new
+pub runs : (old new : PlayerView) (name : List ℕ) (turns seed place : ℕ) (line : Line) → Each (IsAtAll old.replicas old.up) old.tables → IsPlaceOf old.tables name place → refused_turns turns seed ≡ None → RunsAt old place turns seed line new → Moves old (ExecutesRun name turns seed line) new
 runs old new name turns seed place line all p q a w i =
     subst (λ (o : Option Refusal). ComesTo new (λ v. MatchOption o (RunsIn false w name turns seed line v) (λ refusal. Refuses w refusal line v))) (sym (runs-found w name turns seed f.table f.found ∙ q))
     (record {
-      world = record w { tables = with_table w.tables name (record f.table { state = led.state; cluster = a.after }) };
-      holds = record { table = f.table; found = f.found; after = led.state; changes = led.holds; cluster = a.after; events = λ e. subst (λ (x : Cluster). RunsAll x seed turns a.after) (sym f.is.cluster) a.changes.events; rest = refl };
-      is_in = subst (λ (x : PlayerView). IsIn x (record w { tables = with_table w.tables name (record f.table { state = led.state; cluster = a.after }) })) (sym a.rest)
-          (record { replicas = i.replicas; up = i.up; tables = f.set a.after led.state led.shows });
+      world = record w { tables = with_table w.tables name (record f.table { state = made.state; cluster = a.after }) };
+      holds = record { table = f.table; found = f.found; after = made.state; changes = made.holds; cluster = a.after; events = λ e. subst (λ (x : Cluster). RunsAll x seed turns a.after) (sym f.is.cluster) (a.changes.events e); rest = refl };
+      is_in = subst (λ (x : PlayerView). IsIn x (record w { tables = with_table w.tables name (record f.table { state = made.state; cluster = a.after }) })) (sym a.rest)
+          (record { replicas = i.replicas; up = i.up; tables = f.set a.after made.state made.shows });
     })
   where
     f : FoundIn old.tables w.tables name place a.table
     f = subst (FoundIn old.tables w.tables name place) (let e = sym p.there ∙ a.there in cc) (found-at old w name place i p)
 
-    led : Leads a.after (RunsTurns false w.up f.table.state turns line)
-    led = subst (λ (up : ℕ → Bool). Leads a.after (RunsTurns false up f.table.state turns line)) ((each-get (IsAtAll old.replicas old.up) old.tables place a.table a.there all).1 ∙ sym i.up) (a.changes.turns_made f.table.state f.is.shows)
+    made : Leads a.after (RunsTurns false w.up f.table.state turns line)
+    made = subst (λ (up : ℕ → Bool). Leads a.after (RunsTurns false up f.table.state turns line)) ((each-get (IsAtAll old.replicas old.up) old.tables place a.table a.there all).1 ∙ sym i.up)
+        (led a.table.cluster a.after (λ t v. RunsTurns false (ups a.table.cluster) t turns line v) a.changes.turns_made f.table.state f.is.shows)
 
 -- a table that isn't there
 pub no-run-table : (p : PlayerView) (name : List ℕ) (turns seed : ℕ) → HasNone p.tables name → Moves p (ExecutesRun name turns seed (lines.Refused (UnknownTable name))) p

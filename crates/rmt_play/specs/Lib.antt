@@ -31,5 +31,6 @@ pub mod Shown
 pub mod Runs
 pub mod QueryAnswers
 pub mod PlayerSteps
+pub mod ActSteps
 pub mod ScriptEnds
 pub mod CommandWords

@@ -1,19 +1,20 @@
 -- What a player has, and what the steps of a statement do. No public clause cites this module.
-use Rattle.std.specs.Prelude.{◌≡◌, ◌⊎◌, ℕ, zero, suc, ◌<◌, ◌≤◌, ◌-◌, ◌&&◌, cond, nat_eq, nat_lt, Bool, true, false, List, [], ◌∷◌, length, replicate, slice_get, slice_index_or, slice_set, MatchOption}
+use Rattle.std.specs.Prelude.{◌≡◌, ◌⊎◌, ℕ, zero, suc, ◌<◌, ◌≤◌, ◌-◌, ◌&&◌, cond, nat_eq, nat_lt, Bool, true, false, List, [], ◌∷◌, length, replicate, slice_get, slice_index_or, slice_set, MatchOption, IsErr}
 use Rattle.std.specs.List.{All}
 use Rattle.std.specs.Str.{bytes_eq}
 use Rattle.std.specs.declared.option.Option.{Option}
 use Rattle.std.specs.declared.option.Option.TheVariants.{Some, None}
-use Rattle.rmt_values.specs.declared.query.Query.{Query}
+use Rattle.std.specs.declared.result.Result.{Result}
+use Rattle.std.specs.declared.result.Result.TheVariants.{Ok, Err}
+use Rattle.std.specs.declared.alloc.AllocError.{AllocError}
 use Rattle.rmt_values.specs.declared.schema_error.SchemaError.{SchemaError}
 use Rattle.rmt_values.specs.declared.schema_error.SchemaError.TheVariants as schemas
 use Rattle.rmt_values.specs.Rows.{Shape, fits}
-use Rattle.rmt_expr.specs.Queries.{query_refusal}
 use Rattle.rmt_model.specs.Words.{Each}
 use Rattle.rmt_model.specs.Content.{Row}
 use Rattle.rmt_events.specs.Clusters.{Cluster}
 use Rattle.rmt_statement_model.specs.TableStates.{TableState, empty_table}
-use Rattle.rmt_statement_model.specs.Shows.{Shows, HoldsNone, Leads, fetching_of, ups}
+use Rattle.rmt_statement_model.specs.Shows.{Shows, HoldsNone, ups}
 use Rattle.rmt_sql.specs.declared.parsed.Parsed.{Parsed}
 use Rattle.rmt_sql.specs.Script.{ReadsAt}
 use Rattle.rmt_statements.specs.declared.act.Act.{Act}
@@ -28,15 +29,15 @@ use Rattle.rmt_reply.specs.declared.line.Line.{Line}
 use Rattle.rmt_reply.specs.declared.line.Line.TheVariants as lines
 use Rattle.rmt_reply.specs.declared.refusal.Refusal.{Refusal}
 use Rattle.rmt_reply.specs.declared.refusal.Refusal.TheVariants.{BadRow}
+use Rattle.rmt_play.specs.declared.answer.Answer.{Answer}
+use Rattle.rmt_play.specs.declared.answer.Answer.TheVariants as answers
 use Rattle.rmt_play.specs.World.{Table, World}
 use Rattle.rmt_play.specs.Checks.{first_of, create_refusals, sent_refusals, kill_refusals, restart_refusals, run_refusals, refusals}
-use Rattle.rmt_play.specs.ActRefusals.{or_else, refused_down, refused_names, refused_quorum, refused_query, act_refusal, act_refusals, id_refusal, stopped_refusal, syncs_first}
+use Rattle.rmt_play.specs.ActRefusals.{or_else, refused_names, refused_quorum, act_refusal}
 use Rattle.rmt_cluster.specs.NewClusters.{IsNewCluster}
-use Rattle.rmt_cluster.specs.Runs.{RunsAll}
 use Rattle.rmt_acts.specs.StatementEvents.{Makes}
-use Rattle.rmt_play.specs.Acts.{Acts}
-use Rattle.rmt_play.specs.ActEvents.{ActEvents}
-use Rattle.rmt_play.specs.RunStatement.{RunsTurns}
+use Rattle.rmt_acting.specs.Stepped.{seen_of}
+use Rattle.rmt_play.specs.ActSteps.{ExecutesThere, RunsTable}
 use Rattle.rmt_play.specs.Plays.{Creates, PerformsSent, session_event, Turns, RunsIn, Performs, Refuses, ExecutesStatement, Executes as ExecutesParsed, EndsAt}
 
 -- ---- what a player has
@@ -145,6 +146,24 @@ abbrev pub ExecutesCreate : List ℕ → Option SchemaError → Shape → Line �
 ExecutesCreate table refusal schema line old new =
     MatchOption (first_of (create_refusals old table refusal)) (Creates old table schema line new) (λ why. Refuses old why line new)
 
+-- a CREATE of which this refusal is known does so, whatever schema it would have
+abbrev pub CreatesNone : List ℕ → SchemaError → Line → World → World → Type 0
+CreatesNone table e line old new = (schema : Shape) → ExecutesCreate table (Some e) schema line old new
+
+-- whoever makes this table in a world that the player is in does so
+abbrev pub HandsOut : PlayerView → (Line → World → World → Type 0) → List ℕ → Shape → Type 0
+HandsOut p Does table schema = (line : Line) (w v : World) → IsIn p w → Creates w table schema line v → Does line w v
+
+-- a statement does so, and has this reply; or nothing changed, and it is the CREATE of a table that is still to be made
+abbrev pub Answers : PlayerView → (Line → World → World → Type 0) → Answer → PlayerView → Type 0
+Answers p Does (answers.Reply line) q = Moves p (Does line) q
+Answers p Does (answers.Creates table schema) q = (q ≡ p) × HandsOut p Does table schema
+
+-- the statement was played, with this reply, or no memory was left
+abbrev pub IsReplied : Result Line AllocError → Result Answer AllocError → Type 0
+IsReplied (Ok line) result = result ≡ Ok (answers.Reply line)
+IsReplied (Err e) result = IsErr result
+
 -- ---- INSERT
 
 -- the refusal of the columns that the INSERT names, or of its setting
@@ -171,52 +190,10 @@ RefusesRows schema insert refusal =
 
 -- ---- what is sent to a replica
 
--- nothing changes, and this is the reply
-abbrev pub Declines : Cluster → TableState → Line → Cluster → TableState → Refusal → Type 0
-Declines s t line u v refusal = (line ≡ lines.Refused refusal) × (v ≡ t) × (u ≡ s)
-
--- an act does what it says in its table, by its events
-abbrev pub DoesAct : (ℕ → Bool) → Cluster → TableState → ℕ → Act → Line → Cluster → TableState → Type 0
-DoesAct up s t r act line u v = Acts false up t r act line v × ActEvents s r act line u
-
--- why an act is refused at a replica that is up
-abbrev pub refusal_there : TableState → Act → Option Refusal
-refusal_there t (acts.WaitMutation table id) = id_refusal t (acts.WaitMutation table id)
-refusal_there t act = act_refusal t act
-
--- an act does what it says in its table at a replica that is up, or is refused
-abbrev pub ExecutesAct : (ℕ → Bool) → Cluster → TableState → ℕ → Act → Line → Cluster → TableState → Type 0
-ExecutesAct up s t r act line u v = MatchOption (refusal_there t act) (DoesAct up s t r act line u v) (Declines s t line u v)
-
--- the same in a cluster, whatever state it shows
-abbrev pub ExecutesIn : Cluster → ℕ → Act → Line → Cluster → Type 0
-ExecutesIn s r act line u = (t : TableState) → Shows s t → Leads u (ExecutesAct (ups s) s t r act line u)
-
--- an act does what it says in its table at a replica, up or down, or is refused
-abbrev pub ExecutesAt : (ℕ → Bool) → Cluster → TableState → ℕ → Act → Line → Cluster → TableState → Type 0
-ExecutesAt up s t r act line u v = MatchOption (first_of (act_refusals up t r act)) (DoesAct up s t r act line u v) (Declines s t line u v)
-
--- the same in a cluster, whatever state it shows
-abbrev pub ExecutesThere : Cluster → ℕ → Act → Line → Cluster → Type 0
-ExecutesThere s r act line u = (t : TableState) → Shows s t → Leads u (ExecutesAt (ups s) s t r act line u)
-
--- why an act is refused at a replica, whatever it asks for: the replica is down, or may not fetch what would bring it up to date
-abbrev pub held_refusal : Cluster → ℕ → Act → Option Refusal
-held_refusal s r act = first_of (refused_down (ups s) (Some r) ∷ stopped_refusal (fetching_of s) r act ∷ [])
-
--- a replica may fetch where the act brings it up to date first
-abbrev pub MayFetchFor : Cluster → ℕ → Act → Type 0
-MayFetchFor s r act = syncs_first act ≡ true → fetching_of s r ≡ true
-
 -- the cause for which an act is refused in a table of this schema, whatever replica it is sent to
 abbrev pub IsOwnRefusal : Shape → Act → Option Refusal → Type 0
 IsOwnRefusal schema (acts.Insert insert) why = MatchOption why ((rows : List Row) × HasRows schema insert rows) (RefusesRows schema insert)
 IsOwnRefusal schema act why = (t : TableState) → t.schema ≡ schema → act_refusal t act ≡ why
-
--- a query is answered in a cluster, by these events, or refused
-abbrev pub ExecutesQuery : Cluster → Query → (TableState → Line → TableState → Type 0) → (Line → Cluster → Type 0) → Line → Cluster → Type 0
-ExecutesQuery s query Answers Events line u =
-    (t : TableState) → Shows s t → Leads u (λ v. MatchOption (refused_query (query_refusal t.schema query)) (Answers t line v × Events line u) (Declines s t line u v))
 
 -- what is sent to a replica is done in its table, or refused
 abbrev pub ExecutesSent : Sent → Line → World → World → Type 0
@@ -233,7 +210,7 @@ pub record ChangesAt (old : PlayerView) (place : ℕ) (Change : Cluster → Clus
 
 -- the act is done in the table at a place, or refused
 abbrev pub ActsAt : PlayerView → ℕ → ℕ → Act → Line → PlayerView → Type 0
-ActsAt old place replica act line new = ChangesAt old place (λ s u. ExecutesThere s replica act line u) new
+ActsAt old place replica act line new = ChangesAt old place (λ s u. ExecutesThere (seen_of s) replica act line (seen_of u)) new
 
 -- ---- KILL and RESTART
 
@@ -270,10 +247,9 @@ ExecutesRestart name line old new = MatchOption (first_of (restart_refusals old 
 
 -- ---- RUN
 
--- so many turns of background work are done in a cluster, whatever state it shows, by events that are drawn from the seed
-pub record RunsCluster (turns seed : ℕ) (line : Line) (s u : Cluster) : Type 0 where
-  pub turns_made : (t : TableState) → Shows s t → Leads u (RunsTurns false (ups s) t turns line)
-  pub events : RunsAll s seed turns u
+-- background work is done in the table at a place
+abbrev pub RunsAt : PlayerView → ℕ → ℕ → ℕ → Line → PlayerView → Type 0
+RunsAt old place turns seed line new = ChangesAt old place (λ s u. RunsTable turns seed line (seen_of s) (seen_of u)) new
 
 -- background work is done in its table, or refused
 abbrev pub ExecutesRun : List ℕ → ℕ → ℕ → Line → World → World → Type 0
@@ -298,7 +274,6 @@ pub record Steps (script : List ℕ) (from : ℕ) (line : Line) (end : ℕ) (old
   pub ends : EndsAt found end
   pub executes : ExecutesParsed false old found line new
 
--- the act that lets a replica fetch in a table, or stops its fetches
-abbrev pub switch_act : Bool → List ℕ → Act
-switch_act false table = acts.StopFetches table
-switch_act true table = acts.StartFetches table
+-- the same, by the reply
+abbrev pub StepsTo : List ℕ → ℕ → ℕ → Line → World → World → Type 0
+StepsTo script from end line old new = Steps script from line end old new

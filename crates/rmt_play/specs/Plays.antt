@@ -138,11 +138,15 @@ pub record Step (workers : Bool) (script : List ℕ) (from : ℕ) (old : World) 
   pub ends : EndsAt found at
   pub executes : Executes workers rested found line new
 
+-- some statements of a script, from a place and a world to a place and a world: their replies, the newest first
+abbrev pub PlayedFrom : Bool → List ℕ → ℕ → World → List Line → ℕ → World → Type 0
+PlayedFrom workers script from old [] at new = (at ≡ from) × (new ≡ old)
+PlayedFrom workers script from old (line ∷ lines) at new =
+    (mid : ℕ) × (before : World) × PlayedFrom workers script from old lines mid before × Step workers script mid before line at new
+
 -- some first statements of a script, up to a place: their replies, the newest first, and the world after them
 abbrev pub Played : Bool → List ℕ → List Line → ℕ → World → Type 0
-Played workers script [] at world = (at ≡ 0) × (world ≡ start)
-Played workers script (line ∷ lines) at world =
-    (from : ℕ) × (before : World) × Played workers script lines from before × Step workers script from before line at world
+Played workers script lines at world = PlayedFrom workers script 0 start lines at world
 
 -- the reply tells of a refusal; an INSERT may print the parts of its first blocks before it, an OPTIMIZE those of its first
 -- partitions

@@ -1,5 +1,5 @@
 -- How the playing of a script ends, and how far it comes with one statement. No public clause cites this module.
-use Rattle.std.specs.Prelude.{◌≡◌, ◌≢◌, ◌⊎◌, ℕ, ◌<◌, ◌≤◌, List, length, map, Bool, true, false}
+use Rattle.std.specs.Prelude.{◌≡◌, ◌≢◌, ◌⊎◌, ℕ, ◌<◌, ◌≤◌, ◌+◌, List, length, map, count_by, Bool, true, false}
 use Rattle.std.specs.declared.option.Option.{Option}
 use Rattle.std.specs.Io.KnownBytes.{Appends, Keeps}
 use Rattle.rmt_outside.specs.StreamBytes.{AppendsPrefix}
@@ -19,9 +19,12 @@ use Rattle.rmt_events.specs.Clusters.{Cluster}
 use Rattle.rmt_play.specs.Shown.{Agrees, HasReplicas}
 use Rattle.rmt_play.specs.declared.end.End.{End}
 use Rattle.rmt_play.specs.declared.end.End.TheVariants as handed
-use Rattle.rmt_play.specs.Plays.{is_refused}
-use Rattle.rmt_play.specs.PlayerSteps.{PlayerView, is_up, Moves, Steps}
-use Rattle.rmt_play.specs.Runs.{PlayedWhole, PlayedInPart, CutShort}
+use Rattle.rmt_values.specs.Rows.{Shape}
+use Rattle.rmt_play.specs.declared.round.Round.{Round}
+use Rattle.rmt_play.specs.declared.round.Round.TheVariants as rounds
+use Rattle.rmt_play.specs.Plays.{Creates, PlayedFrom, is_refused}
+use Rattle.rmt_play.specs.PlayerSteps.{PlayerView, is_up, HandsOut, Moves, Steps, StepsTo}
+use Rattle.rmt_play.specs.Runs.{output, PlayedWhole, PlayedInPart, CutShort}
 
 -- the outcome of a statement that was refused
 abbrev pub is_refusal : Outcome → Bool
@@ -50,16 +53,70 @@ abbrev pub IsReply : Line → ℕ → Option (List ℕ) → Option (List ℕ) �
 IsReply line end before after progress.AtEnd = ⊥
 IsReply line end before after (progress.On place outcome) =
     (place ≡ end) × Appends before after (printed line) × (is_refusal outcome ≡ is_refused line)
+IsReply line end before after (progress.Creates table schema place) = ⊥
 IsReply line end before after progress.WriteFault = AppendsPrefix before after (printed line)
 IsReply line end before after progress.Memory = Keeps before after
+
+-- the statement at a place is a CREATE that isn't played yet: whoever makes its table has played it
+pub record IsToCreate (script : List ℕ) (at : ℕ) (old new : PlayerView) (before after : Option (List ℕ)) (table : List ℕ) (schema : Shape) (end : ℕ) : Type 0 where
+  pub creates : HandsOut old (StepsTo script at end) table schema
+  pub unchanged : new ≡ old
+  pub unwritten : after ≡ before
+  pub further : at < end
+  pub within : end ≤ length script
 
 -- how far playing comes with the statement at a place
 abbrev pub IsProgress : List ℕ → ℕ → PlayerView → PlayerView → Option (List ℕ) → Option (List ℕ) → Progress → Type 0
 IsProgress script at old new before after progress.AtEnd = ReadsAt script at parsed.End × Keeps before after × (new ≡ old)
 IsProgress script at old new before after (progress.On end outcome) =
     AdvancesScript script at old new before after end outcome
+IsProgress script at old new before after (progress.Creates table schema end) =
+    IsToCreate script at old new before after table schema end
 IsProgress script at old new before after progress.WriteFault = CutsReply script at old before after
 IsProgress script at old new before after progress.Memory = Keeps before after
+
+-- ---- rounds
+
+-- the statements from a place up to another were played, their replies written and the refused ones counted
+pub record PlaysOn (script : List ℕ) (from count : ℕ) (old : PlayerView) (before : Option (List ℕ)) (at refused : ℕ) (new : PlayerView) (after : Option (List ℕ)) : Type 0 where
+  pub lines : List Line
+  pub played : Moves old (λ w v. PlayedFrom false script from w lines at v) new
+  pub written : Appends before after (output lines)
+  pub counted : refused ≡ count + count_by is_refused lines
+  pub further : from ≤ at
+  pub few : refused ≤ at
+  pub within : at ≤ length script
+
+-- what comes behind the statements of a round that were played up to a place, with so many refused in all
+abbrev pub EndsRound : List ℕ → PlayerView → Option (List ℕ) → Round → ℕ → ℕ → PlayerView → Option (List ℕ) → Type 0
+EndsRound script new after (rounds.AtEnd refused) at count old before =
+    (refused ≡ count) × ReadsAt script at parsed.End × Keeps before after × (new ≡ old)
+EndsRound script new after (rounds.Creates table schema end refused) at count old before =
+    (refused ≡ count) × IsToCreate script at old new before after table schema end
+EndsRound script new after rounds.WriteFault at count old before = CutsReply script at old before after
+EndsRound script new after rounds.Memory at count old before = Keeps before after
+
+-- a round of statements from a place on, where so many were refused before
+pub record IsRound (script : List ℕ) (from count : ℕ) (old new : PlayerView) (before after : Option (List ℕ)) (round : Round) : Type 0 where
+  pub at : ℕ
+  pub refused : ℕ
+  pub player : PlayerView
+  pub now : Option (List ℕ)
+  pub plays : PlaysOn script from count old before at refused player now
+  pub ends : EndsRound script new after round at refused player now
+
+-- a table is made, and its reply written so far
+pub record MakesTable (table : List ℕ) (schema : Shape) (end : ℕ) (old new : PlayerView) (before after : Option (List ℕ)) (p : Progress) : Type 0 where
+  pub line : Line
+  pub made : Moves old (λ w v. Creates w table schema line v) new
+  pub written : IsReply line end before after p
+
+-- how far the making of a table comes
+abbrev pub IsMade : List ℕ → Shape → ℕ → PlayerView → PlayerView → Option (List ℕ) → Option (List ℕ) → Progress → Type 0
+IsMade table schema end old new before after progress.Memory = Keeps before after
+IsMade table schema end old new before after p = MakesTable table schema end old new before after p
+
+-- ---- the end
 
 -- how the playing of a script ends
 abbrev pub IsScriptEnd : List ℕ → Option (List ℕ) → Option (List ℕ) → ScriptEnd → Type 0

@@ -1,22 +1,21 @@
 //! INSERT in its table.
-ghost use Rattle.std.specs.Prelude.{◌≡◌, ◌≢◌, ◌<◌, ◌^◌, None, true, false, length, IfOk, IfErr};
+ghost use Rattle.std.specs.Prelude.{◌≡◌, ◌≢◌, ◌<◌, ◌^◌, None, true, false, IfOk, IfErr, OnOk};
 ghost use Rattle.std.specs.List.{All};
 ghost use Rattle.rmt_values.specs.Rows.{fits};
 ghost use Rattle.rmt_block.specs.Splits.{IsSplit};
 ghost use Rattle.rmt_state.specs.States.{IsNumber};
-ghost use Rattle.rmt_statement_model.specs.TableStates.{TableState};
-ghost use Rattle.rmt_statement_model.specs.Shows.{HoldsNone, IsIdle, Leads, Shows, KeepsUps, ups};
+ghost use Rattle.rmt_acting.specs.Acting.{Brings, MayAct, GoesOn, KeepsShape};
 ghost use Rattle.rmt_statement_model.specs.Inserts.{asked_at};
 ghost use Rattle.rmt_play.specs.ActRefusals.{refused_quorum};
 ghost use Rattle.rmt_columns.specs.RowsByColumn.{kinds_in};
 ghost use Rattle.rmt_statements.specs.declared.act.Act.TheVariants as acts;
 ghost use Rattle.rmt_play.specs.ActEvents.{InsertsBy};
 ghost use Rattle.rmt_play.specs.InsertStatement.{InsertsRows, need_of};
-ghost use Rattle.rmt_play.specs.PlayerSteps.{HasRows, RefusesRows, ExecutesIn};
+ghost use Rattle.rmt_play.specs.PlayerSteps.{HasRows, RefusesRows};
+ghost use Rattle.rmt_play.specs.ActSteps.{ExecutesIn};
 
-use rmt_acts::{insert_blocks, schema_of};
+use rmt_acting::Acting;
 use rmt_block::{Block, split};
-use rmt_cluster::Cluster;
 use rmt_columns::Rows;
 use rmt_reply::{Line, Refusal};
 use rmt_sql_rows::{RowsError, rows_of};
@@ -84,47 +83,48 @@ fn blocks_of(alloc: Global, rows: Rows, schema: &Schema) -> Result<Vec<Block>, A
 }
 
 /// Inserts rows: a block for each partition.
-fn insert_rows(
+fn insert_rows<E: Acting>(
     alloc: Global,
-    cluster: &mut Cluster,
+    engine: &mut E,
     replica: ReplicaId,
     rows: Rows,
     need: u32,
 ) -> Result<Line, AllocError>
-    requires here { IsNumber replica (length cluster.old.replicas) }
-    requires idle { IsIdle cluster.old replica }
+    requires here { IsNumber replica (E.seen engine.old).count }
+    requires idle { MayAct (E.seen engine.old) replica }
     requires need { need ≢ 1 }
-    requires fit { All (λ row. fits cluster.old.table.schema.columns row ≡ true) rows.rows }
-    requires kinds { rows.kinds ≡ kinds_in cluster.old.table.schema.columns }
-    ensures inserts { IfOk result (λ line. (t : TableState) → Shows cluster.old t
-        → Leads cluster.new (InsertsRows false (ups cluster.old) t (asked_at replica need) rows.rows line)) }
-    ensures events { IfOk result (λ line.
-        InsertsBy cluster.old (asked_at replica need) line cluster.new) }
-    ensures free { IfOk result (λ _. HoldsNone cluster.new) }
-    ensures keeps { KeepsUps cluster.old result cluster.new }
+    requires fit { All (λ row. fits (E.seen engine.old).shape.columns row ≡ true) rows.rows }
+    requires kinds { rows.kinds ≡ kinds_in (E.seen engine.old).shape.columns }
+    ensures inserts { IfOk result (λ line. Brings (E.seen engine.old)
+        (λ t. InsertsRows E.workers (E.seen engine.old).ups t (asked_at replica need) rows.rows line)
+        (E.seen engine.new)) }
+    ensures events { E.workers ≡ false → IfOk result (λ line. InsertsBy (E.seen engine.old).cluster
+        (asked_at replica need) line (E.seen engine.new).cluster) }
+    ensures goes_on { OnOk result (GoesOn (E.seen engine.old) (E.seen engine.new)) }
+    ensures keeps { KeepsShape (E.seen engine.old) (E.seen engine.new) }
 {
-    let blocks = blocks_of(alloc, rows, schema_of(cluster))?;
-    let insertion = insert_blocks(alloc, cluster, replica, blocks, need)?;
+    let blocks = blocks_of(alloc, rows, engine.schema())?;
+    let insertion = engine.insert_blocks(alloc, replica, blocks, need)?;
     let (pieces, refused) = (insertion.pieces, insertion.refused);
     Ok(Line::Inserted { pieces, refused })
 }
 
 /// Inserts the rows of an INSERT, or refuses them.
-pub(crate) fn insert_in(
+pub(crate) fn insert_in<E: Acting>(
     alloc: Global,
-    cluster: &mut Cluster,
+    engine: &mut E,
     replica: ReplicaId,
     insert: &Insert,
 ) -> Result<Line, AllocError>
-    requires here { IsNumber replica (length cluster.old.replicas) }
-    requires idle { IsIdle cluster.old replica }
+    requires here { IsNumber replica (E.seen engine.old).count }
+    requires idle { MayAct (E.seen engine.old) replica }
     ensures executes { IfOk result (λ line.
-        ExecutesIn cluster.old replica (acts.Insert insert.now) line cluster.new) }
-    ensures free { IfOk result (λ _. HoldsNone cluster.new) }
-    ensures keeps { KeepsUps cluster.old result cluster.new }
+        ExecutesIn (E.seen engine.old) replica (acts.Insert insert.now) line (E.seen engine.new)) }
+    ensures goes_on { OnOk result (GoesOn (E.seen engine.old) (E.seen engine.new)) }
+    ensures keeps { KeepsShape (E.seen engine.old) (E.seen engine.new) }
 {
-    match rows_to_insert(alloc, insert, schema_of(cluster))? {
-        Ok(rows) => insert_rows(alloc, cluster, replica, rows, asked(insert.quorum)),
+    match rows_to_insert(alloc, insert, engine.schema())? {
+        Ok(rows) => insert_rows(alloc, engine, replica, rows, asked(insert.quorum)),
         Err(refusal) => Ok(Line::Refused(refusal)),
     }
 }

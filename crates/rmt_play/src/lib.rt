@@ -2,6 +2,7 @@
 #![tactic(auto)]
 
 mod act;
+mod answer;
 mod end;
 mod forms;
 mod insert;
@@ -17,6 +18,7 @@ mod progress;
 mod query;
 mod refusing;
 mod replicas;
+mod round;
 mod schema;
 mod script;
 mod script_end;

@@ -1,18 +1,17 @@
 //! ALTER .. UPDATE and ALTER .. DELETE in their table.
-ghost use Rattle.std.specs.Prelude.{◌≡◌, ℕ, List as Bytes, length, IfOk, IfErr};
+ghost use Rattle.std.specs.Prelude.{◌≡◌, ℕ, List as Bytes, IfOk, IfErr, OnOk};
 ghost use Rattle.std.specs.declared.option.Option.TheVariants.{None, Some};
 ghost use Rattle.rmt_values.specs.Schemas.{IsSchema};
 ghost use Rattle.rmt_values.specs.Commands.{CommandFits};
 ghost use Rattle.rmt_expr.specs.Mutations.{IsCheckedMutation, mutation_refusal};
 ghost use Rattle.rmt_expr.specs.Sizes.{IsSmallCommand};
-ghost use Rattle.rmt_statement_model.specs.Shows.{HoldsNone, KeepsUps};
+ghost use Rattle.rmt_acting.specs.Acting.{GoesOn, KeepsShape};
 ghost use Rattle.rmt_statements.specs.declared.act.Act.TheVariants as acts;
 ghost use Rattle.rmt_play.specs.ActRefusals.{refused_command};
-ghost use Rattle.rmt_play.specs.PlayerSteps.{ExecutesIn};
+ghost use Rattle.rmt_play.specs.ActSteps.{ExecutesIn};
 
-use rmt_acts::{mutate, schema_of};
+use rmt_acting::Acting;
 use rmt_changes::range_of_command;
-use rmt_cluster::Cluster;
 use rmt_expr::{MutationError, check_mutation};
 use rmt_reply::{Line, Refusal};
 use rmt_values::{CheckedMutation, Mutation, Schema};
@@ -45,22 +44,22 @@ pub(crate) fn check(
 }
 
 /// Makes a mutation, or refuses to.
-pub(crate) fn alter_in(
+pub(crate) fn alter_in<E: Acting>(
     alloc: Global,
-    cluster: &mut Cluster,
+    engine: &mut E,
     command: &Mutation,
 ) -> Result<Line, AllocError>
-    requires free { HoldsNone cluster.old }
+    requires free { (E.seen engine.old).free }
     requires small { IsSmallCommand 320 command.now }
     ensures executes { IfOk result (λ line. (table : Bytes ℕ) (r : ℕ)
-        → ExecutesIn cluster.old r (acts.Mutate table command.now) line cluster.new) }
-    ensures free { IfOk result (λ _. HoldsNone cluster.new) }
-    ensures keeps { KeepsUps cluster.old result cluster.new }
+        → ExecutesIn (E.seen engine.old) r (acts.Mutate table command.now) line (E.seen engine.new)) }
+    ensures goes_on { OnOk result (GoesOn (E.seen engine.old) (E.seen engine.new)) }
+    ensures keeps { KeepsShape (E.seen engine.old) (E.seen engine.new) }
 {
-    match check(alloc, command, schema_of(cluster))? {
+    match check(alloc, command, engine.schema())? {
         Ok(checked) => {
             range_of_command(&checked);
-            match mutate(alloc, cluster, checked)? {
+            match engine.mutate(alloc, checked)? {
                 Ok(id) => Ok(Line::Mutation(id)),
                 Err(refusal) => Ok(Line::Refused(refusal)),
             }

@@ -1,16 +1,15 @@
 //! Partitions as statements name them, and the acts on them in their table: DROP PARTITION and OPTIMIZE.
-ghost use Rattle.std.specs.Prelude.{◌≡◌, IfOk, IfErr, ℕ, true, List as Bytes, length};
+ghost use Rattle.std.specs.Prelude.{◌≡◌, IfOk, IfErr, OnOk, ℕ, true, List as Bytes};
 ghost use Rattle.std.specs.declared.option.Option.TheVariants.{Some};
 ghost use Rattle.rmt_statements.specs.Partitions.{partition_named};
 ghost use Rattle.rmt_play.specs.ActRefusals.{refused_partition, refused_asked};
 ghost use Rattle.rmt_play.specs.OptimizeStatement.{IsAsked};
 ghost use Rattle.rmt_state.specs.States.{IsNumber};
-ghost use Rattle.rmt_statement_model.specs.Shows.{HoldsNone, IsIdle, KeepsUps, fetching_of};
+ghost use Rattle.rmt_acting.specs.Acting.{MayAct, GoesOn, KeepsShape};
 ghost use Rattle.rmt_statements.specs.declared.act.Act.TheVariants as acts;
-ghost use Rattle.rmt_play.specs.PlayerSteps.{ExecutesIn};
+ghost use Rattle.rmt_play.specs.ActSteps.{ExecutesIn};
 
-use rmt_acts::{drop_partition, optimize, schema_of};
-use rmt_cluster::Cluster;
+use rmt_acting::Acting;
 use rmt_names::PartitionId;
 use rmt_reply::{Line, Refusal};
 use rmt_statements::PartitionWord;
@@ -57,21 +56,21 @@ pub(crate) fn partition_asked(
 }
 
 /// Drops the blocks of a partition, or refuses to.
-pub(crate) fn drop_in(
+pub(crate) fn drop_in<E: Acting>(
     alloc: Global,
-    cluster: &mut Cluster,
+    engine: &mut E,
     replica: ReplicaId,
     word: &PartitionWord,
 ) -> Result<Line, AllocError>
-    requires here { IsNumber replica (length cluster.old.replicas) }
-    requires idle { IsIdle cluster.old replica }
+    requires here { IsNumber replica (E.seen engine.old).count }
+    requires idle { MayAct (E.seen engine.old) replica }
     ensures executes { IfOk result (λ line. (table : Bytes ℕ)
-        → ExecutesIn cluster.old replica (acts.DropPartition table word.now) line cluster.new) }
-    ensures free { IfOk result (λ _. HoldsNone cluster.new) }
-    ensures keeps { KeepsUps cluster.old result cluster.new }
+        → ExecutesIn (E.seen engine.old) replica (acts.DropPartition table word.now) line (E.seen engine.new)) }
+    ensures goes_on { OnOk result (GoesOn (E.seen engine.old) (E.seen engine.new)) }
+    ensures keeps { KeepsShape (E.seen engine.old) (E.seen engine.new) }
 {
-    match partition_in(alloc, word, schema_of(cluster))? {
-        Ok(partition) => match drop_partition(alloc, cluster, replica, partition)? {
+    match partition_in(alloc, word, engine.schema())? {
+        Ok(partition) => match engine.drop_partition(alloc, replica, partition)? {
             Ok(below) => Ok(Line::Dropped { partition, below }),
             Err(refusal) => Ok(Line::Refused(refusal)),
         },
@@ -80,23 +79,23 @@ pub(crate) fn drop_in(
 }
 
 /// Merges the parts of each partition into one, or of the one that is named; or refuses to.
-pub(crate) fn optimize_in(
+pub(crate) fn optimize_in<E: Acting>(
     alloc: Global,
-    cluster: &mut Cluster,
+    engine: &mut E,
     replica: ReplicaId,
     word: &Option<PartitionWord>,
 ) -> Result<Line, AllocError>
-    requires here { IsNumber replica (length cluster.old.replicas) }
-    requires idle { IsIdle cluster.old replica }
-    requires fetches { fetching_of cluster.old replica ≡ true }
+    requires here { IsNumber replica (E.seen engine.old).count }
+    requires idle { MayAct (E.seen engine.old) replica }
+    requires fetches { (E.seen engine.old).fetching replica ≡ true }
     ensures executes { IfOk result (λ line. (table : Bytes ℕ)
-        → ExecutesIn cluster.old replica (acts.Optimize table word.now) line cluster.new) }
-    ensures free { IfOk result (λ _. HoldsNone cluster.new) }
-    ensures keeps { KeepsUps cluster.old result cluster.new }
+        → ExecutesIn (E.seen engine.old) replica (acts.Optimize table word.now) line (E.seen engine.new)) }
+    ensures goes_on { OnOk result (GoesOn (E.seen engine.old) (E.seen engine.new)) }
+    ensures keeps { KeepsShape (E.seen engine.old) (E.seen engine.new) }
 {
-    match partition_asked(alloc, word, schema_of(cluster))? {
+    match partition_asked(alloc, word, engine.schema())? {
         Ok(asked) => {
-            let made = optimize(alloc, cluster, replica, asked)?;
+            let made = engine.optimize(alloc, replica, asked)?;
             let (names, refused) = (made.names, made.refused);
             Ok(Line::Optimized { names, refused })
         }

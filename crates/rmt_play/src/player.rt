@@ -18,13 +18,15 @@ ghost use Rattle.rmt_play.specs.Plays.{Counts, Creates};
 ghost use Rattle.rmt_play.specs.Shown.{Agrees, HasReplicas};
 ghost use Rattle.rmt_play.specs.PlayerSteps.{
   ActsAt,
-  ChangesAt,
-  RunsCluster,
+  Answers,
+  CreatesNone,
+  RunsAt,
   IsCount,
   IsFound,
   IsCreateRefusal,
   IsEmptyPlayer,
   IsNewTable,
+  IsReplied,
   Moves,
   TurnsAll,
   TurnsEach,
@@ -39,6 +41,7 @@ ghost use Rattle.rmt_play.specs.PlayerSteps.{
 };
 
 use crate::act::act_at;
+use crate::answer::Answer;
 use crate::forms::table_of;
 use crate::named_table::NamedTable;
 use crate::replicas::replica_named;
@@ -127,6 +130,16 @@ fn turn_each(
     Ok(())
 }
 
+/// What a statement that was played comes to.
+fn replied(line: Result<Line, AllocError>) -> Result<Answer, AllocError>
+    ensures { IsReplied line result }
+{
+    match line {
+        Ok(line) => Ok(Answer::Reply(line)),
+        Err(error) => Err(error),
+    }
+}
+
 impl Player {
     /// One with two replicas and no table.
     pub(crate) fn new(alloc: Global) -> Player
@@ -183,7 +196,12 @@ impl Player {
     }
 
     /// Adds a table without rows.
-    fn add(&mut self, alloc: Global, name: Name, schema: Schema) -> Result<Line, AllocError>
+    pub(crate) fn add(
+        &mut self,
+        alloc: Global,
+        name: Name,
+        schema: Schema,
+    ) -> Result<Line, AllocError>
         ensures { IfOk result (λ line. Moves self.old (λ w v. Creates w name schema line v) self.new) }
     {
         let cluster = new_cluster(alloc, schema, self.replicas, &self.up)?;
@@ -191,26 +209,21 @@ impl Player {
         Ok(Line::Okay)
     }
 
-    /// Makes a table of a schema, or refuses to.
-    fn create(
-        &mut self,
-        alloc: Global,
-        table: Name,
-        made: Result<Schema, SchemaError>,
-    ) -> Result<Line, AllocError>
+    /// Whether a table is to be made of a schema, or why not.
+    fn create(&self, table: Name, made: Result<Schema, SchemaError>) -> Answer
         requires { IfErr made IsCreateRefusal }
-        ensures { IfOk result (λ line. MatchResult made
-            (λ schema. Moves self.old (ExecutesCreate table None schema line) self.new)
-            (λ e. Moves self.old (λ w v. (schema : Shape) → ExecutesCreate table (Some e) schema line w v) self.new)) }
+        ensures { MatchResult made
+            (λ schema. Answers self.now (ExecutesCreate table None schema) result self.now)
+            (λ e. Answers self.now (CreatesNone table e) result self.now) }
     {
         if place_of(&self.tables, &table).is_some() {
-            return Ok(Line::Refused(Refusal::TableExists(table)));
+            return Answer::Reply(Line::Refused(Refusal::TableExists(table)));
         }
         match made {
-            Err(error) => Ok(Line::Refused(self.refusal_of(error))),
+            Err(error) => Answer::Reply(Line::Refused(self.refusal_of(error))),
             Ok(schema) => match self.full() {
-                Some(refusal) => Ok(Line::Refused(refusal)),
-                None => self.add(alloc, table, schema),
+                Some(refusal) => Answer::Reply(Line::Refused(refusal)),
+                None => Answer::Creates { table, schema },
             },
         }
     }
@@ -321,7 +334,7 @@ impl Player {
     ) -> Result<Line, AllocError>
         requires place { place < length self.old.tables }
         requires seed { seed < 2 ^ 31 }
-        ensures { IfOk result (λ line. ChangesAt self.old place (RunsCluster turns seed line) self.new) }
+        ensures { IfOk result (λ line. RunsAt self.old place turns seed line self.new) }
     {
         match run_in(alloc, &mut self.tables[place].cluster, turns, seed) {
             Ok(line) => Ok(line),
@@ -393,14 +406,14 @@ impl Player {
         }
     }
 
-    /// Plays a statement of a form that is played.
-    fn perform(&mut self, alloc: Global, statement: Statement) -> Result<Line, AllocError>
+    /// Plays a statement of a form that is played, but for a CREATE that meets no refusal.
+    fn perform(&mut self, alloc: Global, statement: Statement) -> Result<Answer, AllocError>
         requires played { statement_test (length self.old.tables) statement ≡ true }
         requires limits { KeepsLimits statement }
-        ensures { IfOk result (λ line. Moves self.old (ExecutesPlayed statement line) self.new) }
+        ensures { IfOk result (λ a. Answers self.old (ExecutesPlayed statement) a self.new) }
     {
         match statement {
-            Statement::Replicas { count } => Ok(self.count(count)),
+            Statement::Replicas { count } => Ok(Answer::Reply(self.count(count))),
             Statement::Create {
                 table,
                 columns,
@@ -410,30 +423,31 @@ impl Player {
                 window,
             } => {
                 let made = new_schema(alloc, columns, partition, key, granularity, window)?;
-                self.create(alloc, table, made)
+                Ok(self.create(table, made))
             }
-            Statement::Kill { replica } => self.kill(alloc, replica),
-            Statement::Restart { replica } => self.restart(alloc, replica),
-            Statement::Run { table, turns, seed } => self.run(alloc, table, turns, seed),
-            Statement::At(sent) => self.send(alloc, &sent),
+            Statement::Kill { replica } => replied(self.kill(alloc, replica)),
+            Statement::Restart { replica } => replied(self.restart(alloc, replica)),
+            Statement::Run { table, turns, seed } => replied(self.run(alloc, table, turns, seed)),
+            Statement::At(sent) => replied(self.send(alloc, &sent)),
             _other => unreachable!(),
         }
     }
 
-    /// Plays a statement that begins at this place of its script.
+    /// Plays a statement that begins at this place of its script, but for a CREATE that meets no refusal.
     pub(crate) fn play(
         &mut self,
         alloc: Global,
         statement: Statement,
         start: usize,
-    ) -> Result<Line, AllocError>
+    ) -> Result<Answer, AllocError>
         requires limits { KeepsLimits statement }
-        ensures { IfOk result (λ line. Moves self.old (Executes statement start line) self.new) }
+        ensures { IfOk result (λ a. Answers self.old (Executes statement start) a self.new) }
     {
         if self.is_played(&statement) {
             self.perform(alloc, statement)
         } else {
-            Ok(Line::Refused(Refusal::Syntax { offset: start }))
+            let refusal = Refusal::Syntax { offset: start };
+            Ok(Answer::Reply(Line::Refused(refusal)))
         }
     }
 

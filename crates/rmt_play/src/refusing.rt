@@ -1,10 +1,10 @@
 //! Acts that are sent to a replica that is down, or that may not fetch what would bring it up to date.
-ghost use Rattle.std.specs.Prelude.{◌≡◌, ℕ, List as Bytes, length, IfOk};
+ghost use Rattle.std.specs.Prelude.{◌≡◌, ℕ, List as Bytes, IfOk};
 ghost use Rattle.rmt_statements.specs.declared.act.Act.TheVariants as acts;
 ghost use Rattle.std.specs.declared.option.Option.TheVariants.{Some};
 ghost use Rattle.rmt_state.specs.States.{IsNumber};
-ghost use Rattle.rmt_statement_model.specs.Shows.{ups};
-ghost use Rattle.rmt_play.specs.PlayerSteps.{ExecutesThere, IsOwnRefusal, held_refusal as refusal_held};
+ghost use Rattle.rmt_play.specs.ActSteps.{ExecutesThere, held_refusal as refusal_held};
+ghost use Rattle.rmt_play.specs.PlayerSteps.{IsOwnRefusal};
 
 use crate::forms::syncs_first;
 use crate::insert::rows_to_insert;
@@ -12,8 +12,7 @@ use crate::mutation::check as check_command;
 use crate::partition::{partition_asked, partition_in};
 use crate::query::check as check_query;
 use crate::select::setting_refusal;
-use rmt_acts::{may_fetch, schema_of};
-use rmt_cluster::Cluster;
+use rmt_acting::Acting;
 use rmt_reply::{Line, Refusal};
 use rmt_statements::{Act, Mode};
 use rmt_values::{Query, ReplicaId, Schema};
@@ -54,37 +53,37 @@ fn own_refusal(alloc: Global, schema: &Schema, act: &Act) -> Result<Option<Refus
 }
 
 /// Why an act is refused at a replica, whatever it asks for, where there is a cause.
-pub(crate) fn held_refusal(
-    cluster: &Cluster,
+pub(crate) fn held_refusal<E: Acting>(
+    engine: &E,
     replica: ReplicaId,
     is_up: bool,
     act: &Act,
 ) -> Option<Refusal>
-    requires here { IsNumber replica (length cluster.now.replicas) }
-    requires up { ups cluster.now replica ≡ is_up }
-    ensures { result ≡ refusal_held cluster.now replica act.now }
+    requires here { IsNumber replica (E.seen engine.now).count }
+    requires up { (E.seen engine.now).ups replica ≡ is_up }
+    ensures { result ≡ refusal_held (E.seen engine.now) replica act.now }
 {
     if !is_up {
         return Some(Refusal::ReplicaDown(replica));
     }
-    if syncs_first(act) && !may_fetch(cluster, replica) {
+    if syncs_first(act) && !engine.may_fetch(replica) {
         return Some(Refusal::FetchesStopped(replica));
     }
     None
 }
 
 /// Refuses an act in its table: for its own cause, where it has one, or for the one that its replica has.
-pub(crate) fn refuse_in(
+pub(crate) fn refuse_in<E: Acting>(
     alloc: Global,
-    cluster: &Cluster,
+    engine: &E,
     replica: ReplicaId,
     act: &Act,
     held: Refusal,
 ) -> Result<Line, AllocError>
-    requires held { refusal_held cluster.now replica act.now ≡ Some held }
-    ensures { IfOk result (λ line. ExecutesThere cluster.now replica act.now line cluster.now) }
+    requires held { refusal_held (E.seen engine.now) replica act.now ≡ Some held }
+    ensures { IfOk result (λ line. ExecutesThere (E.seen engine.now) replica act.now line (E.seen engine.now)) }
 {
-    match own_refusal(alloc, schema_of(cluster), act)? {
+    match own_refusal(alloc, engine.schema(), act)? {
         Some(refusal) => Ok(Line::Refused(refusal)),
         None => Ok(Line::Refused(held)),
     }

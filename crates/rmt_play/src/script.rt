@@ -15,20 +15,32 @@ ghost use Rattle.std.specs.Prelude.{
 ghost use Rattle.rmt_sql.specs.declared.parsed.Parsed.TheVariants as parsed;
 ghost use Rattle.rmt_sql.specs.Script.{ReadsAt};
 ghost use Rattle.rmt_play.specs.Plays.{is_refused};
-ghost use Rattle.rmt_play.specs.PlayerSteps.{Moves, Steps};
+ghost use Rattle.rmt_play.specs.PlayerSteps.{Answers, StepsTo};
 ghost use Rattle.rmt_reply.specs.Printed.{printed};
 ghost use Rattle.rmt_play.specs.declared.progress.Progress.TheVariants as progress;
+ghost use Rattle.rmt_play.specs.declared.round.Round.TheVariants as rounds;
 ghost use Rattle.rmt_play.specs.declared.script_end.ScriptEnd.TheVariants as ends;
 ghost use Rattle.rmt_outside.specs.Faults.{Rose};
-ghost use Rattle.rmt_play.specs.ScriptEnds.{is_refusal, IsReply, IsProgress, IsEndOf, IsScriptEnd};
+ghost use Rattle.rmt_play.specs.ScriptEnds.{
+  is_refusal,
+  IsReply,
+  IsProgress,
+  IsRound,
+  IsMade,
+  IsEndOf,
+  IsScriptEnd,
+};
 
+use crate::answer::Answer;
 use crate::outcome::Outcome;
 use crate::player::Player;
 use crate::progress::Progress;
+use crate::round::Round;
 use crate::script_end::ScriptEnd;
 use rmt_outside::{Sink, WriteError, write_all_of};
 use rmt_reply::{Line, Refusal, print_line};
 use rmt_sql::{Parsed, next_statement};
+use rmt_values::{Name, Schema};
 use std::alloc::{AllocError, Global};
 
 /// Whether the statement of this reply did what it says. An INSERT or an OPTIMIZE that prints a refusal after its parts didn't.
@@ -59,17 +71,17 @@ fn counted(count: u64, outcome: Outcome) -> u64
     }
 }
 
-/// Plays the next statement, and gives its reply and the place after it; none at the end of the script.
-fn next_line(
+/// Plays the next statement, but for a CREATE that meets no refusal, and gives the place after it; none at the end of the script.
+fn next_answer(
     alloc: Global,
     player: &mut Player,
     script: &[u8],
     at: usize,
-) -> Result<Option<(Line, usize)>, AllocError>
+) -> Result<Option<(Answer, usize)>, AllocError>
     requires { at ≤ length script.now }
     ensures step { IfOk result (λ next. MatchOption next
         (ReadsAt script.now at parsed.End × (player.new ≡ player.old))
-        (λ x. Moves player.old (Steps script.now at x.0 x.1) player.new)) }
+        (λ x. Answers player.old (StepsTo script.now at x.1) x.0 player.new)) }
     ensures further { IfOk result (λ next. IfSome next (λ x.
         (at < x.1) × (x.1 ≤ length script.now))) }
 {
@@ -80,11 +92,12 @@ fn next_line(
             start,
             end,
         } => {
-            let line = player.play(alloc, statement, start)?;
-            Ok(Some((line, end)))
+            let answer = player.play(alloc, statement, start)?;
+            Ok(Some((answer, end)))
         }
         Parsed::Syntax { offset, end } => {
-            Ok(Some((Line::Refused(Refusal::Syntax { offset }), end)))
+            let refusal = Refusal::Syntax { offset };
+            Ok(Some((Answer::Reply(Line::Refused(refusal)), end)))
         }
     }
 }
@@ -109,7 +122,7 @@ fn write_reply<K: Sink>(alloc: Global, line: &Line, end: usize, sink: &mut K) ->
     }
 }
 
-/// Plays the next statement, and writes its reply.
+/// Plays the next statement, but for a CREATE that meets no refusal, and writes its reply.
 fn play_next<K: Sink>(
     alloc: Global,
     player: &mut Player,
@@ -124,9 +137,74 @@ fn play_next<K: Sink>(
     ensures quiet { result ≢ progress.WriteFault → K.faults sink.new ≡ K.faults sink.old }
     ensures later { K.faults sink.old ≤ K.faults sink.new }
 {
-    match next_line(alloc, player, script, at) {
-        Ok(Some((line, end))) => write_reply(alloc, &line, end, sink),
+    match next_answer(alloc, player, script, at) {
+        Ok(Some((answer, end))) => match answer {
+            Answer::Reply(line) => write_reply(alloc, &line, end, sink),
+            Answer::Creates { table, schema } => Progress::Creates { table, schema, end },
+        },
         Ok(None) => Progress::AtEnd,
+        Err(AllocError) => Progress::Memory,
+    }
+}
+
+/// Plays statements from a place on, each reply written before the next one begins, up to the first CREATE that meets no refusal.
+/// So many were refused before.
+fn play_round<K: Sink>(
+    alloc: Global,
+    player: &mut Player,
+    script: &[u8],
+    from: usize,
+    count: u64,
+    sink: &mut K,
+) -> Round
+    requires within { from ≤ length script.now }
+    requires few { count ≤ from }
+    ensures round { IsRound script.now from count player.old player.new
+        (K.written sink.old) (K.written sink.new) result }
+    ensures cause { result ≡ rounds.WriteFault → Rose (K.faults sink.old) (K.faults sink.new) }
+    ensures quiet { result ≢ rounds.WriteFault → K.faults sink.new ≡ K.faults sink.old }
+    ensures later { K.faults sink.old ≤ K.faults sink.new }
+{
+    let mut at = from;
+    let mut refused = count;
+    'statements: loop {
+        match play_next(alloc, player, script, at, sink) {
+            Progress::AtEnd => return Round::AtEnd { refused },
+            Progress::On { end, outcome } => {
+                at = end;
+                refused = counted(refused, outcome);
+            }
+            Progress::Creates { table, schema, end } => {
+                return Round::Creates {
+                    table,
+                    schema,
+                    end,
+                    refused,
+                };
+            }
+            Progress::WriteFault => return Round::WriteFault,
+            Progress::Memory => return Round::Memory,
+        }
+    }
+}
+
+/// Makes the table of a CREATE, and writes the reply, after which the script goes on at a place.
+fn make_table<K: Sink>(
+    alloc: Global,
+    player: &mut Player,
+    table: Name,
+    schema: Schema,
+    end: usize,
+    sink: &mut K,
+) -> Progress
+    ensures made { IsMade table schema end player.old player.new
+        (K.written sink.old) (K.written sink.new) result }
+    ensures cause { result ≡ progress.WriteFault → Rose (K.faults sink.old) (K.faults sink.new) }
+    ensures quiet { result ≢ progress.WriteFault → K.faults sink.new ≡ K.faults sink.old }
+    ensures later { K.faults sink.old ≤ K.faults sink.new }
+{
+    match player.add(alloc, table, schema) {
+        Ok(line) => write_reply(alloc, &line, end, sink),
         Err(AllocError) => Progress::Memory,
     }
 }
@@ -141,7 +219,7 @@ fn end_of(alloc: Global, player: Player, refused: u64) -> ScriptEnd
     }
 }
 
-/// Plays a script to its end, each reply written before the next statement begins.
+/// Plays a script to its end, each reply written before the next statement begins. Tables are made between the rounds.
 pub(crate) fn play<K: Sink>(alloc: Global, script: &[u8], sink: &mut K) -> ScriptEnd
     ensures end { IsScriptEnd script.now (K.written sink.old) (K.written sink.new) result }
     ensures cause { result ≡ ends.WriteFault → Rose (K.faults sink.old) (K.faults sink.new) }
@@ -151,15 +229,25 @@ pub(crate) fn play<K: Sink>(alloc: Global, script: &[u8], sink: &mut K) -> Scrip
     let mut player = Player::new(alloc);
     let mut at = 0;
     let mut refused = 0;
-    'statements: loop {
-        match play_next(alloc, &mut player, script, at, sink) {
-            Progress::AtEnd => return end_of(alloc, player, refused),
-            Progress::On { end, outcome } => {
-                at = end;
-                refused = counted(refused, outcome);
-            }
-            Progress::WriteFault => return ScriptEnd::WriteFault,
-            Progress::Memory => return ScriptEnd::Memory,
+    'rounds: loop {
+        match play_round(alloc, &mut player, script, at, refused, sink) {
+            Round::AtEnd { refused } => return end_of(alloc, player, refused),
+            Round::Creates {
+                table,
+                schema,
+                end,
+                refused: count,
+            } => match make_table(alloc, &mut player, table, schema, end, sink) {
+                Progress::On { end, outcome } => {
+                    at = end;
+                    refused = counted(count, outcome);
+                }
+                Progress::WriteFault => return ScriptEnd::WriteFault,
+                Progress::Memory => return ScriptEnd::Memory,
+                Progress::AtEnd | Progress::Creates { .. } => unreachable!(),
+            },
+            Round::WriteFault => return ScriptEnd::WriteFault,
+            Round::Memory => return ScriptEnd::Memory,
         }
     }
 }

@@ -1,12 +1,11 @@
 //! RUN in its table.
-ghost use Rattle.std.specs.Prelude.{◌≡◌, ◌≢◌, ◌<◌, ◌^◌, length, IfOk, IfSome, MatchOption};
+ghost use Rattle.std.specs.Prelude.{◌≡◌, ◌≢◌, ◌<◌, ◌^◌, IfOk, IfSome, MatchOption, OnOk};
 ghost use Rattle.std.specs.declared.option.Option.TheVariants.{None};
-ghost use Rattle.rmt_statement_model.specs.Shows.{HoldsNone, KeepsUps};
+ghost use Rattle.rmt_acting.specs.Acting.{GoesOn, KeepsShape};
 ghost use Rattle.rmt_play.specs.Checks.{refused_turns};
-ghost use Rattle.rmt_play.specs.PlayerSteps.{RunsCluster};
+ghost use Rattle.rmt_play.specs.ActSteps.{RunsTable};
 
-use rmt_acts::run_turns;
-use rmt_cluster::Cluster;
+use rmt_acting::Acting;
 use rmt_reply::Line;
 use std::alloc::{AllocError, Global};
 
@@ -27,18 +26,18 @@ pub(crate) fn in_range(turns: u128, seed: u128) -> Option<(u32, u32)>
 }
 
 /// Makes so many background events.
-pub(crate) fn run_in(
+pub(crate) fn run_in<E: Acting>(
     alloc: Global,
-    cluster: &mut Cluster,
+    engine: &mut E,
     turns: u32,
     seed: u32,
 ) -> Result<Line, AllocError>
-    requires free { HoldsNone cluster.old }
+    requires free { (E.seen engine.old).free }
     requires seed { seed < 2 ^ 31 }
-    ensures runs { IfOk result (λ line. RunsCluster turns seed line cluster.old cluster.new) }
-    ensures free { IfOk result (λ _. HoldsNone cluster.new) }
-    ensures keeps { KeepsUps cluster.old result cluster.new }
+    ensures runs { IfOk result (λ line. RunsTable turns seed line (E.seen engine.old) (E.seen engine.new)) }
+    ensures goes_on { OnOk result (GoesOn (E.seen engine.old) (E.seen engine.new)) }
+    ensures keeps { KeepsShape (E.seen engine.old) (E.seen engine.new) }
 {
-    run_turns(alloc, cluster, seed, turns)?;
+    engine.run_turns(alloc, seed, turns)?;
     Ok(Line::Ran(turns))
 }

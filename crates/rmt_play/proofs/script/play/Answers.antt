@@ -1,36 +1,54 @@
-use Rattle.std.proofs.Common.{◌∙◌, arith, refl, subst}
-use Rattle.rmt_play.proofs.ScriptLemmas.{so_far_start, so_far_on, so_far_short, ends-whole}
-use Rattle.rmt_play.specs.PlayerSteps.{PlayerView}
-use Rattle.rmt_play.specs.ScriptEnds.{IsEndOf}
+use Rattle.std.proofs.Common.{◌∙◌, arith, refl}
+use Rattle.rmt_play.proofs.ScriptLemmas.{so_far_start, so_far_made, round-ends, round-short, round-in-part, made-short, made-in-part}
 use Rattle.rmt_play.proofs.script.play.Goals as goal
 
-pub statements-init : goal.statements-init
-statements-init g c = record {
+pub rounds-init : goal.rounds-init
+rounds-init g c = record {
   within = omega arith;
   few = omega arith;
   quiet = refl;
   so_far = so_far_start c.args.script.now c.new-player.result (g.K.Sink.written c.args.sink.now) c.new-player.ensures;
 }
 
-pub statements-preserved : goal.statements-preserved
-statements-preserved g c =
-    let on = c.in-On.ensures.progress in
-    let further = on.further in
-    let few = c.statements.invariant.few in
+pub rounds-preserved : goal.rounds-preserved
+rounds-preserved g c =
     let count = c.counted-refused.ensures in
+    let on = so_far_made c.args.script.now c.rounds.at c.rounds.refused c.rounds.player c.play_round.new.player c.make_table.new.player _ _ _ _ c.in-Creates.table c.in-Creates.schema c.in-Creates.end c.in-Creates.count c.in-On.end c.counted-refused.result c.in-On.outcome
+    c.rounds.invariant.so_far c.in-Creates.ensures.round c.in-On.ensures.made count in
+    let few = on.1 in
     record {
-      within = on.within;
-      few = grind (arith, further, few, count);
-      quiet = c.in-On.ensures.quiet (λ e. cc) ∙ c.statements.invariant.quiet;
-      so_far = so_far_on c.args.script.now c.statements.at c.statements.player c.play_next.new.player _ _ _ c.statements.refused c.in-On.end c.counted-refused.result c.in-On.outcome c.statements.invariant.so_far on count;
+      within = on.3;
+      few = grind (arith, few, count);
+      quiet = c.in-On.ensures.quiet (λ e. cc) ∙ (c.in-Creates.ensures.quiet (λ e. cc) ∙ c.rounds.invariant.quiet);
+      so_far = on.0;
     }
 
-pub returns-in-WriteFault-clause-end : goal.returns-in-WriteFault-clause-end
-returns-in-WriteFault-clause-end g c =
-    so_far_short c.args.script.now c.statements.at c.statements.player _ _ _ c.statements.refused c.statements.invariant.so_far c.in-WriteFault.ensures.progress
+pub rounds-smaller : goal.rounds-smaller
+rounds-smaller g c =
+    let on = so_far_made c.args.script.now c.rounds.at c.rounds.refused c.rounds.player c.play_round.new.player c.make_table.new.player _ _ _ _ c.in-Creates.table c.in-Creates.schema c.in-Creates.end c.in-Creates.count c.in-On.end c.counted-refused.result c.in-On.outcome
+    c.rounds.invariant.so_far c.in-Creates.ensures.round c.in-On.ensures.made c.counted-refused.ensures in
+    let further = on.2 in
+    let within = on.3 in
+    omega (arith, further, within)
 
 pub returns-in-AtEnd-clause-end : goal.returns-in-AtEnd-clause-end
 returns-in-AtEnd-clause-end g c =
-    let (ended, keeps, same) = c.in-AtEnd.ensures.progress in
-    ends-whole c.args.script.now c.statements.at c.statements.player _ _ _ c.statements.refused c.end_of.result c.statements.invariant.so_far ended keeps
-    (subst (λ (p : PlayerView). IsEndOf p c.statements.refused c.end_of.result) same c.end_of.ensures)
+    round-ends c.args.script.now c.rounds.at c.rounds.refused c.rounds.player c.play_round.new.player _ _ _ c.in-AtEnd.refused c.end_of.result c.rounds.invariant.so_far c.in-AtEnd.ensures.round c.end_of.ensures
+
+pub returns-in-WriteFault-clause-end : goal.returns-in-WriteFault-clause-end
+returns-in-WriteFault-clause-end g c =
+    round-short c.args.script.now c.rounds.at c.rounds.refused c.rounds.player c.play_round.new.player _ _ _ c.rounds.invariant.so_far c.in-WriteFault.ensures.round
+
+pub returns-in-Memory-clause-end : goal.returns-in-Memory-clause-end
+returns-in-Memory-clause-end g c =
+    round-in-part c.args.script.now c.rounds.at c.rounds.refused c.rounds.player c.play_round.new.player _ _ _ c.rounds.invariant.so_far c.in-Memory.ensures.round
+
+pub returns-in-WriteFault-make_table-clause-end : goal.returns-in-WriteFault-make_table-clause-end
+returns-in-WriteFault-make_table-clause-end g c =
+    made-short c.args.script.now c.rounds.at c.rounds.refused c.rounds.player c.play_round.new.player c.make_table.new.player _ _ _ _ c.in-Creates.table c.in-Creates.schema c.in-Creates.end c.in-Creates.count
+    c.rounds.invariant.so_far c.in-Creates.ensures.round c.in-WriteFault-make_table.ensures.made
+
+pub returns-in-Memory-make_table-clause-end : goal.returns-in-Memory-make_table-clause-end
+returns-in-Memory-make_table-clause-end g c =
+    made-in-part c.args.script.now c.rounds.at c.rounds.refused c.rounds.player c.play_round.new.player _ _ _ _ c.in-Creates.table c.in-Creates.schema c.in-Creates.end c.in-Creates.count
+    c.rounds.invariant.so_far c.in-Creates.ensures.round c.in-Memory-make_table.ensures.made

@@ -13,11 +13,11 @@ returns-in-Ok c =
     let place : c.args.place < length tables = subst (λ (p : PlayerView). c.args.place < length p.tables) (sym c.self.view_is) c.requires.place in
     let there = slice_get_read tables (length tables) c.args.place c.index_mut.result.now refl place c.index_mut.ensures.value in
     let old : NamedCluster = record { name = c.behind-self.inside.name; cluster = c.behind-self.inside.cluster } in
-    let new : NamedCluster = record { name = c.behind-self.inside.name; cluster = c.act_at.new.cluster } in
+    let new : NamedCluster = record { name = c.behind-self.inside.name; cluster = c.act_at.new.engine } in
     subst (λ (p : PlayerView). ActsAt p c.args.place c.args.replica c.args.act.now c.in-Ok.line (record { replicas = c.self.inside.replicas; up = c.self.inside.up; tables = slice_set tables c.args.place new })) c.self.view_is (record {
       table = old;
       there = there ∙ ap (λ (t : NamedCluster). Some t) (sym c.behind-self.view_is);
-      after = c.act_at.new.cluster;
+      after = c.act_at.new.engine;
       changes = c.in-Ok.ensures.executes;
       rest = refl;
     })

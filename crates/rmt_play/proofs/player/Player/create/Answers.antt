@@ -1,5 +1,4 @@
 use Rattle.std.proofs.Common.{◌∙◌, List, ap, refl, sym, subst}
-use Rattle.std.proofs.lemmas.Result.{IfOk-weaker}
 use Rattle.rmt_reply.specs.declared.line.Line.TheVariants as lines
 use Rattle.rmt_reply.specs.declared.refusal.Refusal.TheVariants.{TableExists}
 use Rattle.rmt_play.specs.PlayerSteps.{NamedCluster, PlayerView, IsFound}
@@ -32,4 +31,4 @@ returns-in-None c =
     let tables = c.deref.ensures.value ∙ ap (λ (p : PlayerView). p.tables) c.self.view_is in
     let found = subst (λ (ts : List NamedCluster). IsFound ts c.args.table c.place_of.result) tables c.place_of.ensures in
     let none = nothing-there c.args.self.now.tables c.args.table c.place_of.result (sym c.is_some.ensures ∙ c.if-is_some.false) found in
-    IfOk-weaker c.add.result _ _ (λ line m. made-created c.args.self.now c.add.new.self c.args.table c.args.made c.in-Ok.schema line c.in-Ok.is none (sym c.full.ensures ∙ c.in-None.is) m) c.add.ensures
+    made-created c.args.self.now c.args.table c.args.made c.in-Ok.schema c.in-Ok.is none (sym c.full.ensures ∙ c.in-None.is)

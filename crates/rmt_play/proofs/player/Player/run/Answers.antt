@@ -3,7 +3,7 @@ use Rattle.std.proofs.lemmas.Option.{MatchOption-at_none}
 use Rattle.std.specs.declared.option.Option.TheVariants.{Some}
 use Rattle.rmt_reply.specs.declared.line.Line.TheVariants as lines
 use Rattle.rmt_reply.specs.declared.refusal.Refusal.TheVariants.{WrongType}
-use Rattle.rmt_play.specs.PlayerSteps.{NamedCluster, PlayerView, IsAtAll, IsPlaceOf, IsFound, HasNone, ChangesAt, RunsCluster}
+use Rattle.rmt_play.specs.PlayerSteps.{NamedCluster, PlayerView, IsAtAll, IsPlaceOf, IsFound, HasNone, RunsAt}
 use Rattle.rmt_model.specs.Words.{Each}
 use Rattle.rmt_play.proofs.TableLemmas.{get-below}
 use Rattle.rmt_play.proofs.SendLemmas.{runs, no-run-table, no-turns, turns-word}
@@ -33,8 +33,8 @@ pub returns-in-Some-in_range : goal.returns-in-Some-in_range
 returns-in-Some-in_range c =
     let told = c.in-Some-in_range.ensures.range in
     runs c.args.self.now c.work.new.self c.args.table c.args.turns c.args.seed c.in-Some.place c.in_ok-line-in-Some-in_range.line (subst (λ (p : PlayerView). Each (IsAtAll p.replicas p.up) p.tables) c.self.view_is c.self.invariant.all) (place (goal.at.returns-in-Some-in_range c).In-Some) told.0
-    (subst (λ (x : ℕ). ChangesAt c.args.self.now c.in-Some.place (RunsCluster c.args.turns x c.in_ok-line-in-Some-in_range.line) c.work.new.self) told.2
-    (subst (λ (n : ℕ). ChangesAt c.args.self.now c.in-Some.place (RunsCluster n c.in-Some-in_range.seed c.in_ok-line-in-Some-in_range.line) c.work.new.self) told.1 c.in_ok-line-in-Some-in_range.ensures))
+    (subst (λ (x : ℕ). RunsAt c.args.self.now c.in-Some.place c.args.turns x c.in_ok-line-in-Some-in_range.line c.work.new.self) told.2
+    (subst (λ (n : ℕ). RunsAt c.args.self.now c.in-Some.place n c.in-Some-in_range.seed c.in_ok-line-in-Some-in_range.line c.work.new.self) told.1 c.in_ok-line-in-Some-in_range.ensures))
 
 pub returns : goal.returns
 returns c =
