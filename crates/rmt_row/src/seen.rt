@@ -39,6 +39,18 @@ impl<T: Drop> Seen<T> {
         }
     }
 
+    /// A token of the same cell, with another reference to its value.
+    pub(crate) fn again(&self, value: Arc<T, Global>) -> Seen<T>
+        requires { arc_value value ≡ self.now.value }
+        ensures { result ≡ self.now }
+    {
+        Seen {
+            place: self.place,
+            value,
+            shown: self.shown.again(),
+        }
+    }
+
     /// The cell's place, counted from 0.
     pub fn place(&self) -> usize
         ensures { result ≡ self.now.place }
@@ -58,11 +70,7 @@ impl<T: Drop> Seen<T> {
         ensures { IfOk result (λ other. other ≡ self.now) }
     {
         let value = Arc::try_clone(&self.value)?;
-        Ok(Seen {
-            place: self.place,
-            value,
-            shown: self.shown.again(),
-        })
+        Ok(self.again(value))
     }
 }
 

@@ -1,4 +1,6 @@
 ghost use Rattle.std.specs.Prelude.{◌≡◌, [], true, false, None, Some, cond, is_some, slice_get, IfOk, IfErr, OnOk, OnErr, ◌⊎◌, Ok, Err};
+ghost use Rattle.std.specs.Borrow.{MutBor};
+ghost use Rattle.std.specs.Fn.{FnOnceReturnsAtMut};
 ghost use Rattle.std.specs.declared.alloc.AllocError.{AllocError};
 ghost use Rattle.std.specs.Option.{option_map, option_copied};
 ghost use Rattle.rmt_paths.specs.Paths.{parent, last_name};
@@ -80,44 +82,39 @@ impl Tree {
         }
     }
 
-    /// Does another thing, which can't be undone, and then these operations one after the other; or none of them. All
-    /// memory is taken before the other thing is done, and nothing is refused after it.
+    /// Changes a state besides, and then does these operations one after the other; or neither. All memory is taken
+    /// before the state is changed, and nothing is refused after it.
     ///
-    /// At an error the tree is as it was. The other thing comes back with it where it wasn't done; where nothing comes
-    /// back, it was done and had no memory itself.
-    pub fn multi_after<X, F: FnOnce() -> Result<X, AllocError>>(
+    /// At an error the tree is as it was. `change` wasn't called then, or it answered that no memory was left.
+    pub fn multi_after<S, X, F: FnOnce(&mut S) -> Result<X, AllocError>>(
         &mut self,
         ops: &[Op],
-        other: F,
-    ) -> Result<X, (MultiError, Option<F>)>
+        state: &mut S,
+        change: F,
+    ) -> Result<X, MultiError>
     where
         F: Drop,
-        requires { F.pre other }
+        requires { (at : MutBor S) → at.now ≡ state.old → F.pre change at }
         ensures all { OnOk result (first_refusal self.old ops.now 0 ≡ None) }
         ensures ok { OnOk result (self.new ≡ after_all self.old ops.now) }
-        ensures other { IfOk result (λ x. F.post other (Ok x)) }
-        ensures undone { IfErr result (λ e. (e.1 ≡ Some other)
-            ⊎ ((none : AllocError) × F.post other (Err none))) }
-        ensures refused { IfErr result (λ e. IsRefusal (first_refusal self.old ops.now 0) e.0) }
+        ensures changed { IfOk result (λ x. FnOnceReturnsAtMut F.FnOnce change state.old (Ok x) state.new) }
+        ensures unchanged { IfErr result (λ e. (state.new ≡ state.old)
+            ⊎ ((none : AllocError) × FnOnceReturnsAtMut F.FnOnce change state.old (Err none) state.new)) }
+        ensures refused { IfErr result (IsRefusal (first_refusal self.old ops.now 0)) }
         ensures err { OnErr result (self.new ≡ self.old) }
     {
         let alloc = *self.tracker.allocator();
         name_nodes(ops);
-        let outcome = match draft_all(alloc, &self.slots, &self.tracker, ops) {
-            Ok(outcome) => outcome,
-            Err(error) => return Err((error, Some(other))),
-        };
-        if prepare(alloc, &mut self.slots, &mut self.tracker, &outcome.changes).is_err() {
-            return Err((MultiError::Memory, Some(other)));
-        }
-        match other() {
+        let outcome = draft_all(alloc, &self.slots, &self.tracker, ops)?;
+        prepare(alloc, &mut self.slots, &mut self.tracker, &outcome.changes)?;
+        match change(state) {
             Ok(made) => {
                 commit(&mut self.slots, &mut self.tracker, outcome.changes);
                 Ok(made)
             }
             Err(_) => {
                 untrack_all(&self.slots, &mut self.tracker, &outcome.changes);
-                Err((MultiError::Memory, None))
+                Err(MultiError::Memory)
             }
         }
     }
