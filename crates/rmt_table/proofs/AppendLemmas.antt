@@ -5,7 +5,7 @@ use Rattle.rmt_entries.specs.declared.entry.Entry.{Entry}
 use Rattle.rmt_history.specs.Copies.{entries}
 use Rattle.rmt_history.proofs.Copied.{entries-snoc, length-entries}
 use Rattle.rmt_table_model.specs.Held.{Held}
-use Rattle.rmt_table.specs.TableTrees.{ArePlaced, next_token, token_in}
+use Rattle.rmt_table.specs.TableTrees.{ArePlaced, next_token, token_in, Counts, IsTableTree}
 use Rattle.rmt_table.proofs.Appended.{placed-more, next-of-row}
 
 -- each token is at its place, one more too
@@ -30,3 +30,12 @@ token-next h now same tokens log e token is =
 -- the token of an entry, by another word for that entry
 pub token-of : (row : List ℕ) (tokens : List (Token Entry)) (t : Token Entry) (e f : Entry) → t ≡ token_in row (length tokens) e → e ≡ f → t ≡ token_in row (length tokens) f
 token-of row tokens t e f q r = subst (λ (g : Entry). t ≡ token_in row (length tokens) g) r q
+
+-- ---- the cells of the log stay
+
+-- what holds of a table holds of it with the same cells
+pub with-row : (P : Held → Type 0) (h : Held) (row : List ℕ) → row ≡ h.row → P h → P (record h { row = row })
+with-row P h row e p = subst (λ (r : List ℕ). P (record h { row = r })) (sym e) p
+
+pub tree-row : (h : Held) (tokens : List (Token Entry)) (counts : Counts) (row : List ℕ) → row ≡ h.row → IsTableTree h tokens counts → IsTableTree (record h { row = row }) tokens counts
+tree-row h tokens counts row e k = with-row (λ (x : Held). IsTableTree x tokens counts) h row e k

@@ -1,7 +1,6 @@
 -- What an accepted block makes of a table.
 use Rattle.std.proofs.Common.{◌≡◌, ◌≢◌, is_some, ℕ, ◌+◌, ◌<◌, ◌≤◌, inl, Bool, true, false, cond, nat_le, nat_lt, List, [], ◌∷◌, ◌++◌, length, take, refl, sym, ap, subst, arith, ◌∙◌}
 use Rattle.std.proofs.lemmas.Bool.Decides.{nat_tests}
-use Rattle.std.proofs.lemmas.List.{append-nil}
 use Rattle.std.specs.declared.option.Option.{Option}
 use Rattle.std.specs.declared.option.Option.TheVariants.{Some, None}
 use Rattle.rmt_values.specs.declared.limit.Limit.{Limit}
@@ -30,7 +29,7 @@ use Rattle.rmt_table_model.specs.Kept.{Placed, in_order, get_count, is_get, with
 use Rattle.rmt_table_model.specs.Inserts.{part_of}
 use Rattle.rmt_table_model.specs.Tables.{TableView}
 use Rattle.rmt_table_model.specs.Changes.{MayCommit, after_commit}
-use Rattle.rmt_table_model.specs.Nodes.{IsTable, keep_ops, status_text, status_ops, commit_ops}
+use Rattle.rmt_table_model.specs.Nodes.{IsTable, keep_ops, status_ops, commit_ops}
 use Rattle.rmt_table_model.specs.Steps.{Steps}
 use Rattle.rmt_table_model.specs.Held.{Held, table_of, holders_in}
 use Rattle.rmt_table_model.proofs.TableLemmas.{commit-steps}

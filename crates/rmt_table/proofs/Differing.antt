@@ -1,5 +1,5 @@
 -- The first neighbours among names that may not be merged, told one by one.
-use Rattle.std.proofs.Common.{◌≡◌, inl, inr, Bool, true, false, List, [], ◌∷◌, refl, sym, subst, ◌∙◌}
+use Rattle.std.proofs.Common.{◌≡◌, inl, inr, List, [], ◌∷◌, refl, sym, subst, ◌∙◌}
 use Rattle.std.specs.declared.option.Option.{Option}
 use Rattle.std.specs.declared.option.Option.TheVariants.{Some, None}
 use Rattle.rmt_names.specs.Names.{Name, Covers}
@@ -9,7 +9,7 @@ use Rattle.rmt_model.specs.Lawful.{ver}
 use Rattle.rmt_model.proofs.Lists.{Each-at, Each-all}
 use Rattle.rmt_model.specs.Quorum.{Pending}
 use Rattle.rmt_events.specs.TableCalls.{AreQuiet}
-use Rattle.rmt_events.specs.TableRefusals.{HoldPending, MayJoin, AreFirstToDiffer, AreFirstInQuorum, AreAlike}
+use Rattle.rmt_events.specs.TableRefusals.{MayJoin, AreFirstToDiffer, AreFirstInQuorum, AreAlike}
 
 -- the neighbours that may not be merged first among a and all are those among left and the names that are still to come; and if
 -- those may all be merged, so may these

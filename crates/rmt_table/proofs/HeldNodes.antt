@@ -1,20 +1,13 @@
 -- What a table's tree has of its block numbers and of its kept ids.
-use Rattle.std.proofs.Common.{◌≡◌, ℕ, zero, suc, ◌<◌, ◌≤◌, inr, List, [], ◌∷◌, filter, refl, sym, ap, subst, arith}
-use Rattle.std.proofs.lemmas.List.Sums.{count_by-le-length}
+use Rattle.std.proofs.Common.{◌≡◌, inr, refl, arith}
 use Rattle.rmt_entries.specs.EntryBytes.{entry_bytes}
-use Rattle.rmt_entries.specs.declared.entry.Entry.{Entry}
-use Rattle.rmt_entries.specs.declared.entry.Entry.TheVariants.{Get, Merge, Mutate, Mutation, DropRange}
-use Rattle.rmt_model.specs.Words.{Has, Each}
-use Rattle.rmt_model.proofs.Lists.{Each-all, Each-at}
 use Rattle.rmt_znodes.specs.declared.znode.Znode.{Znode}
 use Rattle.rmt_znodes.specs.declared.znode.Znode.TheVariants.{Log, LogEntry, Blocks, Block, Order, OrderOf, Numbers, Partition, Lock, Mutations, MutationNode, Quorum, Status, LastPart, Replicas, Replica, LogPointer, IsActive}
 use Rattle.rmt_znodes.proofs.ZnodeStateLemmas.{has_znodes-as}
-use Rattle.rmt_table_model.specs.Kept.{Placed, outlives, in_order, get_count, IsIdZnode, AreKept, is_get}
 use Rattle.rmt_table_model.specs.Tables.{TableView}
 use Rattle.rmt_table_model.specs.Nodes.{expected, version_limits, next_states, lock_states}
 use Rattle.rmt_table_model.specs.Inserts.{HasNumbers}
 use Rattle.rmt_table_model.specs.Held.{Held, IsHeld, table_of, holders_in}
-use Rattle.rmt_table.proofs.SoundRanges.{sound-length}
 
 numbers-same : (v : TableView) (y : Znode) → expected entry_bytes v y ≡ next_states v.next (lock_states v.holders (expected entry_bytes v)) y
 numbers-same v Log = refl

@@ -1,5 +1,5 @@
 -- What a note makes of a table.
-use Rattle.std.proofs.Common.{◌≡◌, ℕ, suc, ◌<◌, ◌≤◌, inl, inr, Bool, true, false, cond, List, [], ◌∷◌, length, nat_eq, nat_lt, refl, sym, ap, subst, arith, ◌∙◌}
+use Rattle.std.proofs.Common.{◌≡◌, ℕ, ◌<◌, inl, inr, Bool, true, false, cond, List, [], ◌∷◌, length, nat_eq, nat_lt, refl, sym, ap, subst, arith, ◌∙◌}
 use Rattle.std.proofs.lemmas.Bool.Decides.{nat_tests}
 use Rattle.std.specs.Prelude.{◌↔◌, IsTrue}
 use Rattle.std.specs.declared.option.Option.{Option}
@@ -8,7 +8,7 @@ use Rattle.rmt_names.specs.Names.{Name}
 use Rattle.rmt_row.specs.Token.{Token}
 use Rattle.rmt_entries.specs.declared.entry.Entry.{Entry}
 use Rattle.rmt_entries.specs.EntryBytes.{entry_bytes}
-use Rattle.rmt_model.specs.Words.{Has, Each, Pairwise}
+use Rattle.rmt_model.specs.Words.{Has, Pairwise}
 use Rattle.rmt_model.proofs.Lists.{Each-at}
 use Rattle.rmt_model.specs.Quorum.{Pending, Quorum, IsPending, IsQuorum, noted_with, quorum_noted, noted_by, quorum_after_note}
 use Rattle.rmt_tree.specs.Trees.{TreeView}

@@ -1,5 +1,5 @@
 -- How many sessions are there.
-use Rattle.std.proofs.Common.{◌≡◌, ℕ, suc, ◌+◌, ◌<◌, ◌≤◌, Bool, true, false, cond, is_some, List, [], ◌∷◌, ◌++◌, length, take, get_or, Option, Some, None, refl, ap, arith}
+use Rattle.std.proofs.Common.{◌≡◌, ℕ, ◌+◌, ◌<◌, cond, is_some, List, [], ◌∷◌, ◌++◌, length, take, get_or, Option, Some, None, refl, ap, arith}
 use Rattle.std.proofs.lemmas.List.{take_more}
 use Rattle.rmt_table.specs.SeenTable.{opened_from}
 

@@ -1,5 +1,5 @@
 -- Why an insert that asks for a quorum isn't taken.
-use Rattle.std.proofs.Common.{◌≡◌, ℕ, ◌<◌, ◌≤◌, length, Option, Some, None, refl, sym, ap, arith, ◌∙◌}
+use Rattle.std.proofs.Common.{◌≡◌, ℕ, ◌<◌, ◌≤◌, length, Option, Some, None, refl, sym, arith, ◌∙◌}
 use Rattle.std.specs.Option.{option_map}
 use Rattle.rmt_names.specs.Names.{Name}
 use Rattle.rmt_model.specs.Quorum.{Pending}

@@ -4,6 +4,7 @@ pub use Rattle.rmt_events.specs.TableRefusals
 pub use Rattle.rmt_table_model.specs.Held
 pub use Rattle.rmt_table_model.specs.Nodes
 pub mod SeenTable
+pub mod LoggedEntries
 pub mod TableTrees
 pub mod Causes
 pub mod Refusals

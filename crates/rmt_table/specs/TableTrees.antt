@@ -1,11 +1,11 @@
 -- A table as its log and its tree have it.
 -- ClickHouse documentation, Data Replication. What is kept in memory beside the tree is this program's own.
-use Rattle.std.specs.Prelude.{◌≡◌, ℕ, ◌+◌, ◌-◌, ◌≤◌, Bool, true, false, cond, nat_eq, nat_lt, List, [], ◌∷◌, ◌++◌, length, slice_get, slice_index_or}
+use Rattle.std.specs.Prelude.{◌≡◌, ℕ, ◌-◌, ◌≤◌, Bool, true, false, cond, nat_eq, List, [], ◌∷◌, length, slice_get, slice_index_or}
 use Rattle.std.specs.declared.option.Option.{Option}
 use Rattle.std.specs.declared.option.Option.TheVariants.{Some, None}
 use Rattle.rmt_row.specs.Token.{Token, IsOf}
 use Rattle.rmt_entries.specs.declared.entry.Entry.{Entry}
-use Rattle.rmt_entries.specs.declared.entry.Entry.TheVariants.{Get, Merge, Mutate, Mutation, DropRange}
+use Rattle.rmt_entries.specs.declared.entry.Entry.TheVariants.{Merge, Mutate, DropRange}
 use Rattle.rmt_entries.specs.EntryBytes.{entry_bytes}
 use Rattle.rmt_model.specs.Lawful.{IsPrefix, mutation_count}
 use Rattle.rmt_model.specs.EntryLimits.{client_count, worker_count}
@@ -23,7 +23,7 @@ use Rattle.rmt_znodes.specs.Znodes.{znode_path, entry_path}
 use Rattle.rmt_events.specs.Views.{Table}
 use Rattle.rmt_events.specs.TableCalls.{Unlocks, DropsPartition, AssignsMerge, AssignsMutate}
 use Rattle.rmt_model.specs.BlockNumbers.{next_number}
-use Rattle.rmt_names.specs.Names.{Name, rank}
+use Rattle.rmt_names.specs.Names.{Name}
 use Rattle.rmt_table_model.specs.Nodes.{AreLocks, drop_ops}
 use Rattle.rmt_table.specs.declared.lock.Lock as lock
 use Rattle.rmt_table.specs.declared.commit_error.CommitError.{CommitError}

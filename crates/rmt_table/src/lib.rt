@@ -6,6 +6,7 @@ mod change_error;
 mod choices;
 mod commit_error;
 mod counted;
+mod entry_log;
 mod laws;
 mod layout;
 mod lock;

@@ -8,9 +8,9 @@ ghost use Rattle.rmt_entries.specs.EntryBytes.{entry_bytes, EntryInRange};
 ghost use Rattle.rmt_znodes.specs.Znodes.{entry_path as path_of_entries};
 ghost use Rattle.rmt_table.specs.TableTrees.{entry_ops as entry_ops_of, token_in};
 
+use crate::entry_log::EntryLog;
 use rmt_entries::{Entry, bytes};
-use rmt_history::TableLog;
-use rmt_row::{Row, Seen};
+use rmt_row::Seen;
 use rmt_tree::{MultiError, Op, Path, Tree};
 use rmt_values::Blob;
 use rmt_znodes::entry_path;
@@ -28,48 +28,6 @@ pub(crate) fn multi(tree: &mut Tree, ops: &[Op]) -> Result<(), AllocError>
         Err(MultiError::Memory) => Err(AllocError),
         Err(MultiError::Refused { .. }) => unreachable!(),
     }
-}
-
-/// Does another thing, which can't be undone, and then these operations, where none of them is refused.
-///
-/// At an error no memory was left, and the tree is as it was.
-fn multi_after<X, F: FnOnce() -> Result<X, AllocError>>(
-    tree: &mut Tree,
-    ops: &[Op],
-    other: F,
-) -> Result<X, AllocError>
-where
-    F: Drop,
-    requires fine { first_refusal tree.old ops.now 0 ≡ None }
-    requires other { F.pre other }
-    ensures ok { OnOk result (tree.new ≡ after_all tree.old ops.now) }
-    ensures other { IfOk result (λ x. F.post other (Ok x)) }
-    ensures err { OnErr result (tree.new ≡ tree.old) }
-{
-    match tree.multi_after(ops, other) {
-        Ok(made) => Ok(made),
-        Err((MultiError::Memory, _)) => Err(AllocError),
-        Err((MultiError::Refused { .. }, _)) => unreachable!(),
-    }
-}
-
-/// Puts an entry into a cell of the row that nobody has set. Its token comes back, and a copy.
-///
-/// At an error no memory was left. A cell that somebody has set is answered so too.
-fn take_cell(
-    row: &Row<Entry>,
-    place: usize,
-    value: Arc<Entry, Global>,
-) -> Result<(Seen<Entry>, Seen<Entry>), AllocError>
-    requires { place < length row.now }
-    ensures { IfOk result (λ tokens. (tokens.0 ≡ token_in row.now place (arc_value value))
-        × (tokens.1 ≡ tokens.0)) }
-{
-    let Ok(token) = row.set(place, value) else {
-        return Err(AllocError);
-    };
-    let answer = token.copy()?;
-    Ok((token, answer))
 }
 
 /// Deletes a znode, which is there. At an error no memory was left, and the tree is as it was.
@@ -133,23 +91,23 @@ pub(crate) fn number_text(alloc: Global, number: u32) -> Result<Blob, AllocError
 /// At an error no memory was left, and tree and log are as they were.
 pub(crate) fn append_alone(
     tree: &mut Tree,
-    row: &Row<Entry>,
-    log: &mut TableLog,
+    log: &mut EntryLog,
     alloc: Global,
     entry: Entry,
 ) -> Result<Seen<Entry>, AllocError>
     requires in_range { EntryInRange entry }
     requires fine { first_refusal tree.old (entry_ops_of entry) 0 ≡ None }
-    requires room { length log.old.tokens < length row.now }
+    requires room { length log.old.tokens < length log.old.row }
     ensures tree { OnOk result (tree.new ≡ after_all tree.old (entry_ops_of entry)) }
     ensures log { IfOk result (λ token. log.new.tokens ≡ log.old.tokens ++ token ∷ []) }
-    ensures token { IfOk result (λ token. token ≡ token_in row.now (length log.old.tokens) entry) }
+    ensures token { IfOk result (λ token. token ≡ token_in log.old.row (length log.old.tokens) entry) }
+    ensures row { log.new.row ≡ log.old.row }
     ensures err_tree { OnErr result (tree.new ≡ tree.old) }
     ensures err_log { OnErr result (log.new.tokens ≡ log.old.tokens) }
 {
     let value = Arc::new(alloc, entry)?;
     let ops = entry_ops(alloc, &value)?;
-    let token = append_value(tree, row, log, &ops, value)?;
+    let token = append_value(tree, log, &ops, value)?;
     Ok(token)
 }
 
@@ -158,47 +116,47 @@ pub(crate) fn append_alone(
 /// At an error no memory was left, and tree and log are as they were.
 pub(crate) fn append(
     tree: &mut Tree,
-    row: &Row<Entry>,
-    log: &mut TableLog,
+    log: &mut EntryLog,
     alloc: Global,
     ops: &[Op],
     entry: Entry,
 ) -> Result<Seen<Entry>, AllocError>
     requires fine { first_refusal tree.old ops.now 0 ≡ None }
-    requires room { length log.old.tokens < length row.now }
+    requires room { length log.old.tokens < length log.old.row }
     ensures tree { OnOk result (tree.new ≡ after_all tree.old ops.now) }
     ensures log { IfOk result (λ token. log.new.tokens ≡ log.old.tokens ++ token ∷ []) }
-    ensures token { IfOk result (λ token. token ≡ token_in row.now (length log.old.tokens) entry) }
+    ensures token { IfOk result (λ token. token ≡ token_in log.old.row (length log.old.tokens) entry) }
+    ensures row { log.new.row ≡ log.old.row }
     ensures err_tree { OnErr result (tree.new ≡ tree.old) }
     ensures err_log { OnErr result (log.new.tokens ≡ log.old.tokens) }
 {
     let value = Arc::new(alloc, entry)?;
-    let token = append_value(tree, row, log, ops, value)?;
+    let token = append_value(tree, log, ops, value)?;
     Ok(token)
 }
 
 /// Does the operations of an entry, and puts the entry into the log. Its token comes back.
 ///
-/// At an error no memory was left, and tree and log are as they were. All memory that it can't do without but that of
-/// the cell is taken before the cell is set, and the operations are done after it.
+/// At an error no memory was left, and tree and log are as they were: the cell of the log is set after all memory is taken
+/// that the operations need, and they are done after it.
 pub(crate) fn append_value(
     tree: &mut Tree,
-    row: &Row<Entry>,
-    log: &mut TableLog,
+    log: &mut EntryLog,
     ops: &[Op],
     value: Arc<Entry, Global>,
 ) -> Result<Seen<Entry>, AllocError>
     requires fine { first_refusal tree.old ops.now 0 ≡ None }
-    requires room { length log.old.tokens < length row.now }
+    requires room { length log.old.tokens < length log.old.row }
     ensures tree { OnOk result (tree.new ≡ after_all tree.old ops.now) }
     ensures log { IfOk result (λ token. log.new.tokens ≡ log.old.tokens ++ token ∷ []) }
-    ensures token { IfOk result (λ token. token ≡ token_in row.now (length log.old.tokens) (arc_value value)) }
+    ensures token { IfOk result (λ token. token ≡ token_in log.old.row (length log.old.tokens) (arc_value value)) }
+    ensures row { log.new.row ≡ log.old.row }
     ensures err_tree { OnErr result (tree.new ≡ tree.old) }
     ensures err_log { OnErr result (log.new.tokens ≡ log.old.tokens) }
 {
-    log.reserve()?;
-    let place = log.len();
-    let (token, answer) = multi_after(tree, ops, move || take_cell(row, place, value))?;
-    log.push(token);
-    Ok(answer)
+    match tree.multi_after(ops, log, move |log: &mut EntryLog| log.append(value)) {
+        Ok(token) => Ok(token),
+        Err(MultiError::Memory) => Err(AllocError),
+        Err(MultiError::Refused { .. }) => unreachable!(),
+    }
 }

@@ -2,6 +2,7 @@ ghost use Rattle.std.specs.Prelude.{◌≡◌, ◌↔◌, ◌≤◌, [], length,
 ghost use Rattle.std.specs.Arc.{arc_value};
 ghost use Rattle.rmt_model.specs.Words.{Has};
 ghost use Rattle.rmt_model.specs.Lawful.{mutation_count};
+ghost use Rattle.rmt_model.specs.EntryLimits.{client_count};
 ghost use Rattle.rmt_tree.specs.Trees.{empty_tree};
 ghost use Rattle.rmt_tree.specs.Ops.{after_all};
 ghost use Rattle.rmt_events.specs.Starts.{new_table};
@@ -21,14 +22,12 @@ mod pull;
 mod quorum;
 mod sessions;
 
+use crate::entry_log::EntryLog;
 use crate::layout::new_ops;
 use crate::ops::multi;
-use rmt_entries::Entry;
-use rmt_history::TableLog;
 use rmt_inserts::Window;
 use rmt_partitions::Partitions;
 use rmt_quorum::QuorumState;
-use rmt_row::Row;
 use rmt_tree::Tree;
 use rmt_values::{ReplicaId, Schema};
 use std::alloc::{AllocError, Global};
@@ -39,10 +38,7 @@ use std::sync::Arc;
 #[derive(Drop)]
 pub struct TableTree {
     schema: Arc<Schema, Global>,
-    /// The cells of the log's entries.
-    row: Row<Entry>,
-    /// The tokens of those that are set.
-    log: TableLog,
+    log: EntryLog,
     partitions: Partitions,
     /// The session of each replica that has one.
     sessions: Vec<Option<u64>>,
@@ -76,9 +72,9 @@ impl Model for TableTree {
 
     ghost coded = { Prim.hlevel (codes, filter.the_row.coded, tree_code) };
 
-    ghost view = { λ t. record { schema = arc_value t.schema; row = t.row; log = entries t.log.tokens; next = t.partitions.numbers; sessions = t.sessions.items; pulled = t.pulled.items; quorum = t.quorum; values = t.values; tree = t.tree } };
+    ghost view = { λ t. record { schema = arc_value t.schema; row = t.log.row; log = entries t.log.tokens; next = t.partitions.numbers; sessions = t.sessions.items; pulled = t.pulled.items; quorum = t.quorum; values = t.values; tree = t.tree } };
 
-    ghost invariant = { λ t. IsTableTree (record { schema = arc_value t.schema; row = t.row; log = entries t.log.tokens; next = t.partitions.numbers; sessions = t.sessions.items; pulled = t.pulled.items; quorum = t.quorum; values = t.values; tree = t.tree }) t.log.tokens (record { clients = t.clients; workers = t.workers; mutations = t.mutations; blocks = t.window.count; window = t.window.placed }) };
+    ghost invariant = { λ t. IsTableTree (record { schema = arc_value t.schema; row = t.log.row; log = entries t.log.tokens; next = t.partitions.numbers; sessions = t.sessions.items; pulled = t.pulled.items; quorum = t.quorum; values = t.values; tree = t.tree }) t.log.tokens (record { clients = t.clients; workers = t.workers; mutations = t.mutations; blocks = t.window.count; window = t.window.placed }) };
 }
 
 impl TableTree {
@@ -95,7 +91,7 @@ impl TableTree {
         ensures row { IfOk result (λ made. length made.row ≡ 65536) }
         ensures ops { IfOk result (λ made. made.tree ≡ after_all empty_tree (ops_of_new replicas)) }
     {
-        let row = Row::new(alloc, 65_536)?;
+        let log = EntryLog::new(alloc)?;
         let mut tree = Tree::new(alloc);
         let ops = new_ops(alloc, replicas)?;
         multi(&mut tree, &ops)?;
@@ -106,8 +102,7 @@ impl TableTree {
         pulled.resize(count, 0)?;
         Ok(TableTree {
             schema,
-            row,
-            log: TableLog::new(alloc),
+            log,
             partitions: Partitions::new(alloc),
             sessions,
             pulled,
@@ -140,6 +135,13 @@ impl TableTree {
         ensures { result ≡ mutation_count self.now.log }
     {
         self.mutations
+    }
+
+    /// How many entries of clients the log has. It takes no memory.
+    pub fn client_entries(&self) -> u32
+        ensures { result ≡ client_count self.now.log }
+    {
+        self.clients
     }
 
     /// How many values the accepted blocks have. It takes no memory.

@@ -192,7 +192,7 @@ impl TableTree {
         let ops = self.commit_ops(alloc, lock, path, need)?;
         self.window.reserve()?;
         let entry = entry_of(lock, need);
-        let token = append(&mut self.tree, &self.row, &mut self.log, alloc, &ops, entry)?;
+        let token = append(&mut self.tree, &mut self.log, alloc, &ops, entry)?;
         let part = block_name(lock.id.partition, lock.number);
         self.window.keep(lock.id, part, self.schema.window());
         self.quorum.open(alloc, part, need);

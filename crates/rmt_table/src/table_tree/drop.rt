@@ -81,7 +81,7 @@ impl TableTree {
         let quorum = &self.quorum;
         let ops = ops_of_drop(&self.window, &self.tree, quorum, alloc, partition, number)?;
         let entry = Entry::DropRange { partition, number };
-        let token = append(&mut self.tree, &self.row, &mut self.log, alloc, &ops, entry)?;
+        let token = append(&mut self.tree, &mut self.log, alloc, &ops, entry)?;
         self.partitions.take(partition);
         self.window.forget(partition, number);
         self.quorum.drop_below(partition, number);

@@ -107,7 +107,7 @@ impl TableTree {
             sources: List::new(Vec::from_slice(alloc, sources)?),
             count: block_sum(copy, sources),
         };
-        let token = append_alone(&mut self.tree, &self.row, &mut self.log, alloc, entry)?;
+        let token = append_alone(&mut self.tree, &mut self.log, alloc, entry)?;
         self.workers += 1;
         Ok(token)
     }

@@ -79,7 +79,7 @@ impl TableTree {
             });
         }
         let entry = mutate_entry(copy, old, upto);
-        let token = append_alone(&mut self.tree, &self.row, &mut self.log, alloc, entry)?;
+        let token = append_alone(&mut self.tree, &mut self.log, alloc, entry)?;
         self.workers += 1;
         Ok(token)
     }

@@ -20,13 +20,13 @@ ghost use Rattle.rmt_table.specs.Causes.{change_cause};
 ghost use Rattle.rmt_table.specs.declared.change_error.ChangeError.TheVariants as change;
 
 use crate::change_error::ChangeError;
+use crate::entry_log::EntryLog;
 use crate::ops::{append_value, entry_op, number_text};
 use crate::table_tree::TableTree;
 use rmt_entries::Entry;
-use rmt_history::TableLog;
 use rmt_list::List;
 use rmt_names::PartitionId;
-use rmt_row::{Row, Seen};
+use rmt_row::Seen;
 use rmt_tree::{Op, Tree};
 use rmt_values::{Blob, CheckedMutation, Limit};
 use rmt_znodes::{Znode, lock_path};
@@ -100,8 +100,7 @@ fn push_entry(
 /// At an error no memory was left, and tree and log are as they were.
 fn append_mutation(
     tree: &mut Tree,
-    row: &Row<Entry>,
-    log: &mut TableLog,
+    log: &mut EntryLog,
     alloc: Global,
     id: u32,
     place: u32,
@@ -110,10 +109,11 @@ fn append_mutation(
 ) -> Result<Seen<Entry>, AllocError>
     requires in_range { EntryInRange (Mutation id numbers command) }
     requires fine { first_refusal tree.old (mutation_ops_of id place numbers command) 0 ≡ None }
-    requires room { length log.old.tokens < length row.now }
+    requires room { length log.old.tokens < length log.old.row }
     ensures tree { OnOk result (tree.new ≡ after_all tree.old (mutation_ops_of id place numbers command)) }
     ensures log { IfOk result (λ token. log.new.tokens ≡ log.old.tokens ++ token ∷ []) }
-    ensures token { IfOk result (λ token. token ≡ token_in row.now (length log.old.tokens) (Mutation id numbers command)) }
+    ensures token { IfOk result (λ token. token ≡ token_in log.old.row (length log.old.tokens) (Mutation id numbers command)) }
+    ensures row { log.new.row ≡ log.old.row }
     ensures err_tree { OnErr result (tree.new ≡ tree.old) }
     ensures err_log { OnErr result (log.new.tokens ≡ log.old.tokens) }
 {
@@ -123,7 +123,7 @@ fn append_mutation(
         numbers,
         command,
     };
-    let token = append_after(tree, row, log, alloc, id, place, ops, entry)?;
+    let token = append_after(tree, log, alloc, id, place, ops, entry)?;
     Ok(token)
 }
 
@@ -132,8 +132,7 @@ fn append_mutation(
 /// At an error no memory was left, and tree and log are as they were.
 fn append_after(
     tree: &mut Tree,
-    row: &Row<Entry>,
-    log: &mut TableLog,
+    log: &mut EntryLog,
     alloc: Global,
     id: u32,
     place: u32,
@@ -142,17 +141,18 @@ fn append_after(
 ) -> Result<Seen<Entry>, AllocError>
     requires in_range { EntryInRange entry }
     requires fine { first_refusal tree.old (ops.items ++ mutation_tail id place entry) 0 ≡ None }
-    requires room { length log.old.tokens < length row.now }
+    requires room { length log.old.tokens < length log.old.row }
     ensures tree { OnOk result (tree.new ≡ after_all tree.old (ops.items ++ mutation_tail id place entry)) }
     ensures log { IfOk result (λ token. log.new.tokens ≡ log.old.tokens ++ token ∷ []) }
-    ensures token { IfOk result (λ token. token ≡ token_in row.now (length log.old.tokens) entry) }
+    ensures token { IfOk result (λ token. token ≡ token_in log.old.row (length log.old.tokens) entry) }
+    ensures row { log.new.row ≡ log.old.row }
     ensures err_tree { OnErr result (tree.new ≡ tree.old) }
     ensures err_log { OnErr result (log.new.tokens ≡ log.old.tokens) }
 {
     let value = Arc::new(alloc, entry)?;
     let mut ops = ops;
     push_entry(&mut ops, alloc, id, place, &value)?;
-    let token = append_value(tree, row, log, &ops, value)?;
+    let token = append_value(tree, log, &ops, value)?;
     Ok(token)
 }
 
@@ -181,7 +181,6 @@ impl TableTree {
         let place = self.log_len();
         let token = append_mutation(
             &mut self.tree,
-            &self.row,
             &mut self.log,
             alloc,
             self.mutations,

@@ -9,11 +9,10 @@ ghost use Rattle.rmt_znodes.specs.declared.znode.Znode.TheVariants.{LogPointer};
 ghost use Rattle.rmt_znodes.specs.Znodes.{znode_path};
 ghost use Rattle.rmt_table.specs.TableTrees.{table_at, IsReplica, IsCopyOf, ArePlaced, pull_ops};
 
+use crate::entry_log::EntryLog;
 use crate::ops::{multi, number_text};
 use crate::table_tree::TableTree;
-use rmt_entries::Entry;
-use rmt_history::{LogCopy, TableLog};
-use rmt_row::Row;
+use rmt_history::LogCopy;
 use rmt_tree::{Op, Tree};
 use rmt_values::ReplicaId;
 use rmt_znodes::Znode;
@@ -36,21 +35,19 @@ fn point(tree: &mut Tree, alloc: Global, replica: ReplicaId, len: u32) -> Result
 }
 
 /// Brings a copy of the log to the log's length. At an error no memory was left, and the copy is a longer prefix.
-fn extend(row: &Row<Entry>, log: &TableLog, copy: &mut LogCopy) -> Result<(), AllocError>
+fn extend(log: &EntryLog, copy: &mut LogCopy) -> Result<(), AllocError>
     requires lawful { Lawful copy.old.schema (entries log.now.tokens) }
     requires prefix { IsPrefix copy.old.log (entries log.now.tokens) }
-    requires places { ArePlaced row.now log.now.tokens }
-    requires cells { IsLogOf row.now copy.old }
+    requires places { ArePlaced log.now.row log.now.tokens }
+    requires cells { IsLogOf log.now.row copy.old }
     ensures ok { OnOk result (copy.new.log ≡ entries log.now.tokens) }
     ensures schema { copy.new.schema ≡ copy.old.schema }
     ensures longer { IsPrefix copy.old.log copy.new.log }
     ensures prefix { IsPrefix copy.new.log (entries log.now.tokens) }
-    ensures cells { IsLogOf row.now copy.new }
+    ensures cells { IsLogOf log.now.row copy.new }
 {
-    // The row is here for what is known of it.
-    let _ = row;
     'entries: while copy.len() < log.len() {
-        copy.follow(log)?;
+        copy.follow(log.tokens())?;
     }
     Ok(())
 }
@@ -80,7 +77,7 @@ impl TableTree {
         ensures replicas { length self.new.sessions ≡ length self.old.sessions }
         ensures row { self.new.row ≡ self.old.row }
     {
-        extend(&self.row, &self.log, copy)?;
+        extend(&self.log, copy)?;
         let length = self.log_len();
         let place = usize::from(replica) - 1;
         if self.pulled[place] != length {
@@ -102,7 +99,7 @@ impl TableTree {
         ensures prefix { IsPrefix copy.new.log self.now.log }
         ensures cells { IsLogOf self.now.row copy.new }
     {
-        extend(&self.row, &self.log, copy)?;
+        extend(&self.log, copy)?;
         Ok(self.log_len())
     }
 
@@ -116,7 +113,7 @@ impl TableTree {
         if self.log.len() < copy.len() {
             return false;
         }
-        copy.meet_tokens(self.log.as_slice());
+        copy.meet_tokens(self.log.tokens().as_slice());
         true
     }
 }

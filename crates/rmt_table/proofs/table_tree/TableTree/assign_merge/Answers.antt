@@ -11,6 +11,8 @@ use Rattle.rmt_table.proofs.LengthLemmas.{room-left}
 use Rattle.rmt_table.proofs.Worked.{whole-copy, short-copy}
 use Rattle.rmt_table.proofs.Merged.{least-of, merge-apart, merge-can, merge-living, merge-few, merge-flies, merge-full, merge-in-range, merge-fine, merge-tree, merge-done}
 use Rattle.rmt_table.specs.contracts.table_tree.TableTree.{the_view}
+use Rattle.rmt_table.specs.TableTrees.{IsMergeOf}
+use Rattle.rmt_table.proofs.AppendLemmas.{tree-row, with-row}
 use Rattle.rmt_table.proofs.table_tree.TableTree.assign_merge.Goals as goal
 
 -- the part that waits is the one that was read
@@ -57,13 +59,15 @@ append_alone-requires-clause-fine c =
 
 pub invariant_of-self-2 : goal.invariant_of-self-2
 invariant_of-self-2 c =
+    tree-row _ _ _ _ c.append_alone.ensures.row (
     merge-tree (the_view c.self.inside) c.self.inside.log.tokens refl _ c.self.invariant c.args.self.now c.self.view_is c.args.copy.now (whole-copy (the_view c.self.inside) c.self.inside.log.tokens c.args.self.now c.self.view_is c.args.copy.now c.requires.of refl c.len-seen.result c.len-seen.ensures.len c.len.result (c.len.ensures) c.if-seen-len.false) c.args.sources.now c.requires.neighbours (c.in_default.ensures c.self.inside.quorum.pending (part-of (the_view c.self.inside) c.args.self.now c.pending_part-pending.result c.self.view_is c.pending_part-pending.ensures)) c.in-Some-merged.new c.in-Some-merged.ensures (least-of (holders_in c.self.inside.tree) _ _ _ _ _ _ _ _ c.partition.ensures c.min.ensures c.max.ensures.value c.in_default-2.is (c.in_ok-number.ensures _ _ (held-numbers (the_view c.self.inside) c.self.invariant.held)))
-    c.if-self-ge32768.false c.block_sum.result c.block_sum.ensures _ (ap (λ (xs : List Name). Merge c.in-Some-merged.new xs c.block_sum.result) (c.new.ensures ∙ c.in_ok-from_slice.ensures.items)) c.in_ok-token.token c.in_ok-token.ensures.token c.append_alone.new.log.tokens c.in_ok-token.ensures.log c.append_alone.new.tree _ refl c.in_ok-token.ensures.tree
+    c.if-self-ge32768.false c.block_sum.result c.block_sum.ensures _ (ap (λ (xs : List Name). Merge c.in-Some-merged.new xs c.block_sum.result) (c.new.ensures ∙ c.in_ok-from_slice.ensures.items)) c.in_ok-token.token c.in_ok-token.ensures.token c.append_alone.new.log.tokens c.in_ok-token.ensures.log c.append_alone.new.tree _ refl c.in_ok-token.ensures.tree)
 
 pub returns-clause-done : goal.returns-clause-done
 returns-clause-done c =
+    with-row (IsMergeOf c.args.self.now c.args.sources.now c.in_ok-token.token) _ c.append_alone.new.log.row c.append_alone.ensures.row (
     merge-done (the_view c.self.inside) c.self.inside.log.tokens refl _ c.self.invariant c.args.self.now c.self.view_is c.args.copy.now (whole-copy (the_view c.self.inside) c.self.inside.log.tokens c.args.self.now c.self.view_is c.args.copy.now c.requires.of refl c.len-seen.result c.len-seen.ensures.len c.len.result (c.len.ensures) c.if-seen-len.false) c.args.sources.now c.requires.neighbours (c.in_default.ensures c.self.inside.quorum.pending (part-of (the_view c.self.inside) c.args.self.now c.pending_part-pending.result c.self.view_is c.pending_part-pending.ensures)) c.in-Some-merged.new c.in-Some-merged.ensures (least-of (holders_in c.self.inside.tree) _ _ _ _ _ _ _ _ c.partition.ensures c.min.ensures c.max.ensures.value c.in_default-2.is (c.in_ok-number.ensures _ _ (held-numbers (the_view c.self.inside) c.self.invariant.held)))
-    c.if-self-ge32768.false c.block_sum.result c.block_sum.ensures _ (ap (λ (xs : List Name). Merge c.in-Some-merged.new xs c.block_sum.result) (c.new.ensures ∙ c.in_ok-from_slice.ensures.items)) c.in_ok-token.token c.in_ok-token.ensures.token c.append_alone.new.log.tokens c.in_ok-token.ensures.log c.append_alone.new.tree _ refl c.in_ok-token.ensures.tree
+    c.if-self-ge32768.false c.block_sum.result c.block_sum.ensures _ (ap (λ (xs : List Name). Merge c.in-Some-merged.new xs c.block_sum.result) (c.new.ensures ∙ c.in_ok-from_slice.ensures.items)) c.in_ok-token.token c.in_ok-token.ensures.token c.append_alone.new.log.tokens c.in_ok-token.ensures.log c.append_alone.new.tree _ refl c.in_ok-token.ensures.tree)
 
 pub returns-clause-current : goal.returns-clause-current
 returns-clause-current c =

@@ -5,6 +5,8 @@ use Rattle.rmt_table.proofs.LengthLemmas.{room-left}
 use Rattle.rmt_table.proofs.Worked.{whole-copy, short-copy}
 use Rattle.rmt_table.proofs.Mutated.{mutate-few, mutate-full, mutate-in-range, mutate-fine, mutate-tree, mutate-done}
 use Rattle.rmt_table.specs.contracts.table_tree.TableTree.{the_view}
+use Rattle.rmt_table.specs.TableTrees.{IsMutateOf}
+use Rattle.rmt_table.proofs.AppendLemmas.{tree-row, with-row}
 use Rattle.rmt_table.proofs.table_tree.TableTree.assign_mutate.Goals as goal
 
 pub overflow_cast-result : goal.overflow_cast-result
@@ -29,11 +31,13 @@ append_alone-requires-clause-fine c =
 
 pub invariant_of-self-2 : goal.invariant_of-self-2
 invariant_of-self-2 c =
-    mutate-tree (the_view c.self.inside) c.self.inside.log.tokens refl _ c.self.invariant c.args.self.now c.self.view_is c.args.copy.now (whole-copy (the_view c.self.inside) c.self.inside.log.tokens c.args.self.now c.self.view_is c.args.copy.now c.requires.of refl c.len-seen.result c.len-seen.ensures.len c.len.result (c.len.ensures) c.if-seen-len.false) c.args.old.now c.args.upto c.if-self-ge32768.false c.mutate_entry-entry.result c.mutate_entry-entry.ensures c.in_ok-token.token c.in_ok-token.ensures.token c.append_alone.new.log.tokens c.in_ok-token.ensures.log c.append_alone.new.tree _ refl c.in_ok-token.ensures.tree
+    tree-row _ _ _ _ c.append_alone.ensures.row (
+    mutate-tree (the_view c.self.inside) c.self.inside.log.tokens refl _ c.self.invariant c.args.self.now c.self.view_is c.args.copy.now (whole-copy (the_view c.self.inside) c.self.inside.log.tokens c.args.self.now c.self.view_is c.args.copy.now c.requires.of refl c.len-seen.result c.len-seen.ensures.len c.len.result (c.len.ensures) c.if-seen-len.false) c.args.old.now c.args.upto c.if-self-ge32768.false c.mutate_entry-entry.result c.mutate_entry-entry.ensures c.in_ok-token.token c.in_ok-token.ensures.token c.append_alone.new.log.tokens c.in_ok-token.ensures.log c.append_alone.new.tree _ refl c.in_ok-token.ensures.tree)
 
 pub returns-clause-done : goal.returns-clause-done
 returns-clause-done c =
-    mutate-done (the_view c.self.inside) c.self.inside.log.tokens refl _ c.self.invariant c.args.self.now c.self.view_is c.args.copy.now (whole-copy (the_view c.self.inside) c.self.inside.log.tokens c.args.self.now c.self.view_is c.args.copy.now c.requires.of refl c.len-seen.result c.len-seen.ensures.len c.len.result (c.len.ensures) c.if-seen-len.false) c.args.old.now c.args.upto c.if-self-ge32768.false c.mutate_entry-entry.result c.mutate_entry-entry.ensures c.in_ok-token.token c.in_ok-token.ensures.token c.append_alone.new.log.tokens c.in_ok-token.ensures.log c.append_alone.new.tree _ refl c.in_ok-token.ensures.tree
+    with-row (IsMutateOf c.args.self.now c.args.old.now c.args.upto c.in_ok-token.token) _ c.append_alone.new.log.row c.append_alone.ensures.row (
+    mutate-done (the_view c.self.inside) c.self.inside.log.tokens refl _ c.self.invariant c.args.self.now c.self.view_is c.args.copy.now (whole-copy (the_view c.self.inside) c.self.inside.log.tokens c.args.self.now c.self.view_is c.args.copy.now c.requires.of refl c.len-seen.result c.len-seen.ensures.len c.len.result (c.len.ensures) c.if-seen-len.false) c.args.old.now c.args.upto c.if-self-ge32768.false c.mutate_entry-entry.result c.mutate_entry-entry.ensures c.in_ok-token.token c.in_ok-token.ensures.token c.append_alone.new.log.tokens c.in_ok-token.ensures.log c.append_alone.new.tree _ refl c.in_ok-token.ensures.tree)
 
 pub returns-clause-current : goal.returns-clause-current
 returns-clause-current c =

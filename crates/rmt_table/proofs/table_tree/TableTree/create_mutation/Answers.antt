@@ -9,7 +9,7 @@ use Rattle.rmt_table_model.specs.Nodes.{numbers_ops}
 use Rattle.rmt_table.specs.MutationOps.{mutation_ops}
 use Rattle.rmt_table.specs.contracts.table_tree.TableTree.{the_view}
 use Rattle.rmt_table.proofs.LengthLemmas.{room-left}
-use Rattle.rmt_table.proofs.AppendLemmas.{placed-snoc, entries-more}
+use Rattle.rmt_table.proofs.AppendLemmas.{placed-snoc, entries-more, tree-row}
 use Rattle.rmt_table_model.specs.Held.{Held}
 use Rattle.rmt_table.proofs.ChangeLimits.{limit_error}
 use Rattle.rmt_table.proofs.Mutations.{mutation-few, mutation-fine, mutation-entry, mutation-small, mutation-ops, mutation-kept, mutation-creates}
@@ -28,6 +28,7 @@ take_each-requires c = record {
 
 pub invariant_of-self-2 : goal.invariant_of-self-2
 invariant_of-self-2 c =
+    tree-row _ _ _ _ c.append_mutation.ensures.row (
     mutation-kept (the_view c.self.inside) c.self.inside.log.tokens _ c.self.invariant c.args.self.now c.self.view_is c.args.command c.requires.fits c.requires.in_range None (sym (ap limit_error c.in_ok-numbers.ensures.all)) refl
     c.append_mutation.new.tree (mutation_ops c.self.inside.mutations c.log_len-place.result c.in_ok-numbers.numbers c.args.command)
     (mutation-ops (the_view c.self.inside) c.self.inside.log.tokens _ c.self.invariant c.args.self.now c.self.view_is c.args.command c.requires.fits c.requires.in_range None (sym (ap limit_error c.in_ok-numbers.ensures.all)) refl
@@ -39,7 +40,7 @@ invariant_of-self-2 c =
     c.take_each.new.self.numbers c.take_each.ensures c.append_mutation.new.log.tokens
     (placed-snoc (the_view c.self.inside).row c.self.inside.log.tokens c.append_mutation.new.log.tokens c.in_ok-token.token _ c.in_ok-token.ensures.log c.in_ok-token.ensures.token
     (room-left (the_view c.self.inside) c.self.inside.log.tokens c.self.inside.log.tokens _ c.self.invariant refl (inl (mutation-few (the_view c.self.inside) c.self.inside.log.tokens _ c.self.invariant c.args.self.now c.self.view_is c.args.command c.requires.fits c.requires.in_range None (sym (ap limit_error c.in_ok-numbers.ensures.all)) refl)))
-    c.self.invariant.places)
+    c.self.invariant.places))
 
 pub returns-clause-creates : goal.returns-clause-creates
 returns-clause-creates c =

@@ -10,8 +10,9 @@ use Rattle.rmt_table_model.specs.Numbers.{Nexts}
 use Rattle.rmt_table_model.specs.Held.{Held}
 use Rattle.rmt_table.specs.contracts.table_tree.TableTree.{the_view}
 use Rattle.rmt_table.proofs.LengthLemmas.{room-left}
-use Rattle.rmt_table.proofs.AppendLemmas.{placed-snoc, entries-more, token-next}
+use Rattle.rmt_table.proofs.AppendLemmas.{placed-snoc, entries-more, token-next, tree-row, with-row}
 use Rattle.rmt_table.proofs.Drops.{drop-few, drop-fine, number-nowhere, drop-refused, drop-small, drop-kept, drop-done}
+use Rattle.rmt_table.specs.TableTrees.{Drops}
 use Rattle.rmt_table.proofs.table_tree.TableTree.drop_partition.Goals as goal
 
 pub returns-in_default-clause-done : goal.returns-in_default-clause-done
@@ -32,6 +33,7 @@ take-requires-clause-small c =
 
 pub invariant_of-self-2 : goal.invariant_of-self-2
 invariant_of-self-2 c =
+    tree-row _ _ _ _ c.append.ensures.row (
     drop-kept (the_view c.self.inside) c.self.inside.log.tokens _ c.self.invariant c.args.self.now c.self.view_is c.args.partition c.number.result c.number.ensures c.in-Some.number c.in-Some.is c.drop_refusal.result c.drop_refusal.ensures c.in_default-drop_refusal.is
     c.in_ok-ops.ops.items c.in_ok-ops.ensures c.append.new.tree (c.in_ok-token.ensures.tree ∙ ap (after_all c.self.inside.tree) c.deref.ensures.value)
     (entries c.append.new.log.tokens)
@@ -42,10 +44,11 @@ invariant_of-self-2 c =
     (placed-snoc (the_view c.self.inside).row c.self.inside.log.tokens c.append.new.log.tokens c.in_ok-token.token _ c.in_ok-token.ensures.log c.in_ok-token.ensures.token
     (room-left (the_view c.self.inside) c.self.inside.log.tokens c.self.inside.log.tokens _ c.self.invariant refl (inl (drop-few (the_view c.self.inside) c.self.inside.log.tokens _ c.self.invariant c.args.self.now c.self.view_is c.args.partition c.number.result c.number.ensures c.in-Some.number c.in-Some.is c.drop_refusal.result c.drop_refusal.ensures c.in_default-drop_refusal.is)))
     c.self.invariant.places)
-    _ c.forget.ensures.count _ c.forget.ensures.placed
+    _ c.forget.ensures.count _ c.forget.ensures.placed)
 
 pub returns-clause-done : goal.returns-clause-done
 returns-clause-done c =
+    with-row (Drops c.args.self.now c.args.partition c.in_ok-token.token) _ c.append.new.log.row c.append.ensures.row (
     drop-done (the_view c.self.inside) c.self.inside.log.tokens _ c.self.invariant c.args.self.now c.self.view_is c.args.partition c.number.result c.number.ensures c.in-Some.number c.in-Some.is c.drop_refusal.result c.drop_refusal.ensures c.in_default-drop_refusal.is
     c.in_ok-ops.ops.items c.in_ok-ops.ensures c.append.new.tree (c.in_ok-token.ensures.tree ∙ ap (after_all c.self.inside.tree) c.deref.ensures.value)
     (entries c.append.new.log.tokens)
@@ -53,7 +56,7 @@ returns-clause-done c =
     c.take.new.self.numbers
     (c.take.ensures ∙ ap (λ (ns : Nexts). with_next ns c.args.partition (next_number ns c.args.partition + 1)) c.in_ok-reserve.ensures.numbers)
     c.drop_below.new.self c.drop_below.ensures c.in_ok-token.token
-    (token-next (the_view c.self.inside) c.args.self.now c.self.view_is c.self.inside.log.tokens refl (DropRange c.args.partition c.in-Some.number) c.in_ok-token.token c.in_ok-token.ensures.token)
+    (token-next (the_view c.self.inside) c.args.self.now c.self.view_is c.self.inside.log.tokens refl (DropRange c.args.partition c.in-Some.number) c.in_ok-token.token c.in_ok-token.ensures.token))
 
 pub append-requires : goal.append-requires
 append-requires c = record {

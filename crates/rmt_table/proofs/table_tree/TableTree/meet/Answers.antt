@@ -14,7 +14,7 @@ use Rattle.rmt_table.proofs.table_tree.TableTree.meet.Goals as goal
 
 pub meet_tokens-requires : goal.meet_tokens-requires
 meet_tokens-requires c = record {
-  row = subst (Each (HasRowOf c.args.copy.now)) (sym c.as_slice.ensures)
+  row = subst (Each (HasRowOf c.args.copy.now)) (sym (c.as_slice.ensures ∙ c.tokens.ensures))
       (of-row (the_view c.self.inside) c.self.inside.log.tokens _ c.self.invariant c.args.copy.now (subst (λ (h : Held). IsLogOf h.row c.args.copy.now) (sym c.self.view_is) c.requires.row));
 }
 
@@ -23,4 +23,4 @@ returns-clause-of c = λ yes. subst (λ (h : Held). IsCopyOf h c.args.copy.now) 
     (meets (the_view c.self.inside) c.self.inside.log.tokens _ c.self.invariant refl c.args.copy.now (c.requires.schema ∙ ap (λ (h : Held). h.schema) (sym c.self.view_is))
     (subst (λ (h : Held). IsLogOf h.row c.args.copy.now) (sym c.self.view_is) c.requires.row)
     (let a = c.len.ensures in let b = c.len-2.ensures.len in let e = c.if-len.false in let n = length-entries c.self.inside.log.tokens in omega (arith, a, b, e, n))
-    (subst (λ (ts : List (Token Entry)). Each (λ t. t.place < length c.args.copy.now.log → entry_at c.args.copy.now.log t.place ≡ Some t.value) ts) c.as_slice.ensures c.meet_tokens.ensures))
+    (subst (λ (ts : List (Token Entry)). Each (λ t. t.place < length c.args.copy.now.log → entry_at c.args.copy.now.log t.place ≡ Some t.value) ts) (c.as_slice.ensures ∙ c.tokens.ensures) c.meet_tokens.ensures))
