@@ -15,6 +15,7 @@ use Rattle.rmt_model.specs.Window.{kept}
 use Rattle.rmt_model.specs.EntryLimits.{is_client, client_count, worker_count, worker_limit}
 use Rattle.rmt_statement_model.specs.TableStates.{TableState}
 use Rattle.rmt_statement_model.specs.BackgroundWork.{IsOfWorker, HadRoom}
+use Rattle.rmt_statement_model.specs.Books.{ArePrefixesOf, all_clients, GainWork}
 use Rattle.rmt_statement_model.specs.Rests.{Idles}
 
 -- ---- one entry
@@ -149,40 +150,23 @@ gained-idles t gained q h l = record {
 
 -- ---- books: the counts of all tables at once
 
--- the copies are prefixes of the logs
-abbrev pub AreFronts : List (List Entry) → List (List Entry) → Type 0
-AreFronts [] [] = Unit {0}
-AreFronts (c ∷ copies) (l ∷ logs) = IsPrefix c l × AreFronts copies logs
-AreFronts copies logs = ⊥
-
--- how many client entries all logs have
-abbrev pub all_clients : List (List Entry) → ℕ
-all_clients [] = 0
-all_clients (l ∷ logs) = client_count l + all_clients logs
-
--- each log has gained entries of workers alone
-abbrev pub GainedWorkers : List (List Entry) → List (List Entry) → Type 0
-GainedWorkers [] [] = Unit {0}
-GainedWorkers (c ∷ copies) (l ∷ logs) = ((gained : List Entry) × (l ≡ gained ++ c) × Each IsOfWorker gained) × GainedWorkers copies logs
-GainedWorkers copies logs = ⊥
-
-front-clients : (c l : List Entry) → IsPrefix c l → client_count c ≤ client_count l
+pub front-clients : (c l : List Entry) → IsPrefix c l → client_count c ≤ client_count l
 front-clients c l f = subst (λ (x : List Entry). client_count c ≤ client_count x) (sym f.is) (clients-grow f.gained c)
 
-fronts-clients : (copies logs : List (List Entry)) → AreFronts copies logs → all_clients copies ≤ all_clients logs
+fronts-clients : (copies logs : List (List Entry)) → ArePrefixesOf copies logs → all_clients copies ≤ all_clients logs
 fronts-clients [] [] f = omega arith
 fronts-clients (c ∷ copies) (l ∷ logs) f = let a = front-clients c l f.0 in let b = fronts-clients copies logs f.1 in omega (arith, a, b)
 fronts-clients [] (l ∷ logs) f = absurd f
 fronts-clients (c ∷ copies) [] f = absurd f
 
 -- where all logs together have as many client entries as their prefixes, each has gained entries of workers alone
-pub books-tell : (copies logs : List (List Entry)) → AreFronts copies logs → all_clients logs ≡ all_clients copies → GainedWorkers copies logs
+pub books-tell : (copies logs : List (List Entry)) → ArePrefixesOf copies logs → all_clients logs ≡ all_clients copies → GainWork copies logs
 books-tell [] [] f e = tt
 books-tell (c ∷ copies) (l ∷ logs) f e =
     let a = front-clients c l f.0 in
     let b = fronts-clients copies logs f.1 in
     let one : client_count l ≡ client_count c = omega (arith, a, b, e) in
     let rest : all_clients logs ≡ all_clients copies = omega (arith, a, b, e) in
-    ((f.0.gained, f.0.is, gained-workers f.0.gained c (subst (λ (x : List Entry). client_count x ≡ client_count c) f.0.is one)), books-tell copies logs f.1 rest)
+    (record { gained = f.0.gained; is = f.0.is; workers = gained-workers f.0.gained c (subst (λ (x : List Entry). client_count x ≡ client_count c) f.0.is one) }, books-tell copies logs f.1 rest)
 books-tell [] (l ∷ logs) f e = absurd f
 books-tell (c ∷ copies) [] f e = absurd f

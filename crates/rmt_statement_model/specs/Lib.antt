@@ -13,3 +13,4 @@ pub mod Waits
 pub mod Shows
 pub mod Attempts
 pub mod Gathered
+pub mod Books
