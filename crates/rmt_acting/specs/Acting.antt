@@ -22,7 +22,7 @@ use Rattle.rmt_acts.specs.Changing.{DropsSome}
 
 -- what is seen of a table: the states that it shows; its schema; how many replicas it has, which of them are up, and which may
 -- fetch; how many mutations were made; that no insert is under way; and, where no workers run, the cluster that the events have made
-pub record Seen (workers : Bool) : Type 1 where
+pub record Sight (workers : Bool) : Type 1 where
   pub shows : TableState → Type 0
   pub shape : Shape
   pub count : ℕ
@@ -37,33 +37,33 @@ pub record Seen (workers : Bool) : Type 1 where
   pub cluster-shape : workers ≡ false → cluster.table.schema ≡ shape
 
 -- the replica of a number is up, and no insert is under way
-pub record MayAct {workers : Bool} (s : Seen workers) (r : ℕ) : Type 0 where
+pub record MayAct {workers : Bool} (s : Sight workers) (r : ℕ) : Type 0 where
   pub up : s.ups r ≡ true
   pub free : s.free
 
 -- the schema stays, and no replica comes or goes
-pub record KeepsShape {workers : Bool} (s u : Seen workers) : Type 0 where
+pub record KeepsShape {workers : Bool} (s u : Sight workers) : Type 0 where
   pub shape : u.shape ≡ s.shape
   pub count : u.count ≡ s.count
 
 -- no insert is under way, and the same replicas are up
-pub record GoesOn {workers : Bool} (s u : Seen workers) : Type 0 where
+pub record GoesOn {workers : Bool} (s u : Sight workers) : Type 0 where
   pub free : u.free
   pub ups : u.ups ≡ s.ups
 
 -- no insert comes under way, and the same replicas are up; where no workers run, there is no event
-pub record Leaves {workers : Bool} (s u : Seen workers) : Type 0 where
+pub record Leaves {workers : Bool} (s u : Sight workers) : Type 0 where
   pub free : s.free → u.free
   pub ups : u.ups ≡ s.ups
   pub events : workers ≡ false → u.cluster ≡ s.cluster
 
 -- the replica is up, or down, and the others are as they were; no insert comes under way
-pub record TurnsReplica {workers : Bool} (r : ℕ) (is_up : Bool) (s u : Seen workers) : Type 0 where
+pub record TurnsReplica {workers : Bool} (r : ℕ) (is_up : Bool) (s u : Sight workers) : Type 0 where
   pub ups : (k : ℕ) → u.ups k ≡ cond (nat_eq r k) is_up (s.ups k)
   pub free : s.free → u.free
 
 -- a state of which this holds is shown
-pub record LeadsTo {workers : Bool} (u : Seen workers) (Holds : TableState → Type 0) : Type 0 where
+pub record LeadsTo {workers : Bool} (u : Sight workers) (Holds : TableState → Type 0) : Type 0 where
   pub state : TableState
   pub holds : Holds state
   pub shows : u.shows state
@@ -75,11 +75,11 @@ pub record RestsThen (workers : Bool) (Change : TableState → TableState → Ty
   pub change : Change at u
 
 -- whatever state was shown, the table rests and changes so, and that is shown
-abbrev pub Brings : {workers : Bool} → Seen workers → (TableState → TableState → Type 0) → Seen workers → Type 0
+abbrev pub Brings : {workers : Bool} → Sight workers → (TableState → TableState → Type 0) → Sight workers → Type 0
 Brings {workers} s Change u = (t : TableState) → s.shows t → LeadsTo u (RestsThen workers Change t)
 
 -- what is shown stays shown
-abbrev pub Stays : {workers : Bool} → Seen workers → Seen workers → Type 0
+abbrev pub Stays : {workers : Bool} → Sight workers → Sight workers → Type 0
 Stays s u = (t : TableState) → s.shows t → u.shows t
 
 -- ---- what acts come to

@@ -6,10 +6,10 @@ use Rattle.rmt_entries.specs.declared.entry.Entry.{Entry}
 use Rattle.rmt_model.specs.Lawful.{mutation_count}
 use Rattle.rmt_events.specs.Clusters.{Cluster}
 use Rattle.rmt_statement_model.specs.Shows.{Shows, HoldsNone, fetching_of, ups}
-use Rattle.rmt_acting.specs.Acting.{Seen}
+use Rattle.rmt_acting.specs.Acting.{Sight}
 
 -- what is seen of a cluster, beside which no workers run
-abbrev pub seen_of : Cluster → Seen false
+abbrev pub seen_of : Cluster → Sight false
 seen_of s = record {
   shows = Shows s;
   shape = s.table.schema;

@@ -41,7 +41,7 @@ ghost use Rattle.rmt_acts.specs.StatementEvents.{
 };
 ghost use Rattle.rmt_acts.specs.Checking.{AreDigests};
 ghost use Rattle.rmt_acting.specs.Acting.{
-  Seen,
+  Sight,
   MayAct,
   KeepsShape,
   GoesOn,
@@ -73,7 +73,7 @@ pub trait Acting {
     ghost workers: { Bool };
 
     /// What is seen of the table.
-    ghost seen: { Self → Seen workers };
+    ghost seen: { Self → Sight workers };
 
     // ---- what is known of the table
 

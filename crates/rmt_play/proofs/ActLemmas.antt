@@ -26,7 +26,7 @@ use Rattle.rmt_statement_model.specs.TableStates.{TableState, data_at, plain_row
 use Rattle.rmt_statement_model.specs.Inserts.{Asked, asked_at, InsertsAll}
 use Rattle.rmt_statement_model.specs.Reads.{KnowsAll}
 use Rattle.rmt_statement_model.proofs.ReadLaws.{synced-knows}
-use Rattle.rmt_acting.specs.Acting.{Seen, Brings, Stays, SyncsOr}
+use Rattle.rmt_acting.specs.Acting.{Sight, Brings, Stays, SyncsOr}
 use Rattle.rmt_statements.specs.declared.act.Act.TheVariants as acts
 use Rattle.rmt_statements.specs.declared.insert.Insert.{Insert}
 use Rattle.rmt_reply.specs.declared.line.Line.{Line}
@@ -42,13 +42,13 @@ use Rattle.rmt_play.specs.ActEvents.{InsertsBy, refusal_told}
 use Rattle.rmt_play.specs.QueryAnswers.{Selects, CountsGranules}
 use Rattle.rmt_play.specs.PlayerSteps.{insert_refusal, HasRows, RefusesRows}
 use Rattle.rmt_play.specs.ActSteps.{DoesAct, Declines, AnswersBy, ExecutesAct, ExecutesIn, ExecutesQuery}
-use Rattle.rmt_play.proofs.SeenLemmas.{IsKnown, brings-on, brings-none}
+use Rattle.rmt_play.proofs.SightLemmas.{IsKnown, brings-on, brings-none}
 use Rattle.rmt_play.proofs.CommandLemmas.{acts-in}
 
 -- ---- queries
 
 -- a query that isn't refused
-pub answers : {w : Bool} (s u : Seen w) (query : Query) (Answers : TableState → Line → TableState → Type 0) (Events : Line → Cluster → Type 0) (line : Line) (Change : TableState → TableState → Type 0) → query_refusal s.shape query ≡ None
+pub answers : {w : Bool} (s u : Sight w) (query : Query) (Answers : TableState → Line → TableState → Type 0) (Events : Line → Cluster → Type 0) (line : Line) (Change : TableState → TableState → Type 0) → query_refusal s.shape query ≡ None
     → ((t v : TableState) → IsKnown s t → u.shows v → Change t v → Answers t line v) → (w ≡ false → Events line u.cluster) → Brings s Change u → ExecutesQuery s query Answers Events line u
 answers {w} s u query Answers Events line Change q f m k =
     brings-on s u Change (λ t v. MatchOption (refused_query (query_refusal t.schema query)) (AnswersBy Answers Events line u t v) (Declines s t line u v))
@@ -56,24 +56,24 @@ answers {w} s u query Answers Events line Change q f m k =
     (sym (ap (λ (x : Shape). refused_query (query_refusal x query)) known.schema ∙ ap refused_query q)) (f t v known shown c, m)) k
 
 -- one that is
-pub query-refused : {w : Bool} (s : Seen w) (query : Query) (Answers : TableState → Line → TableState → Type 0) (Events : Line → Cluster → Type 0) (why : Refusal) → refused_query (query_refusal s.shape query) ≡ Some why → ExecutesQuery s query Answers Events (lines.Refused why) s
+pub query-refused : {w : Bool} (s : Sight w) (query : Query) (Answers : TableState → Line → TableState → Type 0) (Events : Line → Cluster → Type 0) (why : Refusal) → refused_query (query_refusal s.shape query) ≡ Some why → ExecutesQuery s query Answers Events (lines.Refused why) s
 query-refused {w} s query Answers Events why q =
     brings-none s (λ t v. MatchOption (refused_query (query_refusal t.schema query)) (AnswersBy Answers Events (lines.Refused why) s t v) (Declines s t (lines.Refused why) s v))
     (λ t known. subst (λ (o : Option Refusal). MatchOption o (AnswersBy Answers Events (lines.Refused why) s t t) (Declines s t (lines.Refused why) s t))
     (sym (ap (λ (x : Shape). refused_query (query_refusal x query)) known.schema ∙ q)) (refl, refl, λ _. refl))
 
-pub checked-in : {w : Bool} (s : Seen w) (t : TableState) (query : Query) (checked : CheckedQuery) → IsKnown s t → IsCheckedQuery s.shape query checked → IsCheckedQuery t.schema query checked
+pub checked-in : {w : Bool} (s : Sight w) (t : TableState) (query : Query) (checked : CheckedQuery) → IsKnown s t → IsCheckedQuery s.shape query checked → IsCheckedQuery t.schema query checked
 checked-in s t query checked known is = subst (λ (c : Shape). IsCheckedQuery c query checked) (sym known.schema) is
 
 -- the answer over parts whose names are these
-pub answer-same : {w : Bool} (s : Seen w) (t : TableState) (checked : CheckedQuery) (cells : List (List Cell)) (names : List Name) (parts : List NamedData) → IsKnown s t → names ≡ names_in parts → data_in parts ≡ map (data_at t) (names_in parts)
+pub answer-same : {w : Bool} (s : Sight w) (t : TableState) (checked : CheckedQuery) (cells : List (List Cell)) (names : List Name) (parts : List NamedData) → IsKnown s t → names ≡ names_in parts → data_in parts ≡ map (data_at t) (names_in parts)
     → cells ≡ answer_of s.shape checked (all_rows (data_in parts)) → cells ≡ answer_of t.schema checked (all_rows (map (data_at t) names))
 answer-same s t checked cells names parts known e d a =
     a ∙ (ap (λ (c : Shape). answer_of c checked (all_rows (data_in parts))) (sym known.schema)
     ∙ (ap (λ (x : List PartView). answer_of t.schema checked (all_rows x)) d ∙ ap (λ (ns : List Name). answer_of t.schema checked (all_rows (map (data_at t) ns))) (sym e)))
 
 -- what parts answer, in the words of a state
-pub reads-of : {w : Bool} (s : Seen w) (t v : TableState) (r : ℕ) (query : Query) (checked : CheckedQuery) (names : List Name) (cells : List (List Cell)) → IsKnown s t → IsCheckedQuery s.shape query checked → Selects s.shape r checked names cells t v → Reads t r query (lines.Read names cells) v
+pub reads-of : {w : Bool} (s : Sight w) (t v : TableState) (r : ℕ) (query : Query) (checked : CheckedQuery) (names : List Name) (cells : List (List Cell)) → IsKnown s t → IsCheckedQuery s.shape query checked → Selects s.shape r checked names cells t v → Reads t r query (lines.Read names cells) v
 reads-of s t v r query checked names cells known is a = record {
   checked = checked;
   is = checked-in s t query checked known is;
@@ -106,7 +106,7 @@ none-of None f = refl
 none-of (Some x) f = absurd (f x refl)
 
 -- SELECT .. SYNC
-pub syncs-in : {w : Bool} (s m u : Seen w) (r : ℕ) (query : Query) (checked : CheckedQuery) (cells : List (List Cell)) → query_refusal s.shape query ≡ None → IsCheckedQuery s.shape query checked
+pub syncs-in : {w : Bool} (s m u : Sight w) (r : ℕ) (query : Query) (checked : CheckedQuery) (cells : List (List Cell)) → query_refusal s.shape query ≡ None → IsCheckedQuery s.shape query checked
     → Brings s (SyncsOr s.ups r None) m → (w ≡ false → SyncEvents s.cluster r None m.cluster) → Stays m u → (w ≡ false → u.cluster ≡ m.cluster)
     → ((t : TableState) → m.shows t → KnowsAll t r → cells ≡ answer_of t.schema checked (plain_rows t))
     → ExecutesQuery s query (λ t. Syncs s.ups t r query) (λ line. SyncEvents s.cluster r (refusal_told line)) (lines.Rows cells) u
@@ -123,21 +123,21 @@ syncs-in {w} s m u r query checked cells q is k e y n a =
     (λ t h. let l = k t h in record { state = l.state; holds = record { at = l.holds.at; rests = l.holds.rests; change = (l.holds.change, l.shows) }; shows = y l.state l.shows })
 
 -- the replica lacks a part
-pub sync-lacks : {w : Bool} (s u : Seen w) (r : ℕ) (query : Query) (why : Refusal) → query_refusal s.shape query ≡ None → Brings s (SyncsOr s.ups r (Some why)) u → (w ≡ false → SyncEvents s.cluster r (Some why) u.cluster)
+pub sync-lacks : {w : Bool} (s u : Sight w) (r : ℕ) (query : Query) (why : Refusal) → query_refusal s.shape query ≡ None → Brings s (SyncsOr s.ups r (Some why)) u → (w ≡ false → SyncEvents s.cluster r (Some why) u.cluster)
     → ExecutesQuery s query (λ t. Syncs s.ups t r query) (λ line. SyncEvents s.cluster r (refusal_told line)) (lines.Refused why) u
 sync-lacks s u r query why q k m =
     answers s u query (λ t. Syncs s.ups t r query) (λ line. SyncEvents s.cluster r (refusal_told line)) (lines.Refused why) (SyncsOr s.ups r (Some why)) q
     (λ t v known shown c. inr (record { refusal = why; lacks = c; reply = refl })) m k
 
 -- a plain SELECT
-pub reads-in : {w : Bool} (s u : Seen w) (r : ℕ) (query : Query) (checked : CheckedQuery) (names : List Name) (cells : List (List Cell)) → query_refusal s.shape query ≡ None → IsCheckedQuery s.shape query checked
+pub reads-in : {w : Bool} (s u : Sight w) (r : ℕ) (query : Query) (checked : CheckedQuery) (names : List Name) (cells : List (List Cell)) → query_refusal s.shape query ≡ None → IsCheckedQuery s.shape query checked
     → Brings s (Selects s.shape r checked names cells) u → (w ≡ false → u.cluster ≡ s.cluster) → ExecutesQuery s query (λ t. Reads t r query) (λ line c. c ≡ s.cluster) (lines.Read names cells) u
 reads-in s u r query checked names cells q is k m =
     answers s u query (λ t. Reads t r query) (λ line c. c ≡ s.cluster) (lines.Read names cells) (Selects s.shape r checked names cells) q
     (λ t v known shown a. reads-of s t v r query checked names cells known is a) m k
 
 -- EXPLAIN
-pub explains-in : {w : Bool} (s u : Seen w) (r : ℕ) (query : Query) (checked : CheckedQuery) (all : List (Name × ℕ × ℕ)) → query_refusal s.shape query ≡ None → IsCheckedQuery s.shape query checked
+pub explains-in : {w : Bool} (s u : Sight w) (r : ℕ) (query : Query) (checked : CheckedQuery) (all : List (Name × ℕ × ℕ)) → query_refusal s.shape query ≡ None → IsCheckedQuery s.shape query checked
     → Brings s (CountsGranules r checked all) u → (w ≡ false → u.cluster ≡ s.cluster) → ExecutesQuery s query (λ t. Explains t r query) (λ line c. c ≡ s.cluster) (lines.Granules all) u
 explains-in s u r query checked all q is k m =
     answers s u query (λ t. Explains t r query) (λ line c. c ≡ s.cluster) (lines.Granules all) (CountsGranules r checked all) q
@@ -155,7 +155,7 @@ explains-in s u r query checked all q is k m =
 -- ---- INSERT
 
 -- rows that are inserted
-pub inserts-in : {w : Bool} (s u : Seen w) (r need : ℕ) (insert : Insert) (rows : List Row) (line : Line) → need ≡ need_of insert.quorum → s.ups r ≡ true → HasRows s.shape insert rows
+pub inserts-in : {w : Bool} (s u : Sight w) (r need : ℕ) (insert : Insert) (rows : List Row) (line : Line) → need ≡ need_of insert.quorum → s.ups r ≡ true → HasRows s.shape insert rows
     → Brings s (λ t v. InsertsRows w s.ups t (asked_at r need) rows line v) u → (w ≡ false → InsertsBy s.cluster (asked_at r need) line u.cluster) → ExecutesIn s r (acts.Insert insert) line u
 inserts-in {w} s u r need insert rows line e up k f m =
     acts-in s u r (acts.Insert insert) line (λ t v. InsertsRows w s.ups t (asked_at r need) rows line v)
@@ -165,7 +165,7 @@ inserts-in {w} s u r need insert rows line e up k f m =
     (λ n. subst (λ x. InsertsBy s.cluster (asked_at r x) line u.cluster) e (m n)) f
 
 -- the same of a call
-pub inserts-all-in : {w : Bool} {E : Type 0} (result : Result Line E) (s u : Seen w) (r need : ℕ) (insert : Insert) (rows : List Row) → need ≡ need_of insert.quorum → s.ups r ≡ true → HasRows s.shape insert rows
+pub inserts-all-in : {w : Bool} {E : Type 0} (result : Result Line E) (s u : Sight w) (r need : ℕ) (insert : Insert) (rows : List Row) → need ≡ need_of insert.quorum → s.ups r ≡ true → HasRows s.shape insert rows
     → IfOk result (λ line. Brings s (λ t v. InsertsRows w s.ups t (asked_at r need) rows line v) u) → (w ≡ false → IfOk result (λ line. InsertsBy s.cluster (asked_at r need) line u.cluster)) → IfOk result (λ line. ExecutesIn s r (acts.Insert insert) line u)
 inserts-all-in (Ok line) s u r need insert rows e up k f m = inserts-in s u r need insert rows line e up k f m
 inserts-all-in (Err x) s u r need insert rows e up k f m = tt
@@ -178,14 +178,14 @@ split-fits shape rows blocks s f = All-weaker _ _ (λ b k. of b k) blocks s.each
     of b k = subst (λ (x : BlockView). All (λ row. fits shape.columns row ≡ true) x.rows) (sym k.whole) (All-filter (is_in shape.partition b.partition) (λ row. fits shape.columns row ≡ true) rows f)
 
 -- blocks of rows that are inserted
-pub inserts-split : {w : Bool} (s u : Seen w) (a : Asked) (rows : List Row) (blocks : List BlockView) (all : List Piece) (refused : Option Refusal) → IsSplit s.shape rows blocks
+pub inserts-split : {w : Bool} (s u : Sight w) (a : Asked) (rows : List Row) (blocks : List BlockView) (all : List Piece) (refused : Option Refusal) → IsSplit s.shape rows blocks
     → Brings s (λ t. InsertsAll w s.ups t a (map without_kinds blocks) all refused) u → Brings s (λ t v. InsertsRows w s.ups t a rows (lines.Inserted all refused) v) u
 inserts-split {w} s u a rows blocks all refused p k =
     brings-on s u (λ t. InsertsAll w s.ups t a (map without_kinds blocks) all refused) (λ t v. InsertsRows w s.ups t a rows (lines.Inserted all refused) v)
     (λ t v known shown c. record { blocks = blocks; split = subst (λ (x : Shape). IsSplit x rows blocks) (sym known.schema) p; all = all; refused = refused; inserts = c; reply = refl }) k
 
 -- rows that are refused
-pub rows-refused : {w : Bool} (s : Seen w) (r : ℕ) (insert : Insert) (why : Refusal) → RefusesRows s.shape insert why → ExecutesIn s r (acts.Insert insert) (lines.Refused why) s
+pub rows-refused : {w : Bool} (s : Sight w) (r : ℕ) (insert : Insert) (why : Refusal) → RefusesRows s.shape insert why → ExecutesIn s r (acts.Insert insert) (lines.Refused why) s
 rows-refused {w} s r insert why k = brings-none s (ExecutesAct s r (acts.Insert insert) (lines.Refused why) s) (λ t known. go t (subst (λ (c : Shape). RefusesRows c insert why) (sym known.schema) k))
   where
     go : (t : TableState) → RefusesRows t.schema insert why → MatchOption (insert_refusal t.schema insert) (DoesAct s t r (acts.Insert insert) (lines.Refused why) s t) (Declines s t (lines.Refused why) s t)

@@ -26,130 +26,139 @@ use Rattle.rmt_play.specs.World.{Table, World, new_table}
 use Rattle.rmt_play.specs.Checks.{first_of, refused_with, refused_schema, refused_columns, too_many_tables, create_refusals, is_played, refusals, refusal_of}
 use Rattle.rmt_statements.specs.declared.statement.Statement.{Statement}
 use Rattle.rmt_play.specs.Plays.{Creates, Performs, Refuses}
-use Rattle.rmt_play.specs.PlayerSteps.{NamedCluster, PlayerView, IsIn, Moves, IsPlaceOf, HasNone, IsFound, IsNewTable, is_up, Answers, CreatesNone, HandsOut, IsReplied, Executes, ExecutesCreate, ExecutesPlayed}
-use Rattle.rmt_play.proofs.TableLemmas.{length-shown, append-shown, none-in}
+use Rattle.rmt_play.specs.PlayerSteps.{Sights, clusters_seen, NamedTable, PlayerView, IsIn, Moves, IsNewTable, is_up, Answers, CreatesNone, HandsOut, IsReplied, Executes, ExecutesCreate, ExecutesPlayed}
+use Rattle.rmt_play.proofs.FoundTables.{IsPlaceOf, HasNone, IsFound}
+use Rattle.rmt_play.specs.WorldRests.{RestsAll}
+use Rattle.rmt_play.proofs.TableLemmas.{length-shown, append-shown, none-in, none-named, length-named, about-rested, rests-all-none, stays}
 use Rattle.rmt_play.proofs.SendLemmas.{found-at}
 
 -- a table is added
-pub adds : (p : PlayerView) (name : List ℕ) (schema : Shape) (c : Cluster) → IsNewTable schema p.replicas p.up c → Moves p (λ w v. Creates w name schema lines.Okay v) (record p { tables = p.tables ++ record { name = name; cluster = c } ∷ [] })
+pub adds : (p : PlayerView clusters_seen) (name : List ℕ) (schema : Shape) (c : Cluster) → IsNewTable schema p.replicas p.up c → Moves p (λ w v. Creates w name schema lines.Okay v) (record p { tables = p.tables ++ record { name = name; table = c } ∷ [] })
 adds p name schema c h w i = record {
   world = record w { tables = w.tables ++ new_table name schema c ∷ [] };
-  holds = record { cluster = c; ups_are = h.ups_given; is_new = h.is_new; counted = h.all ∙ sym i.replicas; are_up = h.ups_are ∙ sym i.up; reply = refl; change = refl };
-  is_in = record { replicas = i.replicas; up = i.up; tables = append-shown p.tables w.tables (record { name = name; cluster = c }) (new_table name schema c) i.tables (record { name = refl; cluster = refl; shows = h.shows }) };
+  holds = record {
+    at = w;
+    rests = rests-all-none false w;
+    change = record { cluster = c; ups_are = h.ups_given; is_new = h.is_new; counted = h.all ∙ sym i.replicas; are_up = h.ups_are ∙ sym i.up; reply = refl; change = refl };
+  };
+  is_in = record { replicas = i.replicas; up = i.up; tables = append-shown p.tables w.tables (record { name = name; table = c }) (new_table name schema c) i.tables (record { name = refl; cluster = λ n. refl; shows = h.shows }) };
 }
 
 -- a CREATE does so, whatever schema was made or refused
-abbrev pub CreatesMade : PlayerView → List ℕ → Result Shape SchemaError → Answer → PlayerView → Type 0
-CreatesMade p name made a q = MatchResult made (λ schema. Answers p (ExecutesCreate name None schema) a q) (λ e. Answers p (CreatesNone name e) a q)
+abbrev pub CreatesMade : {e : Sights} → PlayerView e → List ℕ → Result Shape SchemaError → Answer → PlayerView e → Type 0
+CreatesMade p name made a q = MatchResult made (λ schema. Answers p (ExecutesCreate name None schema) a q) (λ x. Answers p (CreatesNone name x) a q)
 
 -- what a statement comes to by one relation it comes to by another that follows
-pub answers-weaker : (p q : PlayerView) (Does More : Line → World → World → Type 0) → ((line : Line) (w v : World) → IsIn p w → Does line w v → More line w v) → (a : Answer) → Answers p Does a q → Answers p More a q
-answers-weaker p q Does More f (answers.Reply line) m = λ w i. let x = m w i in record { world = x.world; holds = f line w x.world i x.holds; is_in = x.is_in }
-answers-weaker p q Does More f (answers.Creates table schema) m = (m.0, λ line w v i c. f line w v i (m.1 line w v i c))
+pub answers-weaker : {e : Sights} (p q : PlayerView e) (Does More : Line → World → World → Type 0) → ((line : Line) (w at v : World) → IsIn p w → RestsAll e.workers w at → Does line at v → More line at v) → (a : Answer) → Answers p Does a q → Answers p More a q
+answers-weaker p q Does More f (answers.Reply line) m = λ w i.
+    let x = m w i in
+    record { world = x.world; holds = record { at = x.holds.at; rests = x.holds.rests; change = f line w x.holds.at x.world i x.holds.rests x.holds.change }; is_in = x.is_in }
+answers-weaker p q Does More f (answers.Creates table schema) m = (m.0, λ line w at v i r c. f line w at v i r (m.1 line w at v i r c))
 
 -- the name is taken
-exists-holds : (p : PlayerView) (w : World) (name : List ℕ) (refusal : Option SchemaError) (schema : Shape) (line : Line) (place : ℕ) → IsIn p w → IsPlaceOf p.tables name place → line ≡ lines.Refused (TableExists name) → ExecutesCreate name refusal schema line w w
-exists-holds p w name refusal schema line place i f e =
+exists-holds : {e : Sights} (p : PlayerView e) (w : World) (name : List ℕ) (refusal : Option SchemaError) (schema : Shape) (line : Line) (place : ℕ) → IsIn p w → IsPlaceOf p.tables name place → line ≡ lines.Refused (TableExists name) → ExecutesCreate name refusal schema line w w
+exists-holds p w name refusal schema line place i f q =
     let t = found-at p w name place i f in
     subst (λ (o : Option Refusal). MatchOption o (Creates w name schema line w) (λ why. Refuses w why line w))
     (sym (ap (λ (o : Option Table). first_of (refused_with o name ∷ refused_schema refusal ∷ too_many_tables (length w.tables) ∷ refused_columns refusal ∷ [])) t.found))
-    (record { reply = e; unchanged = refl })
+    (record { reply = q; unchanged = refl })
 
-pub exists-already : (p : PlayerView) (name : List ℕ) (made : Result Shape SchemaError) (line : Line) (place : ℕ) → IsPlaceOf p.tables name place → line ≡ lines.Refused (TableExists name) → CreatesMade p name made (answers.Reply line) p
-exists-already p name (Ok schema) line place f e = λ w i. record { world = w; holds = exists-holds p w name None schema line place i f e; is_in = i }
-exists-already p name (Err refusal) line place f e = λ w i. record { world = w; holds = λ schema. exists-holds p w name (Some refusal) schema line place i f e; is_in = i }
+pub exists-already : {e : Sights} (p : PlayerView e) (name : List ℕ) (made : Result Shape SchemaError) (line : Line) (place : ℕ) → IsPlaceOf p.tables name place → line ≡ lines.Refused (TableExists name) → CreatesMade p name made (answers.Reply line) p
+exists-already p name (Ok schema) line place f q = stays p (ExecutesCreate name None schema line) (λ w i. exists-holds p w name None schema line place i f q)
+exists-already p name (Err refusal) line place f q = stays p (CreatesNone name refusal line) (λ w i schema. exists-holds p w name (Some refusal) schema line place i f q)
 
 -- the refusals of a CREATE whose name is free
-free : (p : PlayerView) (w : World) (name : List ℕ) (refusal : Option SchemaError) → IsIn p w → HasNone p.tables name
-    → first_of (create_refusals w name refusal) ≡ first_of (refused_schema refusal ∷ too_many_tables (length p.tables) ∷ refused_columns refusal ∷ [])
-free p w name refusal i none =
-    ap (λ (o : Option Table). first_of (refused_with o name ∷ refused_schema refusal ∷ too_many_tables (length w.tables) ∷ refused_columns refusal ∷ [])) (none-in p.tables w.tables name none i.tables)
-    ∙ ap (λ n. first_of (refused_schema refusal ∷ too_many_tables n ∷ refused_columns refusal ∷ [])) (length-shown p.tables w.tables i.tables)
+free : {e : Sights} (p : PlayerView e) (w at : World) (name : List ℕ) (refusal : Option SchemaError) → IsIn p w → RestsAll e.workers w at → HasNone p.tables name
+    → first_of (create_refusals at name refusal) ≡ first_of (refused_schema refusal ∷ too_many_tables (length p.tables) ∷ refused_columns refusal ∷ [])
+free {e} p w at name refusal i r none =
+    let names = (about-rested e.workers w at r).names in
+    ap (λ (o : Option Table). first_of (refused_with o name ∷ refused_schema refusal ∷ too_many_tables (length at.tables) ∷ refused_columns refusal ∷ [])) (none-named w.tables at.tables name names (none-in p.tables w.tables name none i.tables))
+    ∙ ap (λ n. first_of (refused_schema refusal ∷ too_many_tables n ∷ refused_columns refusal ∷ [])) (length-named w.tables at.tables names ∙ length-shown p.tables w.tables i.tables)
 
 -- the schema is refused, or there are as many tables as there may be
-refused-holds : (p : PlayerView) (w : World) (name : List ℕ) (refusal : Option SchemaError) (schema : Shape) (line : Line) (why : Refusal) → IsIn p w → HasNone p.tables name
+refused-holds : {e : Sights} (p : PlayerView e) (w : World) (name : List ℕ) (refusal : Option SchemaError) (schema : Shape) (line : Line) (why : Refusal) → IsIn p w → HasNone p.tables name
     → first_of (refused_schema refusal ∷ too_many_tables (length p.tables) ∷ refused_columns refusal ∷ []) ≡ Some why → line ≡ lines.Refused why → ExecutesCreate name refusal schema line w w
-refused-holds p w name refusal schema line why i none q e =
-    subst (λ (o : Option Refusal). MatchOption o (Creates w name schema line w) (λ why. Refuses w why line w)) (sym (free p w name refusal i none ∙ q)) (record { reply = e; unchanged = refl })
+refused-holds {e} p w name refusal schema line why i none q k =
+    subst (λ (o : Option Refusal). MatchOption o (Creates w name schema line w) (λ why. Refuses w why line w)) (sym (free p w w name refusal i (rests-all-none e.workers w) none ∙ q)) (record { reply = k; unchanged = refl })
 
 -- the schema is refused
-pub schema-refused : (p : PlayerView) (name : List ℕ) (refusal : SchemaError) (line : Line) (why : Refusal) → HasNone p.tables name
+pub schema-refused : {e : Sights} (p : PlayerView e) (name : List ℕ) (refusal : SchemaError) (line : Line) (why : Refusal) → HasNone p.tables name
     → first_of (refused_schema (Some refusal) ∷ too_many_tables (length p.tables) ∷ refused_columns (Some refusal) ∷ []) ≡ Some why → line ≡ lines.Refused why
-    → Moves p (λ w v. (schema : Shape) → ExecutesCreate name (Some refusal) schema line w v) p
-schema-refused p name refusal line why none q e w i = record { world = w; holds = λ schema. refused-holds p w name (Some refusal) schema line why i none q e; is_in = i }
+    → Moves p (CreatesNone name refusal line) p
+schema-refused p name refusal line why none q k = stays p (CreatesNone name refusal line) (λ w i schema. refused-holds p w name (Some refusal) schema line why i none q k)
 
 full-first : (o : Option Refusal) → first_of (None ∷ o ∷ None ∷ []) ≡ o
 full-first None = refl
 full-first (Some refusal) = refl
 
 -- there are as many tables as there may be
-pub full-refused : (p : PlayerView) (name : List ℕ) (schema : Shape) (line : Line) (why : Refusal) → HasNone p.tables name → too_many_tables (length p.tables) ≡ Some why → line ≡ lines.Refused why → Moves p (ExecutesCreate name None schema line) p
-full-refused p name schema line why none q e w i =
-    record { world = w; holds = refused-holds p w name None schema line why i none (full-first (too_many_tables (length p.tables)) ∙ q) e; is_in = i }
+pub full-refused : {e : Sights} (p : PlayerView e) (name : List ℕ) (schema : Shape) (line : Line) (why : Refusal) → HasNone p.tables name → too_many_tables (length p.tables) ≡ Some why → line ≡ lines.Refused why → Moves p (ExecutesCreate name None schema line) p
+full-refused p name schema line why none q k =
+    stays p (ExecutesCreate name None schema line) (λ w i. refused-holds p w name None schema line why i none (full-first (too_many_tables (length p.tables)) ∙ q) k)
 
 -- whoever makes the table has played it
-pub created : (p : PlayerView) (name : List ℕ) (schema : Shape) → HasNone p.tables name → too_many_tables (length p.tables) ≡ None → HandsOut p (ExecutesCreate name None schema) name schema
-created p name schema none room line w v i m =
-    subst (λ (o : Option Refusal). MatchOption o (Creates w name schema line v) (λ why. Refuses w why line v))
-    (sym (free p w name None i none ∙ (full-first (too_many_tables (length p.tables)) ∙ room))) m
+pub created : {e : Sights} (p : PlayerView e) (name : List ℕ) (schema : Shape) → HasNone p.tables name → too_many_tables (length p.tables) ≡ None → HandsOut p (ExecutesCreate name None schema) name schema
+created p name schema none room line w at v i r m =
+    subst (λ (o : Option Refusal). MatchOption o (Creates at name schema line v) (λ why. Refuses at why line v))
+    (sym (free p w at name None i r none ∙ (full-first (too_many_tables (length p.tables)) ∙ room))) m
 
 -- ---- by what was made of the columns
 
-pub made-refused : (p : PlayerView) (name : List ℕ) (made : Result Shape SchemaError) (refusal : SchemaError) (line : Line) (why : Refusal) → made ≡ Err refusal → HasNone p.tables name
+pub made-refused : {e : Sights} (p : PlayerView e) (name : List ℕ) (made : Result Shape SchemaError) (refusal : SchemaError) (line : Line) (why : Refusal) → made ≡ Err refusal → HasNone p.tables name
     → first_of (refused_schema (Some refusal) ∷ too_many_tables (length p.tables) ∷ refused_columns (Some refusal) ∷ []) ≡ Some why → line ≡ lines.Refused why → CreatesMade p name made (answers.Reply line) p
-made-refused p name made refusal line why m none q e =
-    subst (λ (r : Result Shape SchemaError). CreatesMade p name r (answers.Reply line) p) (sym m) (schema-refused p name refusal line why none q e)
+made-refused p name made refusal line why m none q k =
+    subst (λ (r : Result Shape SchemaError). CreatesMade p name r (answers.Reply line) p) (sym m) (schema-refused p name refusal line why none q k)
 
-pub made-full : (p : PlayerView) (name : List ℕ) (made : Result Shape SchemaError) (schema : Shape) (line : Line) (why : Refusal) → made ≡ Ok schema → HasNone p.tables name
+pub made-full : {e : Sights} (p : PlayerView e) (name : List ℕ) (made : Result Shape SchemaError) (schema : Shape) (line : Line) (why : Refusal) → made ≡ Ok schema → HasNone p.tables name
     → too_many_tables (length p.tables) ≡ Some why → line ≡ lines.Refused why → CreatesMade p name made (answers.Reply line) p
-made-full p name made schema line why m none q e =
-    subst (λ (r : Result Shape SchemaError). CreatesMade p name r (answers.Reply line) p) (sym m) (full-refused p name schema line why none q e)
+made-full p name made schema line why m none q k =
+    subst (λ (r : Result Shape SchemaError). CreatesMade p name r (answers.Reply line) p) (sym m) (full-refused p name schema line why none q k)
 
-pub made-created : (p : PlayerView) (name : List ℕ) (made : Result Shape SchemaError) (schema : Shape) → made ≡ Ok schema → HasNone p.tables name → too_many_tables (length p.tables) ≡ None → CreatesMade p name made (answers.Creates name schema) p
+pub made-created : {e : Sights} (p : PlayerView e) (name : List ℕ) (made : Result Shape SchemaError) (schema : Shape) → made ≡ Ok schema → HasNone p.tables name → too_many_tables (length p.tables) ≡ None → CreatesMade p name made (answers.Creates name schema) p
 made-created p name made schema m none room =
     subst (λ (r : Result Shape SchemaError). CreatesMade p name r (answers.Creates name schema) p) (sym m) (refl, created p name schema none room)
 
 -- a CREATE of which this schema or this refusal is known
-pub create-played : (p q : PlayerView) (name : List ℕ) (refusal : Option SchemaError) (schema : Shape) (made : Result Shape SchemaError) (a : Answer) → IfOk made (λ s. s ≡ schema) → IfOk made (λ s. refusal ≡ None)
-    → IfErr made (λ e. refusal ≡ Some e) → CreatesMade p name made a q → Answers p (ExecutesCreate name refusal schema) a q
+pub create-played : {e : Sights} (p q : PlayerView e) (name : List ℕ) (refusal : Option SchemaError) (schema : Shape) (made : Result Shape SchemaError) (a : Answer) → IfOk made (λ s. s ≡ schema) → IfOk made (λ s. refusal ≡ None)
+    → IfErr made (λ x. refusal ≡ Some x) → CreatesMade p name made a q → Answers p (ExecutesCreate name refusal schema) a q
 create-played p q name refusal schema (Ok s) a o k f m =
     subst (λ (x : Option SchemaError). Answers p (ExecutesCreate name x schema) a q) (sym k) (subst (λ (x : Shape). Answers p (ExecutesCreate name None x) a q) o m)
-create-played p q name refusal schema (Err e) a o k f m =
-    answers-weaker p q (CreatesNone name e) (ExecutesCreate name refusal schema) (λ line w v i h. subst (λ (y : Option SchemaError). ExecutesCreate name y schema line w v) (sym f) (h schema)) a m
+create-played p q name refusal schema (Err x) a o k f m =
+    answers-weaker p q (CreatesNone name x) (ExecutesCreate name refusal schema) (λ line w at v i r h. subst (λ (y : Option SchemaError). ExecutesCreate name y schema line at v) (sym f) (h schema)) a m
 
 -- a statement that was played
-pub replied-answers : (p q : PlayerView) (Does : Line → World → World → Type 0) (r : Result Line AllocError) (s : Result Answer AllocError) → IsReplied r s → IfOk r (λ line. Moves p (Does line) q) → IfOk s (λ a. Answers p Does a q)
-replied-answers p q Does (Ok line) s e m = subst (λ (x : Result Answer AllocError). IfOk x (λ a. Answers p Does a q)) (sym e) m
-replied-answers p q Does (Err x) (Ok a) e m = absurd (cc)
-replied-answers p q Does (Err x) (Err y) e m = tt
+pub replied-answers : {e : Sights} (p q : PlayerView e) (Does : Line → World → World → Type 0) (r : Result Line AllocError) (s : Result Answer AllocError) → IsReplied r s → IfOk r (λ line. Moves p (Does line) q) → IfOk s (λ a. Answers p Does a q)
+replied-answers p q Does (Ok line) s k m = subst (λ (x : Result Answer AllocError). IfOk x (λ a. Answers p Does a q)) (sym k) m
+replied-answers p q Does (Err x) (Ok a) k m = absurd (cc)
+replied-answers p q Does (Err x) (Err y) k m = tt
 
 -- ---- a form that isn't played
 
-pub unplayed-refused : (p : PlayerView) (statement : Statement) (first : ℕ) → is_played (length p.tables) statement ≡ false → Moves p (Executes statement first (lines.Refused (Syntax first))) p
-unplayed-refused p statement first e w i =
+pub unplayed-refused : {e : Sights} (p : PlayerView e) (statement : Statement) (first : ℕ) → is_played (length p.tables) statement ≡ false → Moves p (Executes e.workers statement first (lines.Refused (Syntax first))) p
+unplayed-refused {e} p statement first k = stays p (Executes e.workers statement first (lines.Refused (Syntax first))) (λ w i.
     let refused : refusal_of w statement first ≡ Some (Syntax first) =
-    ap (λ (b : Bool). first_of (cond b None (Some (Syntax first)) ∷ refusals w statement)) (ap (λ n. is_played n statement) (length-shown p.tables w.tables i.tables) ∙ e) in
-    record {
-      world = w;
-      holds = subst (λ (o : Option Refusal). MatchOption o (Performs false w statement (lines.Refused (Syntax first)) w) (λ why. Refuses w why (lines.Refused (Syntax first)) w)) (sym refused)
-          (record { reply = refl; unchanged = refl });
-      is_in = i;
-    }
+    ap (λ (b : Bool). first_of (cond b None (Some (Syntax first)) ∷ refusals w statement)) (ap (λ n. is_played n statement) (length-shown p.tables w.tables i.tables) ∙ k) in
+    subst (λ (o : Option Refusal). MatchOption o (Performs e.workers w statement (lines.Refused (Syntax first)) w) (λ why. Refuses w why (lines.Refused (Syntax first)) w)) (sym refused)
+    (record { reply = refl; unchanged = refl }))
 
 -- one that is played
-pub played : (p q : PlayerView) (statement : Statement) (first : ℕ) (a : Answer) → is_played (length p.tables) statement ≡ true → Answers p (ExecutesPlayed statement) a q → Answers p (Executes statement first) a q
-played p q statement first a e m = answers-weaker p q (ExecutesPlayed statement) (Executes statement first) (λ line w v i h. subst (λ (o : Option Refusal). MatchOption o (Performs false w statement line v) (λ why. Refuses w why line v)) (sym (same w i)) h) a m
+pub played : {e : Sights} (p q : PlayerView e) (statement : Statement) (first : ℕ) (a : Answer) → is_played (length p.tables) statement ≡ true → Answers p (ExecutesPlayed e.workers statement) a q → Answers p (Executes e.workers statement first) a q
+played {e} p q statement first a k m =
+    answers-weaker p q (ExecutesPlayed e.workers statement) (Executes e.workers statement first)
+    (λ line w at v i r h. subst (λ (o : Option Refusal). MatchOption o (Performs e.workers at statement line v) (λ why. Refuses at why line v)) (sym (same w at i r)) h) a m
   where
-    same : (w : World) → IsIn p w → refusal_of w statement first ≡ first_of (refusals w statement)
-    same w i = ap (λ (b : Bool). first_of (cond b None (Some (Syntax first)) ∷ refusals w statement)) (ap (λ n. is_played n statement) (length-shown p.tables w.tables i.tables) ∙ e)
+    same : (w at : World) → IsIn p w → RestsAll e.workers w at → refusal_of at statement first ≡ first_of (refusals at statement)
+    same w at i r =
+        ap (λ (b : Bool). first_of (cond b None (Some (Syntax first)) ∷ refusals at statement))
+        (ap (λ n. is_played n statement) (length-named w.tables at.tables (about-rested e.workers w at r).names ∙ length-shown p.tables w.tables i.tables) ∙ k)
 
 -- ---- whether a name is taken
 
-pub place-there : (tables : List NamedCluster) (name : List ℕ) (o : Option ℕ) → is_some o ≡ true → IsFound tables name o → (place : ℕ) × IsPlaceOf tables name place
+pub place-there : {e : Sights} (tables : List (NamedTable e)) (name : List ℕ) (o : Option ℕ) → is_some o ≡ true → IsFound tables name o → (place : ℕ) × IsPlaceOf tables name place
 place-there tables name None t m = absurd (cc)
 place-there tables name (Some place) t m = (place, m)
 
-pub nothing-there : (tables : List NamedCluster) (name : List ℕ) (o : Option ℕ) → is_some o ≡ false → IsFound tables name o → HasNone tables name
+pub nothing-there : {e : Sights} (tables : List (NamedTable e)) (name : List ℕ) (o : Option ℕ) → is_some o ≡ false → IsFound tables name o → HasNone tables name
 nothing-there tables name None t m = m
 nothing-there tables name (Some place) t m = absurd (cc)
 

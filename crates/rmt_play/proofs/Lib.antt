@@ -1,11 +1,13 @@
+pub mod FoundTables
 pub mod TableLemmas
+pub mod NamedLemmas
 pub mod WordLemmas
 pub mod SchemaLemmas
 pub mod SendLemmas
 pub mod TurnLemmas
 pub mod CreateLemmas
 pub mod ActLemmas
-pub mod SeenLemmas
+pub mod SightLemmas
 pub mod CommandLemmas
 pub mod SequentialLemmas
 pub mod RefusedActs

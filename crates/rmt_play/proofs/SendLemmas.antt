@@ -9,7 +9,6 @@ use Rattle.rmt_statements.specs.declared.act.Act.{Act}
 use Rattle.rmt_statements.specs.declared.act.Act.TheVariants as acts
 use Rattle.rmt_statements.specs.declared.sent.Sent.{Sent}
 use Rattle.rmt_statement_model.specs.TableStates.{TableState}
-use Rattle.rmt_statement_model.specs.Shows.{Shows, Leads, ups}
 use Rattle.rmt_reply.specs.declared.line.Line.{Line}
 use Rattle.rmt_reply.specs.declared.line.Line.TheVariants as lines
 use Rattle.rmt_reply.specs.declared.refusal.Refusal.{Refusal}
@@ -21,14 +20,15 @@ use Rattle.rmt_cluster.specs.Runs.{RunsAll}
 use Rattle.rmt_play.specs.ActEvents.{ActEvents}
 use Rattle.rmt_play.specs.RunStatement.{RunsTurns}
 use Rattle.rmt_play.specs.Plays.{PerformsSent, RunsIn, Refuses, with_table}
-use Rattle.rmt_play.specs.PlayerSteps.{PlayerView, IsAtAll, IsIn, ComesTo, Moves, IsPlaceOf, HasNone, ActsAt, RunsAt, ExecutesSent, ExecutesRun}
+use Rattle.rmt_play.specs.WorldRests.{RestsAll}
+use Rattle.rmt_play.specs.PlayerSteps.{Sights, NamedTable, PlayerView, IsAtAll, IsIn, ComesTo, RestsFirst, Moves, ActsAt, RunsAt, ExecutesSent, ExecutesRun}
+use Rattle.rmt_play.proofs.FoundTables.{IsPlaceOf, HasNone}
 use Rattle.rmt_play.specs.ActSteps.{DoesAct, Declines, refusal_there, held_refusal, ExecutesAct, ExecutesIn, ExecutesAt, ExecutesThere}
-use Rattle.rmt_acting.specs.Acting.{Seen}
-use Rattle.rmt_acting.specs.Stepped.{seen_of}
+use Rattle.rmt_acting.specs.Acting.{Sight, LeadsTo, RestsThen}
 use Rattle.rmt_play.specs.Acts.{Acts}
-use Rattle.rmt_play.proofs.SeenLemmas.{brings-on, led}
+use Rattle.rmt_play.proofs.SightLemmas.{brings-on}
 use Rattle.rmt_play.proofs.RefusedActs.{held-none, held-up}
-use Rattle.rmt_play.proofs.TableLemmas.{FoundIn, each-get, found-in, none-in, with-same}
+use Rattle.rmt_play.proofs.TableLemmas.{stays, FoundIn, each-get, found-in, none-in, rests-one, found-put, with-again}
 
 -- ---- acts at a replica
 
@@ -77,7 +77,7 @@ up-refusals up t r act h p = own act (down act) p
     own (acts.StartFetches table) d q = two None (down_refusal up r (acts.StartFetches table)) None d refl
 
 -- so it does there what it does where nothing holds the replica
-pub there-up : {w : Bool} (s u : Seen w) (r : ℕ) (act : Act) (line : Line) → held_refusal s r act ≡ None → ExecutesIn s r act line u → ExecutesThere s r act line u
+pub there-up : {w : Bool} (s u : Sight w) (r : ℕ) (act : Act) (line : Line) → held_refusal s r act ≡ None → ExecutesIn s r act line u → ExecutesThere s r act line u
 there-up s u r act line e f =
     let free = held-none s r act e in
     brings-on s u (ExecutesAct s r act line u) (ExecutesAt s r act line u)
@@ -101,117 +101,171 @@ refusals-there w sent t r e at =
     ∙ (ap (λ (o : Option ℕ). first_of (refused_name o sent.replica ∷ refused_act w.up (Some t) o sent.act ∷ [])) at ∙ alone (first_of (act_refusals w.up t.state r sent.act)))
 
 -- the table at the place of a name
-pub found-at : (p : PlayerView) (w : World) (name : List ℕ) (place : ℕ) → IsIn p w → (f : IsPlaceOf p.tables name place) → FoundIn p.tables w.tables name place f.table
+pub found-at : {e : Sights} (p : PlayerView e) (w : World) (name : List ℕ) (place : ℕ) → IsIn p w → (f : IsPlaceOf p.tables name place) → FoundIn p.tables w.tables name place f.table
 found-at p w name place i f = found-in p.tables w.tables name place f.table f.there f.named f.first i.tables
 
--- an act does what it says, where these replicas are up, by its events
-abbrev DoesIn : (ℕ → Bool) → Cluster → TableState → ℕ → Act → Line → Cluster → TableState → Type 0
-DoesIn up s t r act line u v = Acts false up t r act line v × (false ≡ false → ActEvents s r act line u)
-
--- an act that is done in its table
-pub sends : (old new : PlayerView) (sent : Sent) (place replica : ℕ) (line : Line) → Each (IsAtAll old.replicas old.up) old.tables → IsPlaceOf old.tables (table_named sent.act) place → replica_at old.replicas sent.replica ≡ Some replica
-    → ActsAt old place replica sent.act line new → Moves old (ExecutesSent sent line) new
-sends old new sent place replica line all p at a w i =
-    subst (λ (o : Option Refusal). ComesTo new (λ v. MatchOption o (PerformsSent false w sent line v) (λ refusal. Refuses w refusal line v))) (sym refused)
-    (go (first_of (act_refusals w.up f.table.state replica sent.act)) there.state there.shows done)
+-- an act that is done in its table, once that rested
+pub sends : {e : Sights} (old new : PlayerView e) (sent : Sent) (place replica : ℕ) (line : Line) → Each (λ t. IsAtAll e old.replicas old.up t.table) old.tables → IsPlaceOf old.tables (table_named sent.act) place → replica_at old.replicas sent.replica ≡ Some replica
+    → ActsAt old place replica sent.act line new → Moves old (ExecutesSent e.workers sent line) new
+sends {e} old new sent place replica line all p at a w i =
+    go (first_of (act_refusals w.up rested replica sent.act)) refused (subst (λ (up : ℕ → Bool). MatchOption (first_of (act_refusals up rested replica sent.act)) (Acts e.workers up rested replica sent.act line led.state × (e.workers ≡ false → ActEvents s.cluster replica sent.act line u.cluster)) (Declines s rested line u led.state)) ups-are led.holds.change)
   where
     same : p.table ≡ a.table
-    same = let e = sym p.there ∙ a.there in cc
+    same = let q = sym p.there ∙ a.there in cc
+
+    name : List ℕ
+    name = table_named sent.act
 
     f : FoundIn old.tables w.tables (table_named sent.act) place a.table
     f = subst (FoundIn old.tables w.tables (table_named sent.act) place) same (found-at old w (table_named sent.act) place i p)
 
+    s : Sight e.workers
+    s = e.seen a.table.table
+
+    u : Sight e.workers
+    u = e.seen a.after
+
+    led : LeadsTo u (RestsThen e.workers (ExecutesAt s replica sent.act line u) f.table.state)
+    led = a.changes f.table.state f.is.shows
+
+    rested : TableState
+    rested = led.holds.at
+
+    before : World
+    before = record w { tables = with_table w.tables (table_named sent.act) (record f.table { state = rested }) }
+
+    rests : RestsAll e.workers w before
+    rests = rests-one e.workers w (table_named sent.act) f.table rested f.found led.holds.rests
+
+    found : table_of before.tables (table_named sent.act) ≡ Some (record f.table { state = rested })
+    found = found-put w.tables (table_named sent.act) f.table (record f.table { state = rested }) f.found refl
+
     here : replica_at w.replicas sent.replica ≡ Some replica
     here = ap (λ n. replica_at n sent.replica) i.replicas ∙ at
 
-    ups-are : ups a.table.cluster ≡ w.up
-    ups-are = (each-get (IsAtAll old.replicas old.up) old.tables place a.table a.there all).1 ∙ sym i.up
+    ups-are : s.ups ≡ w.up
+    ups-are = (each-get (λ (t : NamedTable e). IsAtAll e old.replicas old.up t.table) old.tables place a.table a.there all).ups_are ∙ sym i.up
 
-    refused : first_of (sent_refusals w sent) ≡ first_of (act_refusals w.up f.table.state replica sent.act)
-    refused = refusals-there w sent f.table replica f.found here
+    refused : first_of (sent_refusals before sent) ≡ first_of (act_refusals w.up rested replica sent.act)
+    refused = refusals-there before sent (record f.table { state = rested }) replica found here
 
-    s : Cluster
-    s = a.table.cluster
+    is_in : (v : TableState) (x : Cluster) → (e.workers ≡ false → x ≡ u.cluster) → u.shows v → IsIn new (record w { tables = with_table w.tables (table_named sent.act) (record f.table { state = v; cluster = x }) })
+    is_in v x n h = subst (λ (q : PlayerView e). IsIn q (record w { tables = with_table w.tables (table_named sent.act) (record f.table { state = v; cluster = x }) })) (sym a.rest)
+        (record { replicas = i.replicas; up = i.up; tables = f.set a.after v x n h })
 
-    there : Leads a.after (ExecutesAt (seen_of s) replica sent.act line (seen_of a.after) f.table.state)
-    there = led s a.after (ExecutesAt (seen_of s) replica sent.act line (seen_of a.after)) a.changes f.table.state f.is.shows
-
-    done : MatchOption (first_of (act_refusals w.up f.table.state replica sent.act)) (DoesIn w.up s f.table.state replica sent.act line a.after there.state) (Declines (seen_of s) f.table.state line (seen_of a.after) there.state)
-    done = subst (λ (up : ℕ → Bool). MatchOption (first_of (act_refusals up f.table.state replica sent.act)) (DoesIn up s f.table.state replica sent.act line a.after there.state) (Declines (seen_of s) f.table.state line (seen_of a.after) there.state)) ups-are there.holds
-
-    is_in : (v : TableState) → Shows a.after v → IsIn new (record w { tables = with_table w.tables (table_named sent.act) (record f.table { state = v; cluster = a.after }) })
-    is_in v h = subst (λ (q : PlayerView). IsIn q (record w { tables = with_table w.tables (table_named sent.act) (record f.table { state = v; cluster = a.after }) })) (sym a.rest)
-        (record { replicas = i.replicas; up = i.up; tables = f.set a.after v h })
-
-    go : (o : Option Refusal) (v : TableState) → Shows a.after v → MatchOption o (DoesIn w.up s f.table.state replica sent.act line a.after v) (Declines (seen_of s) f.table.state line (seen_of a.after) v) → ComesTo new (λ u. MatchOption o (PerformsSent false w sent line u) (λ refusal. Refuses w refusal line u))
-    go None v h k = record {
-      world = record w { tables = with_table w.tables (table_named sent.act) (record f.table { state = v; cluster = a.after }) };
-      holds = record { replica = replica; at = here; acts = record { table = f.table; found = f.found; after = v; changes = k.0; cluster = a.after; events = λ q. subst (λ (x : Cluster). ActEvents x replica sent.act line a.after) (sym f.is.cluster) (k.1 q); rest = refl } };
-      is_in = is_in v h;
+    go : (o : Option Refusal) → first_of (sent_refusals before sent) ≡ o → MatchOption o (Acts e.workers w.up rested replica sent.act line led.state × (e.workers ≡ false → ActEvents s.cluster replica sent.act line u.cluster)) (Declines s rested line u led.state)
+        → ComesTo new (RestsFirst e.workers (ExecutesSent e.workers sent line) w)
+    go None q k = record {
+      world = record w { tables = with_table w.tables (table_named sent.act) (record f.table { state = led.state; cluster = u.cluster }) };
+      holds = record {
+        at = before;
+        rests = rests;
+        change = subst (λ (o : Option Refusal). MatchOption o (PerformsSent e.workers before sent line (record w { tables = with_table w.tables (table_named sent.act) (record f.table { state = led.state; cluster = u.cluster }) })) (λ refusal. Refuses before refusal line (record w { tables = with_table w.tables (table_named sent.act) (record f.table { state = led.state; cluster = u.cluster }) }))) (sym q) (record {
+          replica = replica;
+          at = here;
+          acts = record {
+            table = record f.table { state = rested };
+            found = found;
+            after = led.state;
+            changes = k.0;
+            cluster = u.cluster;
+            events = λ n. subst (λ (x : Cluster). ActEvents x replica sent.act line u.cluster) (sym (f.is.cluster n)) (k.1 n);
+            rest = ap (λ (ts : List Table). record w { tables = ts }) (sym (with-again w.tables (table_named sent.act) f.table (record f.table { state = rested }) (record f.table { state = led.state; cluster = u.cluster }) f.found refl));
+          };
+        });
+      };
+      is_in = is_in led.state u.cluster (λ n. refl) led.shows;
     }
-    go (Some refusal) v h k =
-        let same : record f.table { state = v; cluster = a.after } ≡ f.table = ap (λ (x : TableState). record f.table { state = x; cluster = a.after }) k.1 ∙ ap (λ (x : Cluster). record f.table { cluster = x }) (k.2 refl ∙ sym f.is.cluster) in
-        let stays = ap (λ (x : Table). with_table w.tables (table_named sent.act) x) same ∙ with-same w.tables (table_named sent.act) f.table f.found in
-        record {
-          world = w;
-          holds = record { reply = k.0; unchanged = refl };
-          is_in = subst (λ (ts : List Table). IsIn new (record w { tables = ts })) stays (is_in v h);
-        }
+    go (Some refusal) q k = record {
+      world = before;
+      holds = record {
+        at = before;
+        rests = rests;
+        change = subst (λ (o : Option Refusal). MatchOption o (PerformsSent e.workers before sent line before) (λ refusal. Refuses before refusal line before)) (sym q) (record { reply = k.0; unchanged = refl });
+      };
+      is_in = is_in rested f.table.cluster (λ n. f.is.cluster n ∙ sym (k.2 n)) (subst u.shows k.1 led.shows);
+    }
 
 -- a table that isn't there
-pub no-table : (p : PlayerView) (sent : Sent) (line : Line) → HasNone p.tables (table_named sent.act) → line ≡ lines.Refused (UnknownTable (table_named sent.act)) → Moves p (ExecutesSent sent line) p
-no-table p sent line none e w i =
-    subst (λ (o : Option Refusal). ComesTo p (λ v. MatchOption o (PerformsSent false w sent line v) (λ refusal. Refuses w refusal line v)))
+pub no-table : {e : Sights} (p : PlayerView e) (sent : Sent) (line : Line) → HasNone p.tables (table_named sent.act) → line ≡ lines.Refused (UnknownTable (table_named sent.act)) → Moves p (ExecutesSent e.workers sent line) p
+no-table {e} p sent line none q = stays p (ExecutesSent e.workers sent line) (λ w i.
+    subst (λ (o : Option Refusal). MatchOption o (PerformsSent e.workers w sent line w) (λ refusal. Refuses w refusal line w))
     (sym (ap (λ (o : Option Table). first_of (refused_without o (table_named sent.act) ∷ unknown_replica w.replicas sent.replica ∷ refused_act w.up o (replica_at w.replicas sent.replica) sent.act ∷ [])) (none-in p.tables w.tables (table_named sent.act) none i.tables)))
-    (record { world = w; holds = record { reply = e; unchanged = refl }; is_in = i })
+    (record { reply = q; unchanged = refl }))
 
 -- a replica that isn't there
-pub no-replica : (p : PlayerView) (sent : Sent) (place : ℕ) (refusal : Refusal) (line : Line) → IsPlaceOf p.tables (table_named sent.act) place → unknown_replica p.replicas sent.replica ≡ Some refusal → line ≡ lines.Refused refusal → Moves p (ExecutesSent sent line) p
-no-replica p sent place refusal line f unknown e w i =
+pub no-replica : {e : Sights} (p : PlayerView e) (sent : Sent) (place : ℕ) (refusal : Refusal) (line : Line) → IsPlaceOf p.tables (table_named sent.act) place → unknown_replica p.replicas sent.replica ≡ Some refusal → line ≡ lines.Refused refusal → Moves p (ExecutesSent e.workers sent line) p
+no-replica {e} p sent place refusal line f unknown q = stays p (ExecutesSent e.workers sent line) (λ w i.
     let t = found-at p w (table_named sent.act) place i f in
-    subst (λ (o : Option Refusal). ComesTo p (λ v. MatchOption o (PerformsSent false w sent line v) (λ refusal. Refuses w refusal line v)))
+    subst (λ (o : Option Refusal). MatchOption o (PerformsSent e.workers w sent line w) (λ refusal. Refuses w refusal line w))
     (sym (refusals-found w sent t.table t.found
     ∙ ap (λ (o : Option Refusal). first_of (o ∷ refused_act w.up (Some t.table) (replica_at w.replicas sent.replica) sent.act ∷ [])) (ap (λ n. unknown_replica n sent.replica) i.replicas ∙ unknown)))
-    (record { world = w; holds = record { reply = e; unchanged = refl }; is_in = i })
+    (record { reply = q; unchanged = refl }))
 
 -- ---- RUN
 
 -- the refusals of a RUN in a table that is there
-runs-found : (w : World) (name : List ℕ) (turns seed : ℕ) (t : Table) → table_of w.tables name ≡ Some t → first_of (run_refusals w name turns seed) ≡ refused_turns turns seed
-runs-found w name turns seed t e =
-    ap (λ (o : Option Table). first_of (refused_without o name ∷ refused_turns turns seed ∷ [])) e ∙ alone (refused_turns turns seed)
+pub runs-found : (w : World) (name : List ℕ) (turns seed : ℕ) (t : Table) → table_of w.tables name ≡ Some t → first_of (run_refusals w name turns seed) ≡ refused_turns turns seed
+runs-found w name turns seed t q =
+    ap (λ (o : Option Table). first_of (refused_without o name ∷ refused_turns turns seed ∷ [])) q ∙ alone (refused_turns turns seed)
 
 -- background work that is done in its table
-pub runs : (old new : PlayerView) (name : List ℕ) (turns seed place : ℕ) (line : Line) → Each (IsAtAll old.replicas old.up) old.tables → IsPlaceOf old.tables name place → refused_turns turns seed ≡ None → RunsAt old place turns seed line new → Moves old (ExecutesRun name turns seed line) new
-runs old new name turns seed place line all p q a w i =
-    subst (λ (o : Option Refusal). ComesTo new (λ v. MatchOption o (RunsIn false w name turns seed line v) (λ refusal. Refuses w refusal line v))) (sym (runs-found w name turns seed f.table f.found ∙ q))
-    (record {
-      world = record w { tables = with_table w.tables name (record f.table { state = made.state; cluster = a.after }) };
-      holds = record { table = f.table; found = f.found; after = made.state; changes = made.holds; cluster = a.after; events = λ e. subst (λ (x : Cluster). RunsAll x seed turns a.after) (sym f.is.cluster) (a.changes.events e); rest = refl };
-      is_in = subst (λ (x : PlayerView). IsIn x (record w { tables = with_table w.tables name (record f.table { state = made.state; cluster = a.after }) })) (sym a.rest)
-          (record { replicas = i.replicas; up = i.up; tables = f.set a.after made.state made.shows });
-    })
+pub runs : {e : Sights} (old new : PlayerView e) (name : List ℕ) (turns seed place : ℕ) (line : Line) → Each (λ t. IsAtAll e old.replicas old.up t.table) old.tables → IsPlaceOf old.tables name place → refused_turns turns seed ≡ None → RunsAt old place turns seed line new → Moves old (ExecutesRun e.workers name turns seed line) new
+runs {e} old new name turns seed place line all p q a w i = record {
+  world = after;
+  holds = record {
+    at = before;
+    rests = rests-one e.workers w name f.table led.holds.at f.found led.holds.rests;
+    change = subst (λ (o : Option Refusal). MatchOption o (RunsIn e.workers before name turns seed line after) (λ refusal. Refuses before refusal line after)) (sym (runs-found before name turns seed (record f.table { state = led.holds.at }) found ∙ q)) (record {
+      table = record f.table { state = led.holds.at };
+      found = found;
+      after = led.state;
+      changes = subst (λ (up : ℕ → Bool). RunsTurns e.workers up led.holds.at turns line led.state) ups-are led.holds.change;
+      cluster = u.cluster;
+      events = λ n. subst (λ (x : Cluster). RunsAll x seed turns u.cluster) (sym (f.is.cluster n)) (a.changes.events n);
+      rest = ap (λ (ts : List Table). record w { tables = ts }) (sym (with-again w.tables name f.table (record f.table { state = led.holds.at }) (record f.table { state = led.state; cluster = u.cluster }) f.found refl));
+    });
+  };
+  is_in = subst (λ (x : PlayerView e). IsIn x after) (sym a.rest) (record { replicas = i.replicas; up = i.up; tables = f.set a.after led.state u.cluster (λ n. refl) led.shows });
+}
   where
     f : FoundIn old.tables w.tables name place a.table
-    f = subst (FoundIn old.tables w.tables name place) (let e = sym p.there ∙ a.there in cc) (found-at old w name place i p)
+    f = subst (FoundIn old.tables w.tables name place) (let x = sym p.there ∙ a.there in cc) (found-at old w name place i p)
 
-    made : Leads a.after (RunsTurns false w.up f.table.state turns line)
-    made = subst (λ (up : ℕ → Bool). Leads a.after (RunsTurns false up f.table.state turns line)) ((each-get (IsAtAll old.replicas old.up) old.tables place a.table a.there all).1 ∙ sym i.up)
-        (led a.table.cluster a.after (λ t v. RunsTurns false (ups a.table.cluster) t turns line v) a.changes.turns_made f.table.state f.is.shows)
+    s : Sight e.workers
+    s = e.seen a.table.table
+
+    u : Sight e.workers
+    u = e.seen a.after
+
+    led : LeadsTo u (RestsThen e.workers (λ t v. RunsTurns e.workers s.ups t turns line v) f.table.state)
+    led = a.changes.turns_made f.table.state f.is.shows
+
+    before : World
+    before = record w { tables = with_table w.tables name (record f.table { state = led.holds.at }) }
+
+    after : World
+    after = record w { tables = with_table w.tables name (record f.table { state = led.state; cluster = u.cluster }) }
+
+    found : table_of before.tables name ≡ Some (record f.table { state = led.holds.at })
+    found = found-put w.tables name f.table (record f.table { state = led.holds.at }) f.found refl
+
+    ups-are : s.ups ≡ w.up
+    ups-are = (each-get (λ (t : NamedTable e). IsAtAll e old.replicas old.up t.table) old.tables place a.table a.there all).ups_are ∙ sym i.up
 
 -- a table that isn't there
-pub no-run-table : (p : PlayerView) (name : List ℕ) (turns seed : ℕ) → HasNone p.tables name → Moves p (ExecutesRun name turns seed (lines.Refused (UnknownTable name))) p
-no-run-table p name turns seed none w i =
-    subst (λ (o : Option Refusal). ComesTo p (λ v. MatchOption o (RunsIn false w name turns seed (lines.Refused (UnknownTable name)) v) (λ refusal. Refuses w refusal (lines.Refused (UnknownTable name)) v)))
+pub no-run-table : {e : Sights} (p : PlayerView e) (name : List ℕ) (turns seed : ℕ) → HasNone p.tables name → Moves p (ExecutesRun e.workers name turns seed (lines.Refused (UnknownTable name))) p
+no-run-table {e} p name turns seed none = stays p (ExecutesRun e.workers name turns seed (lines.Refused (UnknownTable name))) (λ w i.
+    subst (λ (o : Option Refusal). MatchOption o (RunsIn e.workers w name turns seed (lines.Refused (UnknownTable name)) w) (λ refusal. Refuses w refusal (lines.Refused (UnknownTable name)) w))
     (sym (ap (λ (o : Option Table). first_of (refused_without o name ∷ refused_turns turns seed ∷ [])) (none-in p.tables w.tables name none i.tables)))
-    (record { world = w; holds = record { reply = refl; unchanged = refl }; is_in = i })
+    (record { reply = refl; unchanged = refl }))
 
 -- turns or a seed out of range
-pub no-turns : (p : PlayerView) (name : List ℕ) (turns seed place : ℕ) (why : Refusal) (line : Line) → IsPlaceOf p.tables name place → refused_turns turns seed ≡ Some why → line ≡ lines.Refused why → Moves p (ExecutesRun name turns seed line) p
-no-turns p name turns seed place why line f q e w i =
+pub no-turns : {e : Sights} (p : PlayerView e) (name : List ℕ) (turns seed place : ℕ) (why : Refusal) (line : Line) → IsPlaceOf p.tables name place → refused_turns turns seed ≡ Some why → line ≡ lines.Refused why → Moves p (ExecutesRun e.workers name turns seed line) p
+no-turns {e} p name turns seed place why line f q x = stays p (ExecutesRun e.workers name turns seed line) (λ w i.
     let t = found-at p w name place i f in
-    subst (λ (o : Option Refusal). ComesTo p (λ v. MatchOption o (RunsIn false w name turns seed line v) (λ refusal. Refuses w refusal line v))) (sym (runs-found w name turns seed t.table t.found ∙ q))
-    (record { world = w; holds = record { reply = e; unchanged = refl }; is_in = i })
+    subst (λ (o : Option Refusal). MatchOption o (RunsIn e.workers w name turns seed line w) (λ refusal. Refuses w refusal line w)) (sym (runs-found w name turns seed t.table t.found ∙ q))
+    (record { reply = x; unchanged = refl }))
 
 -- the word of that refusal
 pub turns-word : (turns seed : ℕ) → refused_turns turns seed ≢ None → refused_turns turns seed ≡ Some (WrongType (codes "RUN"))

@@ -59,7 +59,7 @@ use Rattle.rmt_play.specs.ActEvents.{ActEvents}
 use Rattle.rmt_play.specs.Plays.{Refuses, Counts, Creates, with_table, InTable, session_event, InEach, Turns, Performs, ExecutesStatement, Executes, EndsAt, Step, Played, is_refused}
 use Rattle.rmt_play.specs.Shown.{AreShown, HasReplicas, Agrees, HandsBack}
 use Rattle.rmt_play.specs.Runs.{output, PlayedWhole, PlayedInPart, CutShort, PlayedToEnd}
-use Rattle.rmt_play.proofs.ScriptLemmas.{all-still}
+use Rattle.rmt_play.proofs.TableLemmas.{rests-all-none}
 
 -- ---- INSERT
 
@@ -351,7 +351,7 @@ pub rests-alone : (old new : World) → RestsAll false old new → new ≡ old
 rests-alone old new k = k.rest ∙ ap (λ (ts : List Table). record old { tables = ts }) (tables-alone old.tables new.tables k.tables)
 
 step-among : (w : Bool) (script : List ℕ) (from : ℕ) (old : World) (line : Line) (at : ℕ) (new : World) → SteppedStep script from old line at new → Step w script from old line at new
-step-among w script from old line at new k = record { rested = old; rests = all-still w old; found = k.found; reads = k.reads; ends = k.ends; executes = executes-among w old k.found line new k.executes }
+step-among w script from old line at new k = record { rested = old; rests = rests-all-none w old; found = k.found; reads = k.reads; ends = k.ends; executes = executes-among w old k.found line new k.executes }
 
 step-alone : (script : List ℕ) (from : ℕ) (old : World) (line : Line) (at : ℕ) (new : World) → Step false script from old line at new → SteppedStep script from old line at new
 step-alone script from old line at new k = record {
@@ -412,7 +412,7 @@ whole-among w script before after refused clusters k = record {
   written = k.written;
   counted = k.counted;
   world = k.world;
-  rests = all-still w k.world;
+  rests = rests-all-none w k.world;
   shown = k.shown;
   replicas = k.replicas;
   agree = k.agree;

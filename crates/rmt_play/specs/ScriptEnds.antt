@@ -23,7 +23,7 @@ use Rattle.rmt_values.specs.Rows.{Shape}
 use Rattle.rmt_play.specs.declared.round.Round.{Round}
 use Rattle.rmt_play.specs.declared.round.Round.TheVariants as rounds
 use Rattle.rmt_play.specs.Plays.{Creates, PlayedFrom, is_refused}
-use Rattle.rmt_play.specs.PlayerSteps.{PlayerView, is_up, HandsOut, Moves, Steps, StepsTo}
+use Rattle.rmt_play.specs.PlayerSteps.{Sights, clusters_seen, PlayerView, is_up, HandsOut, Reaches, Moves, Steps, StepsTo}
 use Rattle.rmt_play.specs.Runs.{output, PlayedWhole, PlayedInPart, CutShort}
 
 -- the outcome of a statement that was refused
@@ -32,20 +32,20 @@ is_refusal outcomes.Accepted = false
 is_refusal outcomes.Refused = true
 
 -- a statement was played and its reply written
-pub record AdvancesScript (script : List ℕ) (at : ℕ) (old new : PlayerView) (before after : Option (List ℕ)) (end : ℕ) (outcome : Outcome) : Type 0 where
+pub record AdvancesScript {e : Sights} (script : List ℕ) (at : ℕ) (old new : PlayerView e) (before after : Option (List ℕ)) (end : ℕ) (outcome : Outcome) : Type 0 where
   pub line : Line
-  pub step : Moves old (Steps script at line end) new
+  pub step : Moves old (Steps e.workers script at line end) new
   pub written : Appends before after (printed line)
   pub counted : is_refusal outcome ≡ is_refused line
   pub further : at < end
   pub within : end ≤ length script
 
 -- a statement was played, and a prefix of its reply was written
-pub record CutsReply (script : List ℕ) (at : ℕ) (old : PlayerView) (before after : Option (List ℕ)) : Type 0 where
+pub record CutsReply {e : Sights} (script : List ℕ) (at : ℕ) (old : PlayerView e) (before after : Option (List ℕ)) : Type 0 where
   pub line : Line
   pub end : ℕ
-  pub new : PlayerView
-  pub step : Moves old (Steps script at line end) new
+  pub new : PlayerView e
+  pub step : Moves old (Steps e.workers script at line end) new
   pub written : AppendsPrefix before after (printed line)
 
 -- how far writing the reply of a statement comes, after which the script goes on at a place
@@ -58,15 +58,15 @@ IsReply line end before after progress.WriteFault = AppendsPrefix before after (
 IsReply line end before after progress.Memory = Keeps before after
 
 -- the statement at a place is a CREATE that isn't played yet: whoever makes its table has played it
-pub record IsToCreate (script : List ℕ) (at : ℕ) (old new : PlayerView) (before after : Option (List ℕ)) (table : List ℕ) (schema : Shape) (end : ℕ) : Type 0 where
-  pub creates : HandsOut old (StepsTo script at end) table schema
+pub record IsToCreate {e : Sights} (script : List ℕ) (at : ℕ) (old new : PlayerView e) (before after : Option (List ℕ)) (table : List ℕ) (schema : Shape) (end : ℕ) : Type 0 where
+  pub creates : HandsOut old (StepsTo e.workers script at end) table schema
   pub unchanged : new ≡ old
   pub unwritten : after ≡ before
   pub further : at < end
   pub within : end ≤ length script
 
 -- how far playing comes with the statement at a place
-abbrev pub IsProgress : List ℕ → ℕ → PlayerView → PlayerView → Option (List ℕ) → Option (List ℕ) → Progress → Type 0
+abbrev pub IsProgress : {e : Sights} → List ℕ → ℕ → PlayerView e → PlayerView e → Option (List ℕ) → Option (List ℕ) → Progress → Type 0
 IsProgress script at old new before after progress.AtEnd = ReadsAt script at parsed.End × Keeps before after × (new ≡ old)
 IsProgress script at old new before after (progress.On end outcome) =
     AdvancesScript script at old new before after end outcome
@@ -78,9 +78,9 @@ IsProgress script at old new before after progress.Memory = Keeps before after
 -- ---- rounds
 
 -- the statements from a place up to another were played, their replies written and the refused ones counted
-pub record PlaysOn (script : List ℕ) (from count : ℕ) (old : PlayerView) (before : Option (List ℕ)) (at refused : ℕ) (new : PlayerView) (after : Option (List ℕ)) : Type 0 where
+pub record PlaysOn {e : Sights} (script : List ℕ) (from count : ℕ) (old : PlayerView e) (before : Option (List ℕ)) (at refused : ℕ) (new : PlayerView e) (after : Option (List ℕ)) : Type 0 where
   pub lines : List Line
-  pub played : Moves old (λ w v. PlayedFrom false script from w lines at v) new
+  pub played : Reaches old (λ w v. PlayedFrom e.workers script from w lines at v) new
   pub written : Appends before after (output lines)
   pub counted : refused ≡ count + count_by is_refused lines
   pub further : from ≤ at
@@ -88,7 +88,7 @@ pub record PlaysOn (script : List ℕ) (from count : ℕ) (old : PlayerView) (be
   pub within : at ≤ length script
 
 -- what comes behind the statements of a round that were played up to a place, with so many refused in all
-abbrev pub EndsRound : List ℕ → PlayerView → Option (List ℕ) → Round → ℕ → ℕ → PlayerView → Option (List ℕ) → Type 0
+abbrev pub EndsRound : {e : Sights} → List ℕ → PlayerView e → Option (List ℕ) → Round → ℕ → ℕ → PlayerView e → Option (List ℕ) → Type 0
 EndsRound script new after (rounds.AtEnd refused) at count old before =
     (refused ≡ count) × ReadsAt script at parsed.End × Keeps before after × (new ≡ old)
 EndsRound script new after (rounds.Creates table schema end refused) at count old before =
@@ -97,22 +97,22 @@ EndsRound script new after rounds.WriteFault at count old before = CutsReply scr
 EndsRound script new after rounds.Memory at count old before = Keeps before after
 
 -- a round of statements from a place on, where so many were refused before
-pub record IsRound (script : List ℕ) (from count : ℕ) (old new : PlayerView) (before after : Option (List ℕ)) (round : Round) : Type 0 where
+pub record IsRound {e : Sights} (script : List ℕ) (from count : ℕ) (old new : PlayerView e) (before after : Option (List ℕ)) (round : Round) : Type 0 where
   pub at : ℕ
   pub refused : ℕ
-  pub player : PlayerView
+  pub player : PlayerView e
   pub now : Option (List ℕ)
   pub plays : PlaysOn script from count old before at refused player now
   pub ends : EndsRound script new after round at refused player now
 
 -- a table is made, and its reply written so far
-pub record MakesTable (table : List ℕ) (schema : Shape) (end : ℕ) (old new : PlayerView) (before after : Option (List ℕ)) (p : Progress) : Type 0 where
+pub record MakesTable {e : Sights} (table : List ℕ) (schema : Shape) (end : ℕ) (old new : PlayerView e) (before after : Option (List ℕ)) (p : Progress) : Type 0 where
   pub line : Line
   pub made : Moves old (λ w v. Creates w table schema line v) new
   pub written : IsReply line end before after p
 
 -- how far the making of a table comes
-abbrev pub IsMade : List ℕ → Shape → ℕ → PlayerView → PlayerView → Option (List ℕ) → Option (List ℕ) → Progress → Type 0
+abbrev pub IsMade : {e : Sights} → List ℕ → Shape → ℕ → PlayerView e → PlayerView e → Option (List ℕ) → Option (List ℕ) → Progress → Type 0
 IsMade table schema end old new before after progress.Memory = Keeps before after
 IsMade table schema end old new before after p = MakesTable table schema end old new before after p
 
@@ -125,13 +125,13 @@ IsScriptEnd script before after ends.WriteFault = CutShort false before after sc
 IsScriptEnd script before after ends.Memory = PlayedInPart false before after script
 
 -- these clusters are handed back by a player
-pub record AreOfPlayer (p : PlayerView) (clusters : List Cluster) : Type 0 where
-  pub all : clusters ≡ map (λ t. t.cluster) p.tables
+pub record AreOfPlayer (p : PlayerView clusters_seen) (clusters : List Cluster) : Type 0 where
+  pub all : clusters ≡ map (λ t. t.table) p.tables
   pub replicas : Each (HasReplicas p.replicas (is_up p.replicas p.up)) clusters
   pub agree : Each Agrees clusters
 
 -- the end of a script that was played to its end by a player
-abbrev pub IsEndOf : PlayerView → ℕ → ScriptEnd → Type 0
+abbrev pub IsEndOf : PlayerView clusters_seen → ℕ → ScriptEnd → Type 0
 IsEndOf p count (ends.Whole refused clusters) = (refused ≡ count) × AreOfPlayer p clusters
 IsEndOf p count ends.WriteFault = ⊥
 IsEndOf p count ends.Memory = Unit {0}

@@ -3,11 +3,12 @@
 
 mod act;
 mod answer;
+mod clusters;
 mod end;
+mod engine;
 mod forms;
 mod insert;
 mod mutation;
-mod named_table;
 mod names;
 mod outcome;
 mod partition;

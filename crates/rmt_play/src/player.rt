@@ -22,14 +22,16 @@ ghost use Rattle.rmt_play.specs.PlayerSteps.{
   CreatesNone,
   RunsAt,
   IsCount,
-  IsFound,
+  IsPlaceAmong,
   IsCreateRefusal,
   IsEmptyPlayer,
-  IsNewTable,
   IsReplied,
+  IsSound,
+  IsSoundIn,
+  clusters_in,
+  view_of,
   Moves,
   TurnsAll,
-  TurnsEach,
   is_up as up_test,
   Executes,
   ExecutesCreate,
@@ -40,21 +42,19 @@ ghost use Rattle.rmt_play.specs.PlayerSteps.{
   ExecutesSent,
 };
 
-use crate::act::act_at;
 use crate::answer::Answer;
+use crate::clusters::Clusters;
+use crate::engine::Engine;
 use crate::forms::table_of;
-use crate::named_table::NamedTable;
 use crate::replicas::replica_named;
 use crate::schema::new_schema;
-use crate::turns::{in_range, run_in};
+use crate::turns::in_range;
 use rmt_cluster::Cluster;
 use rmt_list::List;
 use rmt_reply::{Line, Refusal};
 use rmt_statements::{Act, Sent, Statement};
 use rmt_values::{Column, Limit, Name, ReplicaId, Schema, SchemaError};
 use std::alloc::{AllocError, Global};
-use std::marker::Model;
-use std::sync::Arc;
 
 /// The most tables of a script.
 const MOST_TABLES: usize = 4;
@@ -62,72 +62,26 @@ const MOST_TABLES: usize = 4;
 /// The most replicas.
 const MOST_REPLICAS: u8 = 8;
 
-/// The replicas, which of them are up, and the clusters of the tables.
+/// The replicas, which of them are up, and the tables with their names.
 #[derive(Drop)]
-pub(crate) struct Player {
+pub(crate) struct Player<E: Engine> {
     replicas: u8,
     up: [bool; 8],
-    tables: Vec<NamedTable>,
-}
-
-impl Model for Player {
-    ghost use Rattle.rmt_play.specs.PlayerSteps.{PlayerView, IsSoundPlayer};
-    ghost use Rattle.std.specs.Coded.{codes};
-    ghost use Rattle.rmt_values.specs.contracts.checked.Checked as filter;
-    ghost use Rattle.rmt_tree.specs.Trees.{tree_code};
-
-    ghost Value = { PlayerView };
-
-    ghost coded = { Prim.hlevel (codes, filter.the_row.coded, tree_code) };
-
-    ghost view = { λ p. record { replicas = p.replicas; up = p.up; tables = p.tables.items } };
-
-    ghost invariant = { λ p. IsSoundPlayer (record { replicas = p.replicas; up = p.up; tables = p.tables.items }) };
+    names: Vec<Name>,
+    engine: E,
 }
 
 /// The place of the table of this name.
-fn place_of(tables: &[NamedTable], name: &Name) -> Option<usize>
-    ensures { IsFound tables.now name.now result }
+fn place_of(names: &[Name], name: &Name) -> Option<usize>
+    ensures { IsPlaceAmong names.now name.now result }
 {
-    'tables: for i in 0..tables.len() {
-        let named = &tables[i];
-        if named.name.is(name.as_bytes()) {
+    'names: for i in 0..names.len() {
+        let named = &names[i];
+        if named.is(name.as_bytes()) {
             return Some(i);
         }
     }
     None
-}
-
-/// The cluster of a new table at so many replicas, of which these are up.
-fn new_cluster(
-    alloc: Global,
-    schema: Schema,
-    replicas: u8,
-    up: &[bool],
-) -> Result<Cluster, AllocError>
-    requires some { 0 < replicas }
-    requires few { replicas ≤ 8 }
-    requires eight { length up.now ≡ 8 }
-    ensures { IfOk result (IsNewTable schema replicas up.now) }
-{
-    let schema = Arc::new(alloc, schema)?;
-    Cluster::new(alloc, schema, up.split_at(usize::from(replicas)).0)
-}
-
-/// Ends a replica's session in each table, or begins another one. At an error no memory was left, and some tables are done.
-fn turn_each(
-    alloc: Global,
-    tables: &mut [NamedTable],
-    replica: ReplicaId,
-    is_up: bool,
-) -> Result<(), AllocError>
-    requires { Each (λ t. IsNumber replica (length t.cluster.replicas)) tables.old }
-    ensures { OnOk result (TurnsEach replica is_up tables.old tables.new) }
-{
-    'tables: for i in 0..tables.len() {
-        tables[i].turn(alloc, replica, is_up)?;
-    }
-    Ok(())
 }
 
 /// What a statement that was played comes to.
@@ -140,23 +94,60 @@ fn replied(line: Result<Line, AllocError>) -> Result<Answer, AllocError>
     }
 }
 
-impl Player {
+impl Player<Clusters> {
     /// One with two replicas and no table.
-    pub(crate) fn new(alloc: Global) -> Player
-        ensures { IsEmptyPlayer result }
+    pub(crate) fn new(alloc: Global) -> Player<Clusters>
+        ensures empty { IsEmptyPlayer (clusters_in result) }
+        ensures sound { IsSoundIn result }
     {
         Player {
             replicas: 2,
             up: [true; 8],
-            tables: Vec::new(alloc),
+            names: Vec::new(alloc),
+            engine: Clusters::new(alloc),
         }
     }
 
+    /// Adds a table without rows. At an error no memory was left, and the table isn't there.
+    pub(crate) fn add(
+        &mut self,
+        alloc: Global,
+        name: Name,
+        schema: Schema,
+    ) -> Result<Line, AllocError>
+        requires sound { IsSoundIn self.old }
+        ensures sound { IsSoundIn self.new }
+        ensures adds { IfOk result (λ line. Moves (clusters_in self.old)
+            (λ w v. Creates w name schema line v) (clusters_in self.new)) }
+    {
+        self.names.reserve(1)?;
+        self.engine.add(alloc, schema, self.replicas, &self.up)?;
+        self.names.push(name)?;
+        Ok(Line::Okay)
+    }
+
+    /// The clusters of the tables, in their order. At an error no memory was left.
+    pub(crate) fn into_clusters(self, alloc: Global) -> Result<List<Cluster>, AllocError>
+        requires sound { IsSoundIn self }
+        ensures clusters { IfOk result (λ clusters.
+            clusters ≡ map (λ t. t.table) (clusters_in self).tables) }
+        ensures replicas { IfOk result
+            (Each (HasReplicas self.replicas (up_test self.replicas self.up))) }
+        ensures agree { IfOk result (Each Agrees) }
+    {
+        self.engine.into_list(alloc)
+    }
+}
+
+impl<E: Engine> Player<E> {
     /// Sets how many replicas there are, all of them up. There is no table yet.
     fn count(&mut self, count: u8) -> Line
-        requires empty { is_empty self.old.tables ≡ true }
+        requires sound { IsSound E.sights E.tables self.old }
+        requires empty { is_empty (view_of E.sights E.tables self.old).tables ≡ true }
         requires range { IsCount count }
-        ensures { Moves self.old (λ w v. Counts w count result v) self.new }
+        ensures sound { IsSound E.sights E.tables self.new }
+        ensures moves { Moves (view_of E.sights E.tables self.old) (λ w v. Counts w count result v)
+            (view_of E.sights E.tables self.new) }
     {
         self.replicas = count;
         self.up = [true; 8];
@@ -165,9 +156,10 @@ impl Player {
 
     /// The refusal of another table, where there are as many as there may be.
     fn full(&self) -> Option<Refusal>
-        ensures { result ≡ too_many_tables (length self.now.tables) }
+        requires sound { IsSound E.sights E.tables self.now }
+        ensures { result ≡ too_many_tables (length (view_of E.sights E.tables self.now).tables) }
     {
-        let value = self.tables.len();
+        let value = self.names.len();
         if value < MOST_TABLES {
             return None;
         }
@@ -179,8 +171,10 @@ impl Player {
 
     /// Why no table is made of a schema that is refused.
     fn refusal_of(&self, error: SchemaError) -> Refusal
-        requires { IsCreateRefusal error }
-        ensures { first_of (refused_schema (Some error) ∷ too_many_tables (length self.now.tables)
+        requires sound { IsSound E.sights E.tables self.now }
+        requires refused { IsCreateRefusal error }
+        ensures { first_of (refused_schema (Some error)
+            ∷ too_many_tables (length (view_of E.sights E.tables self.now).tables)
             ∷ refused_columns (Some error) ∷ []) ≡ Some result }
     {
         match error {
@@ -195,28 +189,17 @@ impl Player {
         }
     }
 
-    /// Adds a table without rows.
-    pub(crate) fn add(
-        &mut self,
-        alloc: Global,
-        name: Name,
-        schema: Schema,
-    ) -> Result<Line, AllocError>
-        ensures { IfOk result (λ line. Moves self.old (λ w v. Creates w name schema line v) self.new) }
-    {
-        let cluster = new_cluster(alloc, schema, self.replicas, &self.up)?;
-        self.tables.push(NamedTable { name, cluster })?;
-        Ok(Line::Okay)
-    }
-
     /// Whether a table is to be made of a schema, or why not.
     fn create(&self, table: Name, made: Result<Schema, SchemaError>) -> Answer
-        requires { IfErr made IsCreateRefusal }
+        requires sound { IsSound E.sights E.tables self.now }
+        requires refused { IfErr made IsCreateRefusal }
         ensures { MatchResult made
-            (λ schema. Answers self.now (ExecutesCreate table None schema) result self.now)
-            (λ e. Answers self.now (CreatesNone table e) result self.now) }
+            (λ schema. Answers (view_of E.sights E.tables self.now)
+            (ExecutesCreate table None schema) result (view_of E.sights E.tables self.now))
+            (λ e. Answers (view_of E.sights E.tables self.now)
+            (CreatesNone table e) result (view_of E.sights E.tables self.now)) }
     {
-        if place_of(&self.tables, &table).is_some() {
+        if place_of(&self.names, &table).is_some() {
             return Answer::Reply(Line::Refused(Refusal::TableExists(table)));
         }
         match made {
@@ -230,6 +213,7 @@ impl Player {
 
     /// The number of the replica of this name, the first one where none is named, or the refusal of one that isn't there.
     fn replica(&self, name: &Option<Name>) -> Result<Result<ReplicaId, Refusal>, AllocError>
+        requires sound { IsSound E.sights E.tables self.now }
         ensures at { IfOk result (λ found.
             IfOk found (λ r. replica_at self.now.replicas name.now ≡ Some r)) }
         ensures there { IfOk result (λ found. IfOk found (λ r. IsNumber r self.now.replicas)) }
@@ -248,7 +232,8 @@ impl Player {
 
     /// Whether a replica is up.
     fn is_up(&self, replica: ReplicaId) -> bool
-        requires { IsNumber replica self.now.replicas }
+        requires sound { IsSound E.sights E.tables self.now }
+        requires known { IsNumber replica self.now.replicas }
         ensures { result ≡ up_test self.now.replicas self.now.up replica }
     {
         self.up[usize::from(replica) - 1]
@@ -256,25 +241,44 @@ impl Player {
 
     /// Ends a replica's session in each table, or begins another one. At an error no memory was left, and the tables are gone.
     fn turn(&mut self, alloc: Global, replica: ReplicaId, is_up: bool) -> Result<(), AllocError>
+        requires sound { IsSound E.sights E.tables self.old }
         requires replica { IsNumber replica self.old.replicas }
-        ensures { OnOk result (TurnsAll self.old replica is_up self.new) }
+        ensures sound { IsSound E.sights E.tables self.new }
+        ensures turns { OnOk result (TurnsAll (view_of E.sights E.tables self.old) replica is_up
+            (view_of E.sights E.tables self.new)) }
     {
-        match turn_each(alloc, &mut self.tables, replica, is_up) {
+        match self.engine.turn(alloc, replica, is_up) {
             Ok(()) => {
                 self.up[usize::from(replica) - 1] = is_up;
                 Ok(())
             }
             Err(error) => {
                 // The replica may be up in some tables and down in others.
-                self.tables.clear();
+                self.forget();
                 Err(error)
             }
         }
     }
 
+    /// Forgets the tables, of which one may have stopped halfway.
+    fn forget(&mut self)
+        requires some { 0 < self.old.replicas }
+        requires few { self.old.replicas ≤ 8 }
+        requires eight { length self.old.up ≡ 8 }
+        ensures empty { view_of E.sights E.tables self.new
+            ≡ record (view_of E.sights E.tables self.old) { tables = [] } }
+        ensures sound { IsSound E.sights E.tables self.new }
+    {
+        self.names.clear();
+        self.engine.clear();
+    }
+
     /// Plays a KILL.
     fn kill(&mut self, alloc: Global, name: Name) -> Result<Line, AllocError>
-        ensures { IfOk result (λ line. Moves self.old (ExecutesKill name line) self.new) }
+        requires sound { IsSound E.sights E.tables self.old }
+        ensures sound { IsSound E.sights E.tables self.new }
+        ensures moves { IfOk result (λ line. Moves (view_of E.sights E.tables self.old)
+            (ExecutesKill E.sights.workers name line) (view_of E.sights E.tables self.new)) }
     {
         let Some(replica) = replica_named(&name, self.replicas) else {
             return Ok(Line::Refused(Refusal::UnknownReplica(name)));
@@ -288,7 +292,10 @@ impl Player {
 
     /// Plays a RESTART.
     fn restart(&mut self, alloc: Global, name: Name) -> Result<Line, AllocError>
-        ensures { IfOk result (λ line. Moves self.old (ExecutesRestart name line) self.new) }
+        requires sound { IsSound E.sights E.tables self.old }
+        ensures sound { IsSound E.sights E.tables self.new }
+        ensures moves { IfOk result (λ line. Moves (view_of E.sights E.tables self.old)
+            (ExecutesRestart E.sights.workers name line) (view_of E.sights E.tables self.new)) }
     {
         let Some(replica) = replica_named(&name, self.replicas) else {
             return Ok(Line::Refused(Refusal::UnknownReplica(name)));
@@ -308,17 +315,21 @@ impl Player {
         replica: ReplicaId,
         act: &Act,
     ) -> Result<Line, AllocError>
-        requires place { place < length self.old.tables }
+        requires sound { IsSound E.sights E.tables self.old }
+        requires place { place < length (view_of E.sights E.tables self.old).tables }
         requires replica { IsNumber replica self.old.replicas }
         requires small { HasSmallCommand act.now }
-        ensures { IfOk result (λ line. ActsAt self.old place replica act.now line self.new) }
+        ensures sound { IsSound E.sights E.tables self.new }
+        ensures acts { IfOk result (λ line.
+            ActsAt (view_of E.sights E.tables self.old) place replica act.now line
+            (view_of E.sights E.tables self.new)) }
     {
         let is_up = self.is_up(replica);
-        match act_at(alloc, &mut self.tables[place].cluster, replica, is_up, act) {
+        match self.engine.act(alloc, place, replica, is_up, act) {
             Ok(line) => Ok(line),
             Err(error) => {
                 // A table in which an act stopped halfway isn't idle.
-                self.tables.clear();
+                self.forget();
                 Err(error)
             }
         }
@@ -332,15 +343,19 @@ impl Player {
         turns: u32,
         seed: u32,
     ) -> Result<Line, AllocError>
-        requires place { place < length self.old.tables }
+        requires sound { IsSound E.sights E.tables self.old }
+        requires place { place < length (view_of E.sights E.tables self.old).tables }
         requires seed { seed < 2 ^ 31 }
-        ensures { IfOk result (λ line. RunsAt self.old place turns seed line self.new) }
+        ensures sound { IsSound E.sights E.tables self.new }
+        ensures runs { IfOk result (λ line.
+            RunsAt (view_of E.sights E.tables self.old) place turns seed line
+            (view_of E.sights E.tables self.new)) }
     {
-        match run_in(alloc, &mut self.tables[place].cluster, turns, seed) {
+        match self.engine.work(alloc, place, turns, seed) {
             Ok(line) => Ok(line),
             Err(error) => {
                 // A table in which a turn stopped halfway isn't idle.
-                self.tables.clear();
+                self.forget();
                 Err(error)
             }
         }
@@ -354,9 +369,13 @@ impl Player {
         turns: u128,
         seed: u128,
     ) -> Result<Line, AllocError>
-        ensures { IfOk result (λ line. Moves self.old (ExecutesRun table turns seed line) self.new) }
+        requires sound { IsSound E.sights E.tables self.old }
+        ensures sound { IsSound E.sights E.tables self.new }
+        ensures moves { IfOk result (λ line. Moves (view_of E.sights E.tables self.old)
+            (ExecutesRun E.sights.workers table turns seed line)
+            (view_of E.sights E.tables self.new)) }
     {
-        let Some(place) = place_of(&self.tables, &table) else {
+        let Some(place) = place_of(&self.names, &table) else {
             return Ok(Line::Refused(Refusal::UnknownTable(table)));
         };
         match in_range(turns, seed) {
@@ -373,11 +392,14 @@ impl Player {
 
     /// Plays what is sent to a replica.
     fn send(&mut self, alloc: Global, sent: &Sent) -> Result<Line, AllocError>
+        requires sound { IsSound E.sights E.tables self.old }
         requires small { HasSmallCommand sent.now.act }
-        ensures { IfOk result (λ line. Moves self.old (ExecutesSent sent.now line) self.new) }
+        ensures sound { IsSound E.sights E.tables self.new }
+        ensures moves { IfOk result (λ line. Moves (view_of E.sights E.tables self.old)
+            (ExecutesSent E.sights.workers sent.now line) (view_of E.sights E.tables self.new)) }
     {
         let table = table_of(&sent.act);
-        let Some(place) = place_of(&self.tables, table) else {
+        let Some(place) = place_of(&self.names, table) else {
             return Ok(Line::Refused(Refusal::UnknownTable(table.copy()?)));
         };
         match self.replica(&sent.replica)? {
@@ -391,11 +413,13 @@ impl Player {
 
     /// Whether the statement is of a form that is played.
     fn is_played(&self, statement: &Statement) -> bool
-        ensures { result ≡ statement_test (length self.now.tables) statement.now }
+        requires sound { IsSound E.sights E.tables self.now }
+        ensures { result
+            ≡ statement_test (length (view_of E.sights E.tables self.now).tables) statement.now }
     {
         match statement {
             Statement::Replicas { count } => {
-                1 <= *count && *count <= MOST_REPLICAS && self.tables.is_empty()
+                1 <= *count && *count <= MOST_REPLICAS && self.names.is_empty()
             }
             Statement::Create { .. }
             | Statement::Kill { .. }
@@ -408,9 +432,12 @@ impl Player {
 
     /// Plays a statement of a form that is played, but for a CREATE that meets no refusal.
     fn perform(&mut self, alloc: Global, statement: Statement) -> Result<Answer, AllocError>
-        requires played { statement_test (length self.old.tables) statement ≡ true }
+        requires sound { IsSound E.sights E.tables self.old }
+        requires played { statement_test (length (view_of E.sights E.tables self.old).tables) statement ≡ true }
         requires limits { KeepsLimits statement }
-        ensures { IfOk result (λ a. Answers self.old (ExecutesPlayed statement) a self.new) }
+        ensures sound { IsSound E.sights E.tables self.new }
+        ensures answers { IfOk result (λ a. Answers (view_of E.sights E.tables self.old)
+            (ExecutesPlayed E.sights.workers statement) a (view_of E.sights E.tables self.new)) }
     {
         match statement {
             Statement::Replicas { count } => Ok(Answer::Reply(self.count(count))),
@@ -440,8 +467,11 @@ impl Player {
         statement: Statement,
         start: usize,
     ) -> Result<Answer, AllocError>
+        requires sound { IsSound E.sights E.tables self.old }
         requires limits { KeepsLimits statement }
-        ensures { IfOk result (λ a. Answers self.old (Executes statement start) a self.new) }
+        ensures sound { IsSound E.sights E.tables self.new }
+        ensures answers { IfOk result (λ a. Answers (view_of E.sights E.tables self.old)
+            (Executes E.sights.workers statement start) a (view_of E.sights E.tables self.new)) }
     {
         if self.is_played(&statement) {
             self.perform(alloc, statement)
@@ -450,28 +480,4 @@ impl Player {
             Ok(Answer::Reply(Line::Refused(refusal)))
         }
     }
-
-    /// The clusters of the tables, in their order. At an error no memory was left.
-    pub(crate) fn into_clusters(self, alloc: Global) -> Result<List<Cluster>, AllocError>
-        ensures clusters { IfOk result (λ clusters. clusters ≡ map (λ t. t.cluster) self.tables) }
-        ensures replicas { IfOk result (Each (HasReplicas self.replicas (up_test self.replicas self.up))) }
-        ensures agree { IfOk result (Each Agrees) }
-    {
-        let clusters = clusters_of(alloc, self.tables)?;
-        Ok(clusters)
-    }
-}
-
-/// The clusters of these tables, in their order.
-fn clusters_of(alloc: Global, tables: Vec<NamedTable>) -> Result<List<Cluster>, AllocError>
-    ensures clusters { IfOk result (λ clusters. clusters ≡ map (λ t. t.cluster) tables.items) }
-    ensures agree { IfOk result (Each Agrees) }
-{
-    let mut clusters = Vec::with_capacity(alloc, tables.len())?;
-    'tables: for table in tables {
-        // What always holds of a cluster is known here.
-        table.cluster.drained_replicas_agree();
-        clusters.push(table.cluster)?;
-    }
-    Ok(List::new(clusters))
 }

@@ -15,7 +15,7 @@ ghost use Rattle.std.specs.Prelude.{
 ghost use Rattle.rmt_sql.specs.declared.parsed.Parsed.TheVariants as parsed;
 ghost use Rattle.rmt_sql.specs.Script.{ReadsAt};
 ghost use Rattle.rmt_play.specs.Plays.{is_refused};
-ghost use Rattle.rmt_play.specs.PlayerSteps.{Answers, StepsTo};
+ghost use Rattle.rmt_play.specs.PlayerSteps.{Answers, StepsTo, IsSound, IsSoundIn, clusters_in, view_of};
 ghost use Rattle.rmt_reply.specs.Printed.{printed};
 ghost use Rattle.rmt_play.specs.declared.progress.Progress.TheVariants as progress;
 ghost use Rattle.rmt_play.specs.declared.round.Round.TheVariants as rounds;
@@ -32,6 +32,8 @@ ghost use Rattle.rmt_play.specs.ScriptEnds.{
 };
 
 use crate::answer::Answer;
+use crate::clusters::Clusters;
+use crate::engine::Engine;
 use crate::outcome::Outcome;
 use crate::player::Player;
 use crate::progress::Progress;
@@ -72,16 +74,20 @@ fn counted(count: u64, outcome: Outcome) -> u64
 }
 
 /// Plays the next statement, but for a CREATE that meets no refusal, and gives the place after it; none at the end of the script.
-fn next_answer(
+fn next_answer<E: Engine>(
     alloc: Global,
-    player: &mut Player,
+    player: &mut Player<E>,
     script: &[u8],
     at: usize,
 ) -> Result<Option<(Answer, usize)>, AllocError>
-    requires { at ≤ length script.now }
+    requires within { at ≤ length script.now }
+    requires sound { IsSound E.sights E.tables player.old }
     ensures step { IfOk result (λ next. MatchOption next
         (ReadsAt script.now at parsed.End × (player.new ≡ player.old))
-        (λ x. Answers player.old (StepsTo script.now at x.1) x.0 player.new)) }
+        (λ x. Answers (view_of E.sights E.tables player.old)
+        (StepsTo E.sights.workers script.now at x.1) x.0
+        (view_of E.sights E.tables player.new))) }
+    ensures sound { IsSound E.sights E.tables player.new }
     ensures further { IfOk result (λ next. IfSome next (λ x.
         (at < x.1) × (x.1 ≤ length script.now))) }
 {
@@ -123,15 +129,18 @@ fn write_reply<K: Sink>(alloc: Global, line: &Line, end: usize, sink: &mut K) ->
 }
 
 /// Plays the next statement, but for a CREATE that meets no refusal, and writes its reply.
-fn play_next<K: Sink>(
+fn play_next<E: Engine, K: Sink>(
     alloc: Global,
-    player: &mut Player,
+    player: &mut Player<E>,
     script: &[u8],
     at: usize,
     sink: &mut K,
 ) -> Progress
-    requires { at ≤ length script.now }
-    ensures progress { IsProgress script.now at player.old player.new
+    requires sound { IsSound E.sights E.tables player.old }
+    requires within { at ≤ length script.now }
+    ensures sound { IsSound E.sights E.tables player.new }
+    ensures progress { IsProgress script.now at (view_of E.sights E.tables player.old)
+        (view_of E.sights E.tables player.new)
         (K.written sink.old) (K.written sink.new) result }
     ensures cause { result ≡ progress.WriteFault → Rose (K.faults sink.old) (K.faults sink.new) }
     ensures quiet { result ≢ progress.WriteFault → K.faults sink.new ≡ K.faults sink.old }
@@ -149,17 +158,20 @@ fn play_next<K: Sink>(
 
 /// Plays statements from a place on, each reply written before the next one begins, up to the first CREATE that meets no refusal.
 /// So many were refused before.
-fn play_round<K: Sink>(
+fn play_round<E: Engine, K: Sink>(
     alloc: Global,
-    player: &mut Player,
+    player: &mut Player<E>,
     script: &[u8],
     from: usize,
     count: u64,
     sink: &mut K,
 ) -> Round
+    requires sound { IsSound E.sights E.tables player.old }
     requires within { from ≤ length script.now }
     requires few { count ≤ from }
-    ensures round { IsRound script.now from count player.old player.new
+    ensures sound { IsSound E.sights E.tables player.new }
+    ensures round { IsRound script.now from count (view_of E.sights E.tables player.old)
+        (view_of E.sights E.tables player.new)
         (K.written sink.old) (K.written sink.new) result }
     ensures cause { result ≡ rounds.WriteFault → Rose (K.faults sink.old) (K.faults sink.new) }
     ensures quiet { result ≢ rounds.WriteFault → K.faults sink.new ≡ K.faults sink.old }
@@ -191,13 +203,15 @@ fn play_round<K: Sink>(
 /// Makes the table of a CREATE, and writes the reply, after which the script goes on at a place.
 fn make_table<K: Sink>(
     alloc: Global,
-    player: &mut Player,
+    player: &mut Player<Clusters>,
     table: Name,
     schema: Schema,
     end: usize,
     sink: &mut K,
 ) -> Progress
-    ensures made { IsMade table schema end player.old player.new
+    requires sound { IsSoundIn player.old }
+    ensures sound { IsSoundIn player.new }
+    ensures made { IsMade table schema end (clusters_in player.old) (clusters_in player.new)
         (K.written sink.old) (K.written sink.new) result }
     ensures cause { result ≡ progress.WriteFault → Rose (K.faults sink.old) (K.faults sink.new) }
     ensures quiet { result ≢ progress.WriteFault → K.faults sink.new ≡ K.faults sink.old }
@@ -210,8 +224,9 @@ fn make_table<K: Sink>(
 }
 
 /// The end of a script that was played to its end, with so many statements refused.
-fn end_of(alloc: Global, player: Player, refused: u64) -> ScriptEnd
-    ensures { IsEndOf player refused result }
+fn end_of(alloc: Global, player: Player<Clusters>, refused: u64) -> ScriptEnd
+    requires sound { IsSoundIn player }
+    ensures { IsEndOf (clusters_in player) refused result }
 {
     match player.into_clusters(alloc) {
         Ok(clusters) => ScriptEnd::Whole { refused, clusters },

@@ -1,3 +1,4 @@
+use Rattle.rmt_play.specs.PlayerSteps.{clusters_in}
 use Rattle.std.proofs.Common.{◌∙◌, arith, refl}
 use Rattle.rmt_play.proofs.ScriptLemmas.{so_far_start, so_far_made, round-ends, round-short, round-in-part, made-short, made-in-part}
 use Rattle.rmt_play.proofs.script.play.Goals as goal
@@ -7,25 +8,27 @@ rounds-init g c = record {
   within = omega arith;
   few = omega arith;
   quiet = refl;
-  so_far = so_far_start c.args.script.now c.new-player.result (g.K.Sink.written c.args.sink.now) c.new-player.ensures;
+  sound = c.new-player.ensures.sound;
+  so_far = so_far_start c.args.script.now (clusters_in c.new-player.result) (g.K.Sink.written c.args.sink.now) c.new-player.ensures.empty;
 }
 
 pub rounds-preserved : goal.rounds-preserved
 rounds-preserved g c =
     let count = c.counted-refused.ensures in
-    let on = so_far_made c.args.script.now c.rounds.at c.rounds.refused c.rounds.player c.play_round.new.player c.make_table.new.player _ _ _ _ c.in-Creates.table c.in-Creates.schema c.in-Creates.end c.in-Creates.count c.in-On.end c.counted-refused.result c.in-On.outcome
+    let on = so_far_made c.args.script.now c.rounds.at c.rounds.refused (clusters_in c.rounds.player) (clusters_in c.play_round.new.player) (clusters_in c.make_table.new.player) _ _ _ _ c.in-Creates.table c.in-Creates.schema c.in-Creates.end c.in-Creates.count c.in-On.end c.counted-refused.result c.in-On.outcome
     c.rounds.invariant.so_far c.in-Creates.ensures.round c.in-On.ensures.made count in
     let few = on.1 in
     record {
       within = on.3;
       few = grind (arith, few, count);
       quiet = c.in-On.ensures.quiet (λ e. cc) ∙ (c.in-Creates.ensures.quiet (λ e. cc) ∙ c.rounds.invariant.quiet);
+      sound = c.in-On.ensures.sound;
       so_far = on.0;
     }
 
 pub rounds-smaller : goal.rounds-smaller
 rounds-smaller g c =
-    let on = so_far_made c.args.script.now c.rounds.at c.rounds.refused c.rounds.player c.play_round.new.player c.make_table.new.player _ _ _ _ c.in-Creates.table c.in-Creates.schema c.in-Creates.end c.in-Creates.count c.in-On.end c.counted-refused.result c.in-On.outcome
+    let on = so_far_made c.args.script.now c.rounds.at c.rounds.refused (clusters_in c.rounds.player) (clusters_in c.play_round.new.player) (clusters_in c.make_table.new.player) _ _ _ _ c.in-Creates.table c.in-Creates.schema c.in-Creates.end c.in-Creates.count c.in-On.end c.counted-refused.result c.in-On.outcome
     c.rounds.invariant.so_far c.in-Creates.ensures.round c.in-On.ensures.made c.counted-refused.ensures in
     let further = on.2 in
     let within = on.3 in
@@ -33,22 +36,22 @@ rounds-smaller g c =
 
 pub returns-in-AtEnd-clause-end : goal.returns-in-AtEnd-clause-end
 returns-in-AtEnd-clause-end g c =
-    round-ends c.args.script.now c.rounds.at c.rounds.refused c.rounds.player c.play_round.new.player _ _ _ c.in-AtEnd.refused c.end_of.result c.rounds.invariant.so_far c.in-AtEnd.ensures.round c.end_of.ensures
+    round-ends c.args.script.now c.rounds.at c.rounds.refused (clusters_in c.rounds.player) (clusters_in c.play_round.new.player) _ _ _ c.in-AtEnd.refused c.end_of.result c.rounds.invariant.so_far c.in-AtEnd.ensures.round c.end_of.ensures
 
 pub returns-in-WriteFault-clause-end : goal.returns-in-WriteFault-clause-end
 returns-in-WriteFault-clause-end g c =
-    round-short c.args.script.now c.rounds.at c.rounds.refused c.rounds.player c.play_round.new.player _ _ _ c.rounds.invariant.so_far c.in-WriteFault.ensures.round
+    round-short c.args.script.now c.rounds.at c.rounds.refused (clusters_in c.rounds.player) (clusters_in c.play_round.new.player) _ _ _ c.rounds.invariant.so_far c.in-WriteFault.ensures.round
 
 pub returns-in-Memory-clause-end : goal.returns-in-Memory-clause-end
 returns-in-Memory-clause-end g c =
-    round-in-part c.args.script.now c.rounds.at c.rounds.refused c.rounds.player c.play_round.new.player _ _ _ c.rounds.invariant.so_far c.in-Memory.ensures.round
+    round-in-part c.args.script.now c.rounds.at c.rounds.refused (clusters_in c.rounds.player) (clusters_in c.play_round.new.player) _ _ _ c.rounds.invariant.so_far c.in-Memory.ensures.round
 
 pub returns-in-WriteFault-make_table-clause-end : goal.returns-in-WriteFault-make_table-clause-end
 returns-in-WriteFault-make_table-clause-end g c =
-    made-short c.args.script.now c.rounds.at c.rounds.refused c.rounds.player c.play_round.new.player c.make_table.new.player _ _ _ _ c.in-Creates.table c.in-Creates.schema c.in-Creates.end c.in-Creates.count
+    made-short c.args.script.now c.rounds.at c.rounds.refused (clusters_in c.rounds.player) (clusters_in c.play_round.new.player) (clusters_in c.make_table.new.player) _ _ _ _ c.in-Creates.table c.in-Creates.schema c.in-Creates.end c.in-Creates.count
     c.rounds.invariant.so_far c.in-Creates.ensures.round c.in-WriteFault-make_table.ensures.made
 
 pub returns-in-Memory-make_table-clause-end : goal.returns-in-Memory-make_table-clause-end
 returns-in-Memory-make_table-clause-end g c =
-    made-in-part c.args.script.now c.rounds.at c.rounds.refused c.rounds.player c.play_round.new.player _ _ _ _ c.in-Creates.table c.in-Creates.schema c.in-Creates.end c.in-Creates.count
+    made-in-part c.args.script.now c.rounds.at c.rounds.refused (clusters_in c.rounds.player) (clusters_in c.play_round.new.player) _ _ _ _ c.in-Creates.table c.in-Creates.schema c.in-Creates.end c.in-Creates.count
     c.rounds.invariant.so_far c.in-Creates.ensures.round c.in-Memory-make_table.ensures.made

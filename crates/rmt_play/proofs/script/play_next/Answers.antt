@@ -4,20 +4,20 @@ use Rattle.std.specs.declared.option.Option.{Option}
 use Rattle.rmt_sql.specs.declared.parsed.Parsed.TheVariants as parsed
 use Rattle.rmt_sql.specs.Script.{ReadsAt}
 use Rattle.rmt_play.specs.declared.answer.Answer.{Answer}
-use Rattle.rmt_play.specs.PlayerSteps.{Answers, StepsTo}
+use Rattle.rmt_play.specs.PlayerSteps.{view_of, Answers, StepsTo}
 use Rattle.rmt_play.proofs.ScriptLemmas.{reply-progress}
 use Rattle.rmt_play.proofs.script.play_next.Goals as goal
 
 pub returns-in-Reply-clause-progress : goal.returns-in-Reply-clause-progress
 returns-in-Reply-clause-progress g c =
-    let step = subst (λ (o : Option (Answer × ℕ)). MatchOption o (ReadsAt c.args.script.now c.args.at parsed.End × (c.next_answer.new.player ≡ c.args.player.now)) (λ x. Answers c.args.player.now (StepsTo c.args.script.now c.args.at x.1) x.0 c.next_answer.new.player)) c.in-Ok-Some.field-0-is c.in-Ok-Some.ensures.step in
+    let step = subst (λ (o : Option (Answer × ℕ)). MatchOption o (ReadsAt c.args.script.now c.args.at parsed.End × (c.next_answer.new.player ≡ c.args.player.now)) (λ x. Answers (view_of g.E.Engine.sights g.E.Engine.tables c.args.player.now) (StepsTo g.E.Engine.sights.workers c.args.script.now c.args.at x.1) x.0 (view_of g.E.Engine.sights g.E.Engine.tables c.next_answer.new.player))) c.in-Ok-Some.field-0-is c.in-Ok-Some.ensures.step in
     let further = subst (λ (o : Option (Answer × ℕ)). IfSome o (λ x. (c.args.at < x.1) × (x.1 ≤ length c.args.script.now))) c.in-Ok-Some.field-0-is c.in-Ok-Some.ensures.further in
-    let told = subst (λ (a : Answer). Answers c.args.player.now (StepsTo c.args.script.now c.args.at c.in-Ok-Some.end) a c.next_answer.new.player) c.in-Reply.is step in
-    reply-progress c.args.script.now c.args.at c.in-Ok-Some.end c.in-Reply.line c.args.player.now c.next_answer.new.player _ _ c.write_reply.result c.write_reply.ensures.reply told further.0 further.1
+    let told = subst (λ (a : Answer). Answers (view_of g.E.Engine.sights g.E.Engine.tables c.args.player.now) (StepsTo g.E.Engine.sights.workers c.args.script.now c.args.at c.in-Ok-Some.end) a (view_of g.E.Engine.sights g.E.Engine.tables c.next_answer.new.player)) c.in-Reply.is step in
+    reply-progress c.args.script.now c.args.at c.in-Ok-Some.end c.in-Reply.line (view_of g.E.Engine.sights g.E.Engine.tables c.args.player.now) (view_of g.E.Engine.sights g.E.Engine.tables c.next_answer.new.player) _ _ c.write_reply.result c.write_reply.ensures.reply told further.0 further.1
 
 pub returns-in-Creates-clause-progress : goal.returns-in-Creates-clause-progress
 returns-in-Creates-clause-progress g c =
-    let step = subst (λ (o : Option (Answer × ℕ)). MatchOption o (ReadsAt c.args.script.now c.args.at parsed.End × (c.next_answer.new.player ≡ c.args.player.now)) (λ x. Answers c.args.player.now (StepsTo c.args.script.now c.args.at x.1) x.0 c.next_answer.new.player)) c.in-Ok-Some.field-0-is c.in-Ok-Some.ensures.step in
+    let step = subst (λ (o : Option (Answer × ℕ)). MatchOption o (ReadsAt c.args.script.now c.args.at parsed.End × (c.next_answer.new.player ≡ c.args.player.now)) (λ x. Answers (view_of g.E.Engine.sights g.E.Engine.tables c.args.player.now) (StepsTo g.E.Engine.sights.workers c.args.script.now c.args.at x.1) x.0 (view_of g.E.Engine.sights g.E.Engine.tables c.next_answer.new.player))) c.in-Ok-Some.field-0-is c.in-Ok-Some.ensures.step in
     let further = subst (λ (o : Option (Answer × ℕ)). IfSome o (λ x. (c.args.at < x.1) × (x.1 ≤ length c.args.script.now))) c.in-Ok-Some.field-0-is c.in-Ok-Some.ensures.further in
-    let told = subst (λ (a : Answer). Answers c.args.player.now (StepsTo c.args.script.now c.args.at c.in-Ok-Some.end) a c.next_answer.new.player) c.in-Creates.is step in
+    let told = subst (λ (a : Answer). Answers (view_of g.E.Engine.sights g.E.Engine.tables c.args.player.now) (StepsTo g.E.Engine.sights.workers c.args.script.now c.args.at c.in-Ok-Some.end) a (view_of g.E.Engine.sights g.E.Engine.tables c.next_answer.new.player)) c.in-Creates.is step in
     record { creates = told.1; unchanged = told.0; unwritten = refl; further = further.0; within = further.1 }

@@ -1,40 +1,32 @@
--- crates/rmt_play/proofs/player/Player/act/Answers.antt
-use Rattle.std.proofs.Common.{◌≡◌, ◌∙◌, ◌<◌, length, ap, refl, sym, subst}
-use Rattle.std.proofs.lemmas.Option.{slice_get_read}
-use Rattle.std.specs.Prelude.{slice_set}
-use Rattle.std.specs.declared.option.Option.TheVariants.{Some}
-use Rattle.rmt_play.specs.PlayerSteps.{NamedCluster, PlayerView, is_up, ActsAt}
+use Rattle.std.proofs.Common.{◌<◌, subst, sym}
+use Rattle.rmt_state.specs.States.{IsNumber}
+use Rattle.rmt_play.specs.ActSteps.{ExecutesThere}
+use Rattle.rmt_play.specs.PlayerSteps.{IsAtAll}
+use Rattle.rmt_play.proofs.NamedLemmas.{changes-named, sound-changed, length-changed, named-length, each-table}
 use Rattle.rmt_play.proofs.TurnLemmas.{up-at, free-at}
+use Rattle.rmt_play.proofs.TableLemmas.{each-get}
 use Rattle.rmt_play.proofs.player.Player.act.Goals as goal
 
-pub returns-in-Ok : goal.returns-in-Ok
-returns-in-Ok c =
-    let tables = c.self.inside.tables.items in
-    let place : c.args.place < length tables = subst (λ (p : PlayerView). c.args.place < length p.tables) (sym c.self.view_is) c.requires.place in
-    let there = slice_get_read tables (length tables) c.args.place c.index_mut.result.now refl place c.index_mut.ensures.value in
-    let old : NamedCluster = record { name = c.behind-self.inside.name; cluster = c.behind-self.inside.cluster } in
-    let new : NamedCluster = record { name = c.behind-self.inside.name; cluster = c.act_at.new.engine } in
-    subst (λ (p : PlayerView). ActsAt p c.args.place c.args.replica c.args.act.now c.in-Ok.line (record { replicas = c.self.inside.replicas; up = c.self.inside.up; tables = slice_set tables c.args.place new })) c.self.view_is (record {
-      table = old;
-      there = there ∙ ap (λ (t : NamedCluster). Some t) (sym c.behind-self.view_is);
-      after = c.act_at.new.engine;
-      changes = c.in-Ok.ensures.executes;
-      rest = refl;
-    })
+pub returns-in-Ok-clause-acts : goal.returns-in-Ok-clause-acts
+returns-in-Ok-clause-acts g c =
+    changes-named g.E.Engine.sights c.args.self.now.replicas c.args.self.now.up c.args.self.now.names.items (g.E.Engine.tables c.args.self.now.engine) (g.E.Engine.tables c.act.new.self) c.args.place (λ s u. ExecutesThere s c.args.replica c.args.act.now c.in-Ok.line u) c.requires.sound.lengths c.in-Ok.ensures
 
-pub act_at-requires-clause-up : goal.act_at-requires-clause-up
-act_at-requires-clause-up c =
-    let tables = c.self.inside.tables.items in
-    let place : c.args.place < length tables = subst (λ (p : PlayerView). c.args.place < length p.tables) (sym c.self.view_is) c.requires.place in
-    let there = slice_get_read tables (length tables) c.args.place c.index_mut.result.now refl place c.index_mut.ensures.value in
-    let old : NamedCluster = record { name = c.behind-self.inside.name; cluster = c.behind-self.inside.cluster } in
-    up-at c.self.inside.replicas c.self.inside.up tables c.args.place old c.args.replica c.is_up-is_up.result c.self.invariant.all (there ∙ ap (λ (t : NamedCluster). Some t) (sym c.behind-self.view_is))
-    (subst (λ (p : PlayerView). is_up p.replicas p.up c.args.replica ≡ c.is_up-is_up.result) (sym c.self.view_is) (sym c.is_up-is_up.ensures))
+pub returns-in-Ok-clause-sound : goal.returns-in-Ok-clause-sound
+returns-in-Ok-clause-sound g c =
+    record {
+      player = sound-changed g.E.Engine.sights c.args.self.now.replicas c.args.self.now.up c.args.self.now.names.items (g.E.Engine.tables c.args.self.now.engine) (g.E.Engine.tables c.act.new.self) c.args.place (λ s u. ExecutesThere s c.args.replica c.args.act.now c.in-Ok.line u) c.requires.sound.lengths c.in-Ok.ensures c.requires.sound.player;
+      lengths = length-changed g.E.Engine.sights c.args.self.now.names.items (g.E.Engine.tables c.args.self.now.engine) (g.E.Engine.tables c.act.new.self) c.args.place (λ s u. ExecutesThere s c.args.replica c.args.act.now c.in-Ok.line u) c.requires.sound.lengths c.in-Ok.ensures;
+    }
 
-pub act_at-requires-clause-free : goal.act_at-requires-clause-free
-act_at-requires-clause-free c =
-    let tables = c.self.inside.tables.items in
-    let place : c.args.place < length tables = subst (λ (p : PlayerView). c.args.place < length p.tables) (sym c.self.view_is) c.requires.place in
-    let there = slice_get_read tables (length tables) c.args.place c.index_mut.result.now refl place c.index_mut.ensures.value in
-    let old : NamedCluster = record { name = c.behind-self.inside.name; cluster = c.behind-self.inside.cluster } in
-    free-at c.self.inside.replicas c.self.inside.up tables c.args.place old c.self.invariant.all (there ∙ ap (λ (t : NamedCluster). Some t) (sym c.behind-self.view_is))
+pub act-requires-clause-place : goal.act-requires-clause-place
+act-requires-clause-place g c = subst (λ n. c.args.place < n) (named-length g.E.Engine.sights c.args.self.now.names.items (g.E.Engine.tables c.args.self.now.engine) c.requires.sound.lengths) c.requires.place
+
+pub act-requires-clause-ready : goal.act-requires-clause-ready
+act-requires-clause-ready g c =
+    let e = g.E.Engine.sights in
+    let all = each-table g.E.Engine.sights (IsAtAll g.E.Engine.sights c.args.self.now.replicas c.args.self.now.up) c.args.self.now.names.items (g.E.Engine.tables c.args.self.now.engine) c.requires.sound.lengths c.requires.sound.player.all in
+    record {
+      here = λ t q. subst (IsNumber c.args.replica) (sym (each-get (IsAtAll e c.args.self.now.replicas c.args.self.now.up) (g.E.Engine.tables c.args.self.now.engine) c.args.place t q all).all) c.requires.replica;
+      ups_are = λ t q. up-at e c.args.self.now.replicas c.args.self.now.up (g.E.Engine.tables c.args.self.now.engine) c.args.place t c.args.replica c.is_up-is_up.result all q (sym c.is_up-is_up.ensures);
+      free = λ t q. free-at e c.args.self.now.replicas c.args.self.now.up (g.E.Engine.tables c.args.self.now.engine) c.args.place t all q;
+    }

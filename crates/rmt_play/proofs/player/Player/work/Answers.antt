@@ -1,21 +1,26 @@
-use Rattle.std.proofs.Common.{◌∙◌, ◌<◌, length, ap, refl, sym, subst}
-use Rattle.std.proofs.lemmas.Option.{slice_get_read}
-use Rattle.std.specs.Prelude.{slice_set}
-use Rattle.std.specs.declared.option.Option.TheVariants.{Some}
-use Rattle.rmt_play.specs.PlayerSteps.{NamedCluster, PlayerView, RunsAt}
+use Rattle.std.proofs.Common.{◌<◌, subst}
+use Rattle.rmt_play.specs.ActSteps.{RunsTable}
+use Rattle.rmt_play.specs.PlayerSteps.{IsAtAll}
+use Rattle.rmt_play.proofs.NamedLemmas.{changes-named, sound-changed, length-changed, named-length, each-table}
+use Rattle.rmt_play.proofs.TurnLemmas.{free-at}
 use Rattle.rmt_play.proofs.player.Player.work.Goals as goal
 
-pub returns-in-Ok : goal.returns-in-Ok
-returns-in-Ok c =
-    let tables = c.self.inside.tables.items in
-    let place : c.args.place < length tables = subst (λ (p : PlayerView). c.args.place < length p.tables) (sym c.self.view_is) c.requires.place in
-    let there = slice_get_read tables (length tables) c.args.place c.index_mut.result.now refl place c.index_mut.ensures.value in
-    let old : NamedCluster = record { name = c.behind-self.inside.name; cluster = c.behind-self.inside.cluster } in
-    let new : NamedCluster = record { name = c.behind-self.inside.name; cluster = c.run_in.new.engine } in
-    subst (λ (p : PlayerView). RunsAt p c.args.place c.args.turns c.args.seed c.in-Ok.line (record { replicas = c.self.inside.replicas; up = c.self.inside.up; tables = slice_set tables c.args.place new })) c.self.view_is (record {
-      table = old;
-      there = there ∙ ap (λ (t : NamedCluster). Some t) (sym c.behind-self.view_is);
-      after = c.run_in.new.engine;
-      changes = c.in-Ok.ensures.runs;
-      rest = refl;
-    })
+pub returns-in-Ok-clause-runs : goal.returns-in-Ok-clause-runs
+returns-in-Ok-clause-runs g c =
+    changes-named g.E.Engine.sights c.args.self.now.replicas c.args.self.now.up c.args.self.now.names.items (g.E.Engine.tables c.args.self.now.engine) (g.E.Engine.tables c.work.new.self) c.args.place (RunsTable c.args.turns c.args.seed c.in-Ok.line) c.requires.sound.lengths c.in-Ok.ensures
+
+pub returns-in-Ok-clause-sound : goal.returns-in-Ok-clause-sound
+returns-in-Ok-clause-sound g c =
+    record {
+      player = sound-changed g.E.Engine.sights c.args.self.now.replicas c.args.self.now.up c.args.self.now.names.items (g.E.Engine.tables c.args.self.now.engine) (g.E.Engine.tables c.work.new.self) c.args.place (RunsTable c.args.turns c.args.seed c.in-Ok.line) c.requires.sound.lengths c.in-Ok.ensures c.requires.sound.player;
+      lengths = length-changed g.E.Engine.sights c.args.self.now.names.items (g.E.Engine.tables c.args.self.now.engine) (g.E.Engine.tables c.work.new.self) c.args.place (RunsTable c.args.turns c.args.seed c.in-Ok.line) c.requires.sound.lengths c.in-Ok.ensures;
+    }
+
+pub work-requires-clause-place : goal.work-requires-clause-place
+work-requires-clause-place g c = subst (λ n. c.args.place < n) (named-length g.E.Engine.sights c.args.self.now.names.items (g.E.Engine.tables c.args.self.now.engine) c.requires.sound.lengths) c.requires.place
+
+pub work-requires-clause-free : goal.work-requires-clause-free
+work-requires-clause-free g c =
+    let e = g.E.Engine.sights in
+    let all = each-table g.E.Engine.sights (IsAtAll g.E.Engine.sights c.args.self.now.replicas c.args.self.now.up) c.args.self.now.names.items (g.E.Engine.tables c.args.self.now.engine) c.requires.sound.lengths c.requires.sound.player.all in
+    λ t q. free-at e c.args.self.now.replicas c.args.self.now.up (g.E.Engine.tables c.args.self.now.engine) c.args.place t all q
