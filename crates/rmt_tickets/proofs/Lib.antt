@@ -1,0 +1,4 @@
+pub mod Crosses
+pub mod Counting
+pub mod Moves
+pub mod Gathering

@@ -1,0 +1,5 @@
+pub mod Tickets
+pub mod Balance
+pub mod Counted
+pub mod Blank
+pub mod Gathers
