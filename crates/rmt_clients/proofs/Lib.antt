@@ -1,0 +1,13 @@
+pub mod ClientRests
+pub mod ClientChanges
+pub mod ClientInserts
+pub mod ClientDrains
+pub mod OfferedBlocks
+pub mod FairBlocks
+pub mod ClientReads
+pub mod ClientReadings
+pub mod QuorumNotes
+pub mod ClientCopies
+pub mod ClientOptimizes
+pub mod ClientWaits
+pub mod ClientMeets
