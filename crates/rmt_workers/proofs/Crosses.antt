@@ -1,6 +1,11 @@
 -- Which types may be handed to another thread, and which lent to several, lowest first. Lemmas on structs without a model
 -- and on enums aren't taken at a field, so that those are searched through whole.
 use denote.RattleType.{RattleType}
+use Rattle.std.proofs.sync.ledger.Book.TheSendSync.{the_send as book_send}
+use Rattle.rmt_workers.specs.declared.naming.Naming.{Ghosts}
+use Rattle.rmt_workers.specs.contracts.desk.Desk as desk
+use Rattle.rmt_workers.specs.contracts.stand.Stand as stand
+use denote.RattleType.{RattleType}
 use denote.Param.Send.{IsSend, IsSync, sendable}
 use Rattle.std.proofs.Crossing.{crosses}
 use Rattle.std.proofs.MapsCrossing.{crosses as maps}
@@ -180,3 +185,11 @@ replica_send = search (sendable, crosses, name_send, copy_send, queue_send, part
 
 pub supply_send : IsSend supply.the_row
 supply_send = search (sendable, crosses, part_send, part_sync) depth 30
+
+-- ---- what lies under locks
+
+pub desk_send : (N : RattleType) (g : Ghosts N.Denot) → IsSend (desk.the_row N g)
+desk_send N g = search (sendable, crosses, table_send, book_send) depth 30
+
+pub stand_send : (N : RattleType) (g : Ghosts N.Denot) → IsSend (stand.the_row N g)
+stand_send N g = search (sendable, crosses, replica_send) depth 30

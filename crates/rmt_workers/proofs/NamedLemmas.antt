@@ -1,0 +1,142 @@
+-- Tables that are named, copies of their logs, and lists of both.
+use Rattle.std.proofs.Common.{◌≡◌, ℕ, zero, suc, ◌+◌, ◌<◌, List, [], ◌∷◌, ◌++◌, length, map, take, set, get_or, refl, sym, ap, subst, arith, ◌∙◌}
+use Rattle.rmt_entries.specs.declared.entry.Entry.{Entry}
+use Rattle.rmt_model.specs.Words.{Each}
+use Rattle.rmt_model.specs.Lawful.{IsPrefix}
+use Rattle.rmt_model.specs.EntryLimits.{client_count}
+use Rattle.rmt_history.specs.Copies.{History}
+use Rattle.rmt_table_model.specs.Held.{Held}
+use Rattle.rmt_statement_model.specs.BackgroundWork.{IsOfWorker}
+use Rattle.rmt_statement_model.specs.Books.{ArePrefixesOf, all_clients, GainsWork, GainWork}
+use Rattle.rmt_statement_model.proofs.WorkerEntries.{clients-stay, front-clients}
+use Rattle.rmt_workers.specs.Desks.{NamedTable, named, logs_of, IsDesk}
+use Rattle.rmt_workers.specs.Passes.{IsCopyOfNamed, AreCopiesOf, name_at}
+
+-- ---- lists
+
+pub map-length : {A B : Type 0} (f : A → B) (xs : List A) → length (map f xs) ≡ length xs
+map-length f [] = refl
+map-length f (x ∷ xs) = ap suc (map-length f xs)
+
+pub map-get : {A B : Type 0} (f : A → B) (xs : List A) (i : ℕ) (d : A) (e : B) → i < length xs → get_or (map f xs) i e ≡ f (get_or xs i d)
+map-get f [] i d e h = absurd (omega (arith, h))
+map-get f (x ∷ xs) zero d e h = refl
+map-get f (x ∷ xs) (suc i) d e h = map-get f xs i d e (omega (arith, h))
+
+pub map-set : {A B : Type 0} (f : A → B) (xs : List A) (i : ℕ) (x : A) → map f (set xs i x) ≡ set (map f xs) i (f x)
+map-set f [] i x = refl
+map-set f (y ∷ ys) zero x = refl
+map-set f (y ∷ ys) (suc i) x = ap (λ zs. f y ∷ zs) (map-set f ys i x)
+
+-- an element is replaced by one of which this is the same
+pub set-same : {A B : Type 0} (f : A → B) (xs : List A) (i : ℕ) (old new : A) → i < length xs → old ≡ get_or xs i old → f new ≡ f old → set (map f xs) i (f new) ≡ map f xs
+set-same f [] i old new h at e = absurd (omega (arith, h))
+set-same f (x ∷ xs) zero old new h at e = ap (λ y. y ∷ map f xs) (e ∙ ap f at)
+set-same f (x ∷ xs) (suc i) old new h at e = ap (λ ys. f x ∷ ys) (set-same f xs i old new (omega (arith, h)) at e)
+
+-- an element is replaced by one of which this holds where it held of the element
+pub each-set : {A : Type 0} (P : A → Type 0) (xs : List A) (i : ℕ) (old new : A) → i < length xs → old ≡ get_or xs i old → (P old → P new) → Each P xs → Each P (set xs i new)
+each-set P [] i old new h at f e = absurd (omega (arith, h))
+each-set P (x ∷ xs) zero old new h at f e = (f (subst P (sym at) e.0), e.1)
+each-set P (x ∷ xs) (suc i) old new h at f e = (e.0, each-set P xs i old new (omega (arith, h)) at f e.1)
+
+-- ---- copies of the logs of named tables
+
+pub copies-length : (names : List NamedTable) (copies : List History) → AreCopiesOf names copies → length names ≡ length copies
+copies-length [] [] a = refl
+copies-length (n ∷ names) (c ∷ copies) a = ap suc (copies-length names copies a.1)
+copies-length [] (c ∷ copies) a = absurd a
+copies-length (n ∷ names) [] a = absurd a
+
+pub copy-at : (names : List NamedTable) (copies : List History) (i : ℕ) (d : History) → AreCopiesOf names copies → i < length copies → IsCopyOfNamed (name_at names i) (get_or copies i d)
+copy-at [] [] i d a h = absurd (omega (arith, h))
+copy-at (n ∷ names) (c ∷ copies) zero d a h = a.0
+copy-at (n ∷ names) (c ∷ copies) (suc i) d a h = copy-at names copies i d a.1 (omega (arith, h))
+copy-at [] (c ∷ copies) i d a h = absurd a
+copy-at (n ∷ names) [] i d a h = absurd a
+
+pub copies-set : (names : List NamedTable) (copies : List History) (i : ℕ) (c : History) → AreCopiesOf names copies → IsCopyOfNamed (name_at names i) c → AreCopiesOf names (set copies i c)
+copies-set [] [] i c a h = tt
+copies-set (n ∷ names) (x ∷ copies) zero c a h = (h, a.1)
+copies-set (n ∷ names) (x ∷ copies) (suc i) c a h = (a.0, copies-set names copies i c a.1 h)
+copies-set [] (x ∷ copies) i c a h = absurd a
+copies-set (n ∷ names) [] i c a h = absurd a
+
+-- the table at a place is named there
+pub name-of : (tables : List Held) (names : List NamedTable) (i : ℕ) (d : Held) → map named tables ≡ names → i < length tables → named (get_or tables i d) ≡ name_at names i
+name-of tables names i d e h = sym (map-get named tables i d _ h) ∙ ap (λ (ns : List NamedTable). name_at ns i) e
+
+-- there is a table for each copy
+pub tables-in : (tables : List Held) (names : List NamedTable) (copies : List History) (i : ℕ) → map named tables ≡ names → AreCopiesOf names copies → i < length copies → i < length tables
+tables-in tables names copies i e a h =
+    let m = map-length named tables in
+    let n : length (map named tables) ≡ length names = ap (λ (ns : List NamedTable). length ns) e in
+    let k = copies-length names copies a in
+    omega (arith, m, n, k, h)
+
+-- ---- prefixes
+
+-- a prefix at each place up to one more
+prefixes-next : (copies logs : List (List Entry)) (i : ℕ) (c l : List Entry) → ArePrefixesOf (take i copies) (take i logs) → i < length copies → i < length logs → get_or copies i c ≡ c → get_or logs i l ≡ l → IsPrefix c l → ArePrefixesOf (take (suc i) copies) (take (suc i) logs)
+prefixes-next [] logs i c l a h k p q f = absurd (omega (arith, h))
+prefixes-next (x ∷ copies) [] i c l a h k p q f = absurd (omega (arith, k))
+prefixes-next (x ∷ copies) (y ∷ logs) zero c l a h k p q f = (subst (λ (z : List Entry). IsPrefix z y) (sym p) (subst (λ (z : List Entry). IsPrefix c z) (sym q) f), tt)
+prefixes-next (x ∷ copies) (y ∷ logs) (suc i) c l a h k p q f = (a.0, prefixes-next copies logs i c l a.1 (omega (arith, h)) (omega (arith, k)) p q f)
+
+pub prefixes-more : (copies logs : List (List Entry)) (i : ℕ) (c l : List Entry) → ArePrefixesOf (take i copies) (take i logs) → i < length copies → i < length logs → get_or copies i c ≡ c → get_or logs i l ≡ l → IsPrefix c l → ArePrefixesOf (take (i + 1) copies) (take (i + 1) logs)
+prefixes-more copies logs i c l a h k p q f = let e : suc i ≡ i + 1 = omega arith in subst (λ (n : ℕ). ArePrefixesOf (take n copies) (take n logs)) e (prefixes-next copies logs i c l a h k p q f)
+
+-- ---- counts
+
+pub clients-to : (logs : List (List Entry)) (i : ℕ) (d : List Entry) → i < length logs → all_clients (take (i + 1) logs) ≡ all_clients (take i logs) + client_count (get_or logs i d)
+clients-to logs i d h = let e : suc i ≡ i + 1 = omega arith in subst (λ (n : ℕ). all_clients (take n logs) ≡ all_clients (take i logs) + client_count (get_or logs i d)) e (go logs i h)
+  where
+    go : (ls : List (List Entry)) (i : ℕ) → i < length ls → all_clients (take (suc i) ls) ≡ all_clients (take i ls) + client_count (get_or ls i d)
+    go [] i h = absurd (omega (arith, h))
+    go (l ∷ ls) zero h = omega arith
+    go (l ∷ ls) (suc i) h = let r = go ls i (omega (arith, h)) in omega (arith, r)
+
+-- one log in place of another
+pub set-clients : (logs : List (List Entry)) (i : ℕ) (l d : List Entry) → i < length logs → all_clients (set logs i l) + client_count (get_or logs i d) ≡ all_clients logs + client_count l
+set-clients [] i l d h = absurd (omega (arith, h))
+set-clients (x ∷ xs) zero l d h = omega arith
+set-clients (x ∷ xs) (suc i) l d h = omega (arith, set-clients xs i l d (omega (arith, h)))
+
+-- a log between a copy and what it goes on to by background work has as many client entries
+pub between : (old new whole gained : List Entry) → whole ≡ gained ++ old → Each IsOfWorker gained → IsPrefix old new → IsPrefix new whole → client_count new ≡ client_count old
+between old new whole gained e w f g =
+    let a = front-clients old new f in
+    let b = front-clients new whole g in
+    let c : client_count whole ≡ client_count old = ap client_count e ∙ clients-stay gained old w in
+    omega (arith, a, b, c)
+
+-- what one of the logs has gained
+pub gained-at : (copies logs : List (List Entry)) (i : ℕ) (c l : List Entry) → GainWork copies logs → i < length copies → GainsWork (get_or copies i c) (get_or logs i l)
+gained-at [] [] i c l g h = absurd (omega (arith, h))
+gained-at (x ∷ copies) (y ∷ logs) zero c l g h = g.0
+gained-at (x ∷ copies) (y ∷ logs) (suc i) c l g h = gained-at copies logs i c l g.1 (omega (arith, h))
+gained-at [] (y ∷ logs) i c l g h = absurd g
+gained-at (x ∷ copies) [] i c l g h = absurd g
+
+-- ---- a table in place of another
+
+-- the tables stay those that are named, each with its replicas, and their count stays, where a log gains none of a client
+pub desk-with : (names : List NamedTable) (replicas : ℕ) (tables : List Held) (total k : ℕ) (old new : Held) → IsDesk names replicas tables total → k < length tables → old ≡ get_or tables k old → named new ≡ named old → length new.sessions ≡ length old.sessions → client_count new.log ≡ client_count old.log → IsDesk names replicas (set tables k new) total
+desk-with names replicas tables total k old new d h at same sessions count = record {
+  are_named = map-set named tables k new ∙ (set-same named tables k old new h at same ∙ d.are_named);
+  sessions = each-set (λ (x : Held). length x.sessions ≡ replicas) tables k old new h at (λ e. sessions ∙ e) d.sessions;
+  counted = d.counted ∙ sym all;
+}
+  where
+    all : all_clients (logs_of (set tables k new)) ≡ all_clients (logs_of tables)
+    all =
+        let m = map-length (λ (x : Held). x.log) tables in
+        let hl : k < length (logs_of tables) = omega (arith, m, h) in
+        let a = set-clients (logs_of tables) k new.log [] hl in
+        let b : client_count (get_or (logs_of tables) k []) ≡ client_count old.log = ap client_count (map-get (λ (x : Held). x.log) tables k old [] h ∙ ap (λ (x : Held). x.log) (sym at)) in
+        let c : all_clients (logs_of (set tables k new)) ≡ all_clients (set (logs_of tables) k new.log) = ap all_clients (map-set (λ (x : Held). x.log) tables k new) in
+        omega (arith, a, b, c, count)
+
+-- the log of the table at a place
+pub log-at : (tables : List Held) (k : ℕ) (old : Held) → k < length tables → old ≡ get_or tables k old → get_or (logs_of tables) k [] ≡ old.log
+log-at tables k old h at = map-get (λ (x : Held). x.log) tables k old [] h ∙ ap (λ (x : Held). x.log) (sym at)

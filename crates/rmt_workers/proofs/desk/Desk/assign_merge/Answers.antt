@@ -1,0 +1,19 @@
+use Rattle.std.proofs.Common.{◌≡◌, ◌<◌, List, length, set, sym, subst}
+use Rattle.std.specs.Prelude.{MatchBool}
+use Rattle.rmt_table_model.specs.Held.{Held}
+use Rattle.rmt_workers.specs.Desks.{logs_of, AppendsMerge}
+use Rattle.rmt_workers.proofs.NamedLemmas.{desk-with}
+use Rattle.rmt_workers.proofs.AppendLemmas.{merge-count, merge-appends}
+use Rattle.rmt_workers.proofs.desk.Desk.assign_merge.Goals as goal
+
+pub invariant_of-self-2 : goal.invariant_of-self-2
+invariant_of-self-2 g c =
+    let h = subst (λ (ts : List Held). c.args.table < length ts) (sym c.self.view_is) c.requires.table in
+    desk-with g.N.Naming.tables g.N.Naming.replicas c.self.inside.tables.items c.self.inside.entries.total c.args.table c.index_mut-tree.result.now c.merge_in.new.tree c.self.invariant h c.index_mut-tree.ensures.value
+    c.merge_in.ensures.named c.merge_in.ensures.sessions (merge-count c.in_ok-done.done c.args.sources.now c.index_mut-tree.result.now c.merge_in.new.tree c.in_ok-done.ensures.ok)
+
+pub returns-clause-ok : goal.returns-clause-ok
+returns-clause-ok g c =
+    let h = subst (λ (ts : List Held). c.args.table < length ts) (sym c.self.view_is) c.requires.table in
+    subst (λ (ts : List Held). MatchBool c.in_ok-done.done (AppendsMerge (logs_of ts) c.args.table c.args.sources.now (logs_of (set c.self.inside.tables.items c.args.table c.merge_in.new.tree))) (set c.self.inside.tables.items c.args.table c.merge_in.new.tree ≡ ts)) c.self.view_is
+    (merge-appends c.self.inside.tables.items c.args.table c.index_mut-tree.result.now c.merge_in.new.tree h c.index_mut-tree.ensures.value c.in_ok-done.done c.args.sources.now c.in_ok-done.ensures.ok)

@@ -1,0 +1,59 @@
+-- What lies under the lock of all tables, and what the types of locks name of it.
+-- No public source: the locks are this program's own.
+use Rattle.std.specs.Prelude.{◌≡◌, ℕ, List, [], ◌∷◌, length, map, slice_index_or, slice_set}
+use Rattle.rmt_values.specs.Rows.{Shape}
+use Rattle.rmt_names.specs.Names.{Name}
+use Rattle.rmt_entries.specs.declared.entry.Entry.{Entry}
+use Rattle.rmt_entries.specs.declared.entry.Entry.TheVariants.{Merge, Mutate}
+use Rattle.rmt_model.specs.Words.{Each}
+use Rattle.rmt_table_model.specs.Held.{Held}
+use Rattle.rmt_statement_model.specs.Books.{all_clients}
+
+-- what stays of a table for good: its schema, and the names of the cells of its log
+pub record NamedTable : Type 0 where
+  pub schema : Shape
+  pub row : List ℕ
+
+-- what stays of this table
+abbrev pub named : Held → NamedTable
+named h = record { schema = h.schema; row = h.row }
+
+-- the logs of tables, each with its newest entry first
+abbrev pub logs_of : List Held → List (List Entry)
+logs_of tables = map (λ (h : Held). h.log) tables
+
+-- the log of the table at a place
+abbrev pub log_in : List Held → ℕ → List Entry
+log_in tables k = slice_index_or (logs_of tables) k []
+
+-- the tables are those that are named, each has so many replicas, and the book has counted the entries of clients in their
+-- logs
+pub record IsDesk (names : List NamedTable) (replicas : ℕ) (tables : List Held) (total : ℕ) : Type 0 where
+  pub are_named : map named tables ≡ names
+  pub sessions : Each (λ h. length h.sessions ≡ replicas) tables
+  pub counted : total ≡ all_clients (logs_of tables)
+
+-- a merge of these names is the log's newest entry
+pub record GainsMerge (old : List Entry) (sources : List Name) (new : List Entry) : Type 0 where
+  pub name : Name
+  pub count : ℕ
+  pub change : new ≡ Merge name sources count ∷ old
+
+-- the mutate of this part, up to the mutation at a place, is the log's newest entry
+pub record GainsMutate (old : List Entry) (part : Name) (upto : ℕ) (new : List Entry) : Type 0 where
+  pub name : Name
+  pub count : ℕ
+  pub mcount : ℕ
+  pub change : new ≡ Mutate part name upto count mcount ∷ old
+
+-- such an entry in the log of the table at a place, and nothing else
+pub record AppendsMerge (old : List (List Entry)) (k : ℕ) (sources : List Name) (new : List (List Entry)) : Type 0 where
+  pub log : List Entry
+  pub gains : GainsMerge (slice_index_or old k []) sources log
+  pub change : new ≡ slice_set old k log
+
+-- such an entry in the log of the table at a place, and nothing else
+pub record AppendsMutate (old : List (List Entry)) (k : ℕ) (part : Name) (upto : ℕ) (new : List (List Entry)) : Type 0 where
+  pub log : List Entry
+  pub gains : GainsMutate (slice_index_or old k []) part upto log
+  pub change : new ≡ slice_set old k log
