@@ -1,12 +1,16 @@
 -- What lies under the lock of all tables, and what the types of locks name of it.
 -- No public source: the locks are this program's own.
-use Rattle.std.specs.Prelude.{◌≡◌, ℕ, List, [], ◌∷◌, length, map, slice_index_or, slice_set}
+use Rattle.std.specs.Prelude.{◌≡◌, ◌<◌, ◌⊎◌, ℕ, List, [], ◌∷◌, length, map, slice_index_or, slice_set}
 use Rattle.rmt_values.specs.Rows.{Shape}
 use Rattle.rmt_names.specs.Names.{Name}
 use Rattle.rmt_entries.specs.declared.entry.Entry.{Entry}
 use Rattle.rmt_entries.specs.declared.entry.Entry.TheVariants.{Merge, Mutate}
 use Rattle.rmt_model.specs.Words.{Each}
+use Rattle.rmt_events.specs.LogEvents.{AreMergeable, IsMutable}
+use Rattle.rmt_events.specs.TableRefusals.{NotMerged, NotMutated}
+use Rattle.rmt_events.specs.declared.step_refused.StepRefused.{StepRefused}
 use Rattle.rmt_table_model.specs.Held.{Held}
+use Rattle.rmt_table.specs.TableTrees.{table_at}
 use Rattle.rmt_statement_model.specs.Books.{all_clients}
 
 -- what stays of a table for good: its schema, and the names of the cells of its log
@@ -57,3 +61,25 @@ pub record AppendsMutate (old : List (List Entry)) (k : ℕ) (part : Name) (upto
   pub log : List Entry
   pub gains : GainsMutate (slice_index_or old k []) part upto log
   pub change : new ≡ slice_set old k log
+
+-- the table refuses the merge of these names, which was chosen from a copy of this length
+abbrev pub RefusesMerge : Held → ℕ → List Name → Type 0
+RefusesMerge h len sources = (why : StepRefused) × NotMerged (table_at h) len sources why
+
+-- the table refuses the mutate of a part, which was chosen from a copy of this length
+abbrev pub RefusesMutate : Held → ℕ → Type 0
+RefusesMutate h len = (why : StepRefused) × NotMutated (table_at h) len why
+
+-- why the merge of these names doesn't enter the log of the table at a place: that log is shorter than the copy that they
+-- were chosen from, they are no neighbours there, or the table refuses it
+pub record IsUnmerged (tables : List Held) (k : ℕ) (copy : List Entry) (sources : List Name) : Type 0 where
+  pub table : Held
+  pub is : table ≡ slice_index_or tables k table
+  pub why : (length table.log < length copy) ⊎ ((AreMergeable copy sources → ⊥) ⊎ RefusesMerge table (length copy) sources)
+
+-- why the mutate of a part doesn't enter the log of the table at a place: that log is shorter than the copy that it was chosen
+-- from, no mutation there is pending for the part, or the table refuses it
+pub record IsUnmutated (tables : List Held) (k : ℕ) (copy : List Entry) (part : Name) (upto : ℕ) : Type 0 where
+  pub table : Held
+  pub is : table ≡ slice_index_or tables k table
+  pub why : (length table.log < length copy) ⊎ ((IsMutable copy part upto → ⊥) ⊎ RefusesMutate table (length copy))

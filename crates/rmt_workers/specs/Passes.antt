@@ -1,6 +1,6 @@
 -- What a client knows of the tables.
 -- No public source: that a client goes on from what it has seen is this program's own.
-use Rattle.std.specs.Prelude.{◌≡◌, ◌<◌, ℕ, List, [], ◌∷◌, ◌++◌, map, slice_set, slice_index_or}
+use Rattle.std.specs.Prelude.{◌≡◌, ◌<◌, ℕ, List, [], ◌∷◌, ◌++◌, length, map, slice_set, slice_index_or}
 use Rattle.std.specs.declared.option.Option.TheVariants.{None}
 use Rattle.rmt_entries.specs.declared.entry.Entry.{Entry}
 use Rattle.rmt_model.specs.Words.{Each}
@@ -17,6 +17,11 @@ pub record IsCopyOfNamed (name : NamedTable) (copy : History) : Type 0 where
 -- the names of the table at a place
 abbrev pub name_at : List NamedTable → ℕ → NamedTable
 name_at names k = slice_index_or names k (record { schema = record { columns = []; key = []; partition = None; granularity = 0; window = 0 }; row = [] })
+
+-- the log of some table is shorter than the copy of it
+pub record IsShorter (copies logs : List (List Entry)) : Type 0 where
+  pub table : ℕ
+  pub shorter : length (slice_index_or logs table []) < length (slice_index_or copies table [])
 
 -- a copy of the log of each table
 abbrev pub AreCopiesOf : List NamedTable → List History → Type 0

@@ -1,13 +1,16 @@
 -- What lies under the lock of a replica.
 -- No public source: the locks are this program's own.
-use Rattle.std.specs.Prelude.{◌≡◌, ◌⊎◌, ◌≤◌, ℕ, List, length}
+use Rattle.std.specs.Prelude.{◌≡◌, ◌⊎◌, ◌≤◌, ◌<◌, ℕ, false, List, length}
 use Rattle.rmt_model.specs.Words.{Each}
 use Rattle.rmt_events.specs.Views.{Block}
 use Rattle.rmt_events.specs.Clusters.{without_kinds}
 use Rattle.rmt_part.specs.Lineages.{PartValue}
 use Rattle.rmt_replica.specs.Replicas.{ReplicaView, LengthensCopy}
 use Rattle.rmt_replica.specs.ReplicaRows.{IsReplicaOfRow}
-use Rattle.rmt_workers.specs.Desks.{NamedTable}
+use Rattle.rmt_table_model.specs.Held.{Held}
+use Rattle.rmt_jobs.specs.declared.job.Job.{Job}
+use Rattle.rmt_jobs.specs.declared.job.Job.TheVariants as jobs
+use Rattle.rmt_workers.specs.Desks.{NamedTable, AppendsMerge, AppendsMutate, IsUnmerged, IsUnmutated, logs_of, log_in}
 use Rattle.rmt_workers.specs.Passes.{name_at}
 
 -- a replica, and the place of its table, counted from 0
@@ -40,3 +43,24 @@ pub record IsStand (names : List NamedTable) (replicas : ℕ) (Offered : ℕ →
 -- the replica is as it was, or its copy of the log is longer
 abbrev pub MayLengthen : ReplicaView → ReplicaView → Type 0
 MayLengthen old new = (new ≡ old) ⊎ LengthensCopy old new
+
+-- the replica's copy is the log of its table, unless the replica is down or that log is shorter
+abbrev pub IsPulled : StandView → List Held → StandView → Type 0
+IsPulled old tables new =
+    (new.replica.log ≡ log_in tables old.table)
+    ⊎ ((old.replica.up ≡ false) ⊎ (length (log_in tables old.table) < length old.replica.log))
+
+-- What is done of a job under the locks of all tables and of the replica: the copy is brought to the log's length, or a merge
+-- or a mutate enters the log unless there is a cause why it doesn't. An entry that is to be done is left to do.
+abbrev pub IsBegun : StandView → List Held → Job → StandView → List Held → Type 0
+IsBegun old tables jobs.Idle new now = (new ≡ old) × (now ≡ tables)
+IsBegun old tables jobs.Pull new now = IsPulled old tables new × (logs_of now ≡ logs_of tables)
+IsBegun old tables (jobs.Apply i) new now = (new ≡ old) × (now ≡ tables)
+IsBegun old tables (jobs.Merge names) new now =
+    (new ≡ old)
+    × (AppendsMerge (logs_of tables) old.table names (logs_of now)
+    ⊎ ((now ≡ tables) × IsUnmerged tables old.table old.replica.log names))
+IsBegun old tables (jobs.Mutate part upto) new now =
+    (new ≡ old)
+    × (AppendsMutate (logs_of tables) old.table part upto (logs_of now)
+    ⊎ ((now ≡ tables) × IsUnmutated tables old.table old.replica.log part upto))

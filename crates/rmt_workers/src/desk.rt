@@ -5,18 +5,18 @@ ghost use Rattle.rmt_model.specs.Lawful.{IsPrefix};
 ghost use Rattle.rmt_replica.specs.declared.replica_error.ReplicaError.TheVariants as errors;
 ghost use Rattle.rmt_replica.specs.Replicas.{LengthensCopy, copy_of};
 ghost use Rattle.rmt_statement_model.specs.Books.{ArePrefixesOf, all_clients};
-ghost use Rattle.rmt_workers.specs.Desks.{named, logs_of, log_in, AppendsMerge, AppendsMutate, GainsMerge, GainsMutate};
+ghost use Rattle.rmt_workers.specs.Desks.{named, logs_of, log_in, AppendsMerge, AppendsMutate, GainsMerge, GainsMutate, IsUnmerged, IsUnmutated, RefusesMerge, RefusesMutate};
 ghost use Rattle.rmt_table.specs.TableTrees.{IsCopyOf};
 ghost use Rattle.rmt_events.specs.LogEvents.{AreMergeable};
 ghost use Rattle.rmt_events.specs.LogEvents.{IsMutable};
-ghost use Rattle.rmt_workers.specs.Passes.{AreCopiesOf, IsCopyOfNamed, logs_in, name_at};
+ghost use Rattle.rmt_workers.specs.Passes.{AreCopiesOf, IsCopyOfNamed, IsShorter, logs_in, name_at};
 ghost use Rattle.rmt_workers.specs.Stands.{IsNumber};
 
 use crate::naming::{ClientEntries, Naming};
 use rmt_history::LogCopy;
 use rmt_names::PartName;
 use rmt_replica::{Replica, ReplicaError};
-use rmt_table::{MergeError, MutateError, TableTree, are_mergeable, is_mutable};
+use rmt_table::{TableTree, are_mergeable, is_mutable};
 use std::alloc::{AllocError, Global};
 use std::marker::Model;
 use std::sync::ledger::{Blank, Book, Share};
@@ -72,12 +72,15 @@ fn merge_in(
     ensures sessions { length tree.new.sessions ≡ length tree.old.sessions }
     ensures ok { IfOk result (λ done. MatchBool done
         (GainsMerge tree.old.log sources.now tree.new.log) (tree.new ≡ tree.old)) }
+    ensures refused { IfOk result (λ done. (done ≡ false) → RefusesMerge tree.old (length copy.now.log) sources.now) }
     ensures err { OnErr result (tree.new ≡ tree.old) }
 {
     match tree.assign_merge(alloc, copy, sources) {
         Ok(_token) => Ok(true),
-        Err(MergeError::Memory) => Err(AllocError),
-        Err(_refused) => Ok(false),
+        Err(error) => match error.cause() {
+            Some(_why) => Ok(false),
+            None => Err(AllocError),
+        },
     }
 }
 
@@ -96,12 +99,15 @@ fn mutate_in(
     ensures sessions { length tree.new.sessions ≡ length tree.old.sessions }
     ensures ok { IfOk result (λ done. MatchBool done
         (GainsMutate tree.old.log old.now upto tree.new.log) (tree.new ≡ tree.old)) }
+    ensures refused { IfOk result (λ done. (done ≡ false) → RefusesMutate tree.old (length copy.now.log)) }
     ensures err { OnErr result (tree.new ≡ tree.old) }
 {
     match tree.assign_mutate(alloc, copy, old, upto) {
         Ok(_token) => Ok(true),
-        Err(MutateError::Memory) => Err(AllocError),
-        Err(_refused) => Ok(false),
+        Err(error) => match error.cause() {
+            Some(_why) => Ok(false),
+            None => Err(AllocError),
+        },
     }
 }
 
@@ -149,7 +155,8 @@ impl<N: Naming> Desk<N> {
     /// Whether no copy is longer than the log of its table. Then each is a prefix of it.
     pub fn meet(&self, copies: &[LogCopy]) -> bool
         requires copies { AreCopiesOf N.tables copies.now }
-        ensures { IsTrue result → ArePrefixesOf (logs_in copies.now) (logs_of self.now) }
+        ensures prefixes { IsTrue result → ArePrefixesOf (logs_in copies.now) (logs_of self.now) }
+        ensures shorter { (result ≡ false) → IsShorter (logs_in copies.now) (logs_of self.now) }
     {
         if copies.len() != self.tables.len() {
             return false;
@@ -212,6 +219,7 @@ impl<N: Naming> Desk<N> {
         ensures few { length replica.new.log ≤ 65536 }
         ensures ok { IfOk result (λ met. MatchBool met
             (replica.new.log ≡ log_in self.old table) (replica.new ≡ replica.old)) }
+        ensures shorter { IfOk result (λ met. (met ≡ false) → length (log_in self.old table) < length replica.old.log) }
         ensures down { (result ≡ Err errors.Down) → replica.old.up ≡ false }
     {
         let tree = &mut self.tables[table];
@@ -246,10 +254,14 @@ impl<N: Naming> Desk<N> {
         ensures ok { IfOk result (λ done. MatchBool done
             (AppendsMerge (logs_of self.old) table sources.now (logs_of self.new))
             (self.new ≡ self.old)) }
+        ensures refused { IfOk result (λ done. (done ≡ false) → IsUnmerged self.old table copy.now.log sources.now) }
         ensures err { OnErr result (self.new ≡ self.old) }
     {
         let tree = &mut self.tables[table];
-        if !tree.meet(copy) || !are_mergeable(copy, sources) {
+        if !tree.meet(copy) {
+            return Ok(false);
+        }
+        if !are_mergeable(copy, sources) {
             return Ok(false);
         }
         let done = merge_in(alloc, tree, copy, sources)?;
@@ -272,11 +284,15 @@ impl<N: Naming> Desk<N> {
         ensures ok { IfOk result (λ done. MatchBool done
             (AppendsMutate (logs_of self.old) table old.now upto (logs_of self.new))
             (self.new ≡ self.old)) }
+        ensures refused { IfOk result (λ done. (done ≡ false) → IsUnmutated self.old table copy.now.log old.now upto) }
         ensures err { OnErr result (self.new ≡ self.old) }
     {
         let upto = upto as usize;
         let tree = &mut self.tables[table];
-        if !tree.meet(copy) || !is_mutable(copy, old, upto) {
+        if !tree.meet(copy) {
+            return Ok(false);
+        }
+        if !is_mutable(copy, old, upto) {
             return Ok(false);
         }
         let done = mutate_in(alloc, tree, copy, old, upto)?;

@@ -1,7 +1,7 @@
 ghost use Rattle.std.specs.Prelude.{◌≡◌, ◌<◌, false, ℕ, length, IfOk, IfErr, IsTrue, MatchBool};
 ghost use Rattle.rmt_statement_model.specs.Books.{GainWork, all_clients};
 ghost use Rattle.rmt_workers.specs.Desks.{logs_of, log_in};
-ghost use Rattle.rmt_workers.specs.Passes.{AreCopiesOf, IsCopyOfNamed, SeesAll, SeesWork, logs_in, name_at, seen_log};
+ghost use Rattle.rmt_workers.specs.Passes.{AreCopiesOf, IsCopyOfNamed, IsShorter, SeesAll, SeesWork, logs_in, name_at, seen_log};
 
 use crate::desk::Desk;
 use crate::naming::{ClientEntries, Naming};
@@ -67,6 +67,7 @@ impl<N: Naming> Pass<N> {
         ensures same { self.new ≡ self.old }
         ensures desk { desk.new ≡ desk.old }
         ensures gained { IsTrue result → GainWork self.old (logs_of desk.old) }
+        ensures shorter { (result ≡ false) → IsShorter self.old (logs_of desk.old) }
     {
         desk.audit(&mut self.entries);
         desk.meet(&self.copies)
@@ -80,6 +81,7 @@ impl<N: Naming> Pass<N> {
         requires table { table < length self.old }
         ensures ok { IfOk result (λ met. MatchBool met
             (SeesAll self.old table (log_in desk.old table) self.new) (self.new ≡ self.old)) }
+        ensures shorter { IfOk result (λ met. (met ≡ false) → IsShorter self.old (logs_of desk.old)) }
         ensures err { IfErr result (λ e. SeesWork self.old table self.new) }
         ensures desk { desk.new ≡ desk.old }
     {

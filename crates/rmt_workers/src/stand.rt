@@ -1,9 +1,11 @@
-ghost use Rattle.std.specs.Prelude.{◌≡◌, ◌<◌, length, IfOk, IfSome, MatchBool};
+ghost use Rattle.std.specs.Prelude.{◌≡◌, ◌<◌, ◌⊎◌, false, length, IfOk, OnOk, IfSome, MatchBool};
+ghost use Rattle.std.specs.declared.result.Result.TheVariants.{Err};
+ghost use Rattle.rmt_replica.specs.declared.replica_error.ReplicaError.TheVariants as errors;
 ghost use Rattle.rmt_replica.specs.Replicas.{LengthensCopy};
 ghost use Rattle.rmt_workers.specs.Desks.{logs_of, log_in};
 ghost use Rattle.rmt_statement_model.specs.Books.{GainWork};
 ghost use Rattle.rmt_jobs.specs.Jobs.{IsJob};
-ghost use Rattle.rmt_workers.specs.Stands.{IsStand, IsMadeOf, MayLengthen};
+ghost use Rattle.rmt_workers.specs.Stands.{IsStand, IsBegun, IsMadeOf, IsPulled, MayLengthen};
 ghost use Rattle.rmt_workers.specs.Passes.{name_at};
 ghost use Rattle.rmt_part.specs.CellRows.{IsPartOfRow};
 ghost use Rattle.rmt_replica.specs.Supplies.{supplied};
@@ -87,6 +89,8 @@ impl<N: Naming> Stand<N> {
         ensures longer { LengthensCopy self.old.replica self.new.replica }
         ensures ok { IfOk result (λ met. MatchBool met
             (self.new.replica.log ≡ log_in desk.old self.old.table) (self.new ≡ self.old)) }
+        ensures shorter { IfOk result (λ met. (met ≡ false) → length (log_in desk.old self.old.table) < length self.old.replica.log) }
+        ensures down { (result ≡ Err errors.Down) → self.old.replica.up ≡ false }
     {
         desk.pull(alloc, self.table, &mut self.replica)
     }
@@ -99,6 +103,7 @@ impl<N: Naming> Stand<N> {
     pub fn decide(&mut self, alloc: Global, desk: &mut Desk<N>) -> Result<Job, AllocError>
         requires table { self.old.table < length desk.old }
         ensures job { IfOk result (IsJob self.old.replica (length (log_in desk.old self.old.table))) }
+        ensures begun { IfOk result (λ job. IsBegun self.old desk.old job self.new desk.new) }
         ensures works { GainWork (logs_of desk.old) (logs_of desk.new) }
         ensures table { self.new.table ≡ self.old.table }
         ensures longer { MayLengthen self.old.replica self.new.replica }
@@ -144,6 +149,7 @@ impl<N: Naming> Stand<N> {
     /// At an error no memory was left. The replica's copy may be longer.
     fn begin(&mut self, alloc: Global, desk: &mut Desk<N>, job: &Job) -> Result<(), AllocError>
         requires table { self.old.table < length desk.old }
+        ensures begun { OnOk result (IsBegun self.old desk.old job.now self.new desk.new) }
         ensures works { GainWork (logs_of desk.old) (logs_of desk.new) }
         ensures table { self.new.table ≡ self.old.table }
         ensures longer { MayLengthen self.old.replica self.new.replica }
@@ -166,6 +172,7 @@ impl<N: Naming> Stand<N> {
     /// an error no memory was left, and its copy may be longer.
     fn try_pull(&mut self, alloc: Global, desk: &mut Desk<N>) -> Result<(), AllocError>
         requires table { self.old.table < length desk.old }
+        ensures pulled { OnOk result (IsPulled self.old desk.old self.new) }
         ensures logs { logs_of desk.new ≡ logs_of desk.old }
         ensures table { self.new.table ≡ self.old.table }
         ensures longer { MayLengthen self.old.replica self.new.replica }

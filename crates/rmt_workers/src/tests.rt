@@ -1,15 +1,19 @@
-ghost use Rattle.std.specs.Prelude.{◌≡◌, true, length, IfOk};
+ghost use Rattle.std.specs.Prelude.{◌≡◌, ◌≤◌, ◌<◌, ◌∷◌, [], true, length, IfOk};
 ghost use Rattle.std.specs.List.{All};
 ghost use Rattle.std.specs.Arc.{arc_value};
 ghost use Rattle.rmt_values.specs.Rows.{fits};
 ghost use Rattle.rmt_columns.specs.RowsByColumn.{kinds_in};
 ghost use Rattle.rmt_compact.specs.NewParts.{GetsBlock};
+ghost use Rattle.rmt_workers.specs.Desks.{named};
 
-use rmt_block::Block;
+use super::*;
+use rmt_block::{Block, BlockId};
 use rmt_columns::Rows;
 use rmt_compact::from_block;
 use rmt_entries::Entry;
 use rmt_history::LogCopy;
+use rmt_jobs::Job;
+use rmt_names::{PartName, block_name};
 use rmt_part::Part;
 use rmt_partset::{PartSet, Snapshot};
 use rmt_replica::{Replica, Supply};
@@ -17,6 +21,8 @@ use rmt_row::{PutError, Row, Seen};
 use rmt_table::TableTree;
 use rmt_values::{Column, Kind, Name, Row as ValueRow, Schema, Value};
 use std::alloc::{AllocError, Global};
+use std::marker::Brand;
+use std::sync::ledger::Blank;
 use std::sync::{Arc, Mutex, Wait};
 use std::test::Fail;
 use std::thread::join;
@@ -146,10 +152,125 @@ fn put(row: &Row<Entry>, alloc: Global, number: u32) -> Option<u32> {
 }
 
 /// A table without entries.
-fn table_of(alloc: Global) -> Result<TableTree, Fail> {
+fn table_of(alloc: Global) -> Result<TableTree, Fail>
+    ensures { IfOk result (λ table. length table.sessions ≡ 1) }
+{
     let schema = shared_schema(alloc)?;
     let table = TableTree::new(alloc, schema, 1)?;
     Ok(table)
+}
+
+/// Accepts a block of the only partition that no other block is, at the table's only replica.
+fn accept(alloc: Global, table: &mut TableTree, byte: u8) -> Result<(), Fail>
+    requires { length table.old.sessions ≡ 1 }
+    ensures { length table.new.sessions ≡ 1 }
+{
+    let id = BlockId {
+        partition: None,
+        digest: [byte; 32],
+    };
+    let Ok(lock) = table.allocate(alloc, 1, &id, 0) else {
+        return Err("no number".into());
+    };
+    match table.commit_insert(alloc, &lock, 0, 1) {
+        Ok(_token) => Ok(()),
+        Err(_) => Err("not accepted".into()),
+    }
+}
+
+/// A table of one replica whose log has two blocks.
+fn filled_table(alloc: Global) -> Result<TableTree, Fail>
+    ensures { IfOk result (λ table. length table.sessions ≡ 1) }
+{
+    let mut table = table_of(alloc)?;
+    table.open(alloc, 1)?;
+    accept(alloc, &mut table, 1)?;
+    accept(alloc, &mut table, 2)?;
+    Ok(table)
+}
+
+/// That table, without its blocks.
+fn dropped_table(alloc: Global) -> Result<TableTree, Fail>
+    ensures { IfOk result (λ table. length table.sessions ≡ 1) }
+{
+    let mut table = filled_table(alloc)?;
+    match table.drop_partition(alloc, None) {
+        Ok(Some(_token)) => Ok(table),
+        _ => Err("not dropped".into()),
+    }
+}
+
+/// What comes next at the replica under a lock, and what is done of it under both locks.
+fn decide<N: Naming>(alloc: Global, stand: &mut Stand<N>, desk: &mut Desk<N>) -> Result<Job, Fail> {
+    if stand.table() >= desk.len() {
+        return Err("no table".into());
+    }
+    let job = stand.decide(alloc, desk)?;
+    Ok(job)
+}
+
+/// Does the entry at a place of the replica's copy, which needs no part.
+fn install<N: Naming>(stand: &mut Stand<N>, place: u32) -> Result<(), Fail> {
+    let place = place as usize;
+    if stand.replica().copy().len() <= place {
+        return Err("no entry".into());
+    }
+    match stand.install(place, Supply::Nothing) {
+        Ok(_) => Ok(()),
+        Err(_) => Err("not done".into()),
+    }
+}
+
+/// Has a worker do one thing after the other at a table's only replica, and counts them until nothing comes next.
+fn work<N: Naming>(alloc: Global, table: TableTree, entries: Blank) -> Result<usize, Fail>
+    requires named { named table ∷ [] ≡ N.tables }
+    requires sessions { length table.sessions ≡ N.replicas }
+    requires some { 1 ≤ N.replicas }
+    requires name { entries.name ≡ N.entries_name }
+    requires parts { entries.parts ≡ N.parts }
+    requires whole { 0 < N.parts }
+{
+    let schema = table.schema().clone()?;
+    let replica = Replica::new(alloc, 1, schema, true);
+    let mut stand = Stand::<N>::new(0, replica);
+    let tables = vec![in alloc; table]?;
+    let (mut desk, _all) = Desk::<N>::open(tables, entries);
+    for done in 0..10usize {
+        match decide(alloc, &mut stand, &mut desk)? {
+            Job::Idle => return Ok(done),
+            Job::Apply(place) => install(&mut stand, place)?,
+            _ => {}
+        }
+    }
+    Err("there is always more to do".into())
+}
+
+/// How much of a table's log a client has seen after a merge of its two blocks was asked for.
+fn merge<N: Naming>(alloc: Global, table: TableTree, entries: Blank) -> Result<usize, Fail>
+    requires named { named table ∷ [] ≡ N.tables }
+    requires sessions { length table.sessions ≡ N.replicas }
+    requires name { entries.name ≡ N.entries_name }
+    requires parts { entries.parts ≡ N.parts }
+    requires whole { 0 < N.parts }
+{
+    let schema = table.schema().clone()?;
+    let mut copy = LogCopy::new(alloc, schema);
+    table.extend_copy(&mut copy)?;
+    let tables = vec![in alloc; table]?;
+    let copies = vec![in alloc; copy]?;
+    let (mut desk, all) = Desk::<N>::open(tables, entries);
+    let mut pass = Pass::<N>::new(copies, all);
+    if pass.len() == 0 || desk.len() == 0 {
+        return Err("no table".into());
+    }
+    let names: [PartName; 2] = [block_name(None, 0), block_name(None, 1)];
+    if !desk.assign_merge(alloc, 0, pass.copy(0), &names)? {
+        return Err("not merged".into());
+    }
+    if !pass.extend(&mut desk, 0)? {
+        return Err("the log is shorter".into());
+    }
+    Ok(pass.copy(0).len())
 }
 
 /// How many entries the log of a table has that is under a lock.
@@ -215,5 +336,21 @@ fn a_part_is_handed_to_a_thread(rt: HostRuntime) -> Result<(), Fail> {
     let supply = Supply::Built(part_of(rt.alloc())?);
     let (is_built, _) = join(&rt, move || matches!(supply, Supply::Built(_)), || ());
     assert!(rt; is_built);
+    Ok(())
+}
+
+#[test]
+fn a_worker_does_what_the_log_has(rt: HostRuntime) -> Result<(), Fail> {
+    let table = dropped_table(rt.alloc())?;
+    let done = work::<Brand>(rt.alloc(), table, Blank::new(1))?;
+    assert_eq!(rt; done, 4);
+    Ok(())
+}
+
+#[test]
+fn a_client_sees_the_merge_that_was_asked_for(rt: HostRuntime) -> Result<(), Fail> {
+    let table = filled_table(rt.alloc())?;
+    let seen = merge::<Brand>(rt.alloc(), table, Blank::new(1))?;
+    assert_eq!(rt; seen, 3);
     Ok(())
 }

@@ -1,9 +1,9 @@
-use Rattle.std.proofs.Common.{◌≡◌, ℕ, ◌<◌, List, length, map, get_or, sym, ap, subst, arith, ◌∙◌}
+use Rattle.std.proofs.Common.{rules, ◌≡◌, ℕ, ◌<◌, List, length, map, get_or, sym, ap, subst, arith, ◌∙◌}
 use Rattle.rmt_history.specs.Copies.{History}
 use Rattle.rmt_table_model.specs.Held.{Held}
 use Rattle.rmt_workers.specs.Desks.{NamedTable, named, logs_of}
 use Rattle.rmt_workers.specs.Passes.{IsCopyOfNamed, logs_in, name_at}
-use Rattle.rmt_workers.proofs.NamedLemmas.{map-length, map-get, copy-at, name-of, prefixes-more}
+use Rattle.rmt_workers.proofs.NamedLemmas.{map-length, map-get, copies-length, copy-at, name-of, prefixes-more}
 use Rattle.rmt_workers.proofs.desk.Desk.meet.Goals as goal
 
 -- the copy of a named table is one of the table that is named
@@ -36,3 +36,13 @@ tables-preserved g c =
     let at : c.index.result.now ≡ get_or c.args.self.now i c.index.result.now = c.index.ensures ∙ ap (λ (ts : List Held). get_or ts i c.index.result.now) c.self.view_is in
     let ls = map-get (λ (x : Held). x.log) c.args.self.now i c.index.result.now c.index.result.now.log h ∙ ap (λ (x : Held). x.log) (sym at) in
     (e, prefixes-more (logs_in c.args.copies.now) (logs_of c.args.self.now) i c.index-copies-i.result.log c.index.result.now.log c.tables.invariant.1 hc hl cs ls (c.meet.ensures.of c.if-not-meet.false).prefix)
+
+-- there are as many copies as tables
+pub returns-then-copies-len-clause-shorter : goal.returns-then-copies-len-clause-shorter
+returns-then-copies-len-clause-shorter g c =
+    let m = map-length named c.self.inside.tables.items in
+    let n : length (map named c.self.inside.tables.items) ≡ length g.N.Naming.tables = ap (λ (ns : List NamedTable). length ns) c.self.invariant.are_named in
+    let k = copies-length g.N.Naming.tables c.args.copies.now c.requires.copies in
+    let v : length c.self.inside.tables.items ≡ length c.args.self.now = ap (λ (ts : List Held). length ts) c.self.view_is in
+    let same : length c.args.copies.now ≡ length c.args.self.now = omega (arith, m, n, k, v) in
+    search (rules, same)

@@ -12,6 +12,6 @@ pub returns-clause-gained : goal.returns-clause-gained
 returns-clause-gained g c = λ yes.
     let prefixes : ArePrefixesOf (logs_in c.self.inside.copies.items) (logs_of c.args.desk.now) =
     subst (λ (ts : List Held). ArePrefixesOf (logs_in c.self.inside.copies.items) (logs_of ts)) c.audit.ensures.same
-    (subst (λ (cs : List History). ArePrefixesOf (logs_in cs) (logs_of c.audit.new.self)) c.deref.ensures.value (c.meet.ensures yes)) in
+    (subst (λ (cs : List History). ArePrefixesOf (logs_in cs) (logs_of c.audit.new.self)) c.deref.ensures.value (c.meet.ensures.prefixes yes)) in
     subst (λ (ls : List (List Entry)). GainWork ls (logs_of c.args.desk.now)) c.self.view_is
     (books-tell (logs_in c.self.inside.copies.items) (logs_of c.args.desk.now) prefixes (c.audit.ensures.counted ∙ c.self.invariant.counted))
