@@ -91,6 +91,13 @@ impl Partitions {
         self.numbers.len()
     }
 
+    /// All of them, in order, each with the number that it gives next.
+    pub fn as_slice(&self) -> &[(PartitionId, u32)]
+        ensures { result.now ≡ self.now.numbers }
+    {
+        &self.numbers
+    }
+
     /// The number that a partition gives next; `None` where it doesn't exist.
     pub fn number(&self, partition: PartitionId) -> Option<u32>
         ensures { result ≡ number_among self.now.numbers partition }

@@ -4,7 +4,7 @@ ghost use Rattle.rmt_model.specs.Words.{Has};
 use crate::noted_replicas::has;
 use rmt_names::PartName;
 use rmt_values::ReplicaId;
-use std::alloc::Global;
+use std::alloc::{AllocError, Global};
 use std::marker::Model;
 
 /// The part that waits for its quorum: how many replicas it needs, and those that have noted it, which are fewer, the lowest
@@ -38,6 +38,19 @@ impl PendingPart {
             need,
             noted: Vec::new(alloc),
         }
+    }
+
+    /// Returns a copy. At an error no memory was left.
+    pub(crate) fn copy(&self, alloc: Global) -> Result<PendingPart, AllocError>
+        ensures { IfOk result (λ copy. copy ≡ self.now) }
+    {
+        let noted = Vec::from_slice(alloc, &self.noted)?;
+        let PendingPart { part, need, .. } = self;
+        Ok(PendingPart {
+            part: *part,
+            need: *need,
+            noted,
+        })
     }
 
     /// The part.

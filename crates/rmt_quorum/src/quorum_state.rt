@@ -74,6 +74,18 @@ impl QuorumState {
         self.last
     }
 
+    /// Returns a copy. At an error no memory was left.
+    pub fn copy(&self, alloc: Global) -> Result<QuorumState, AllocError>
+        ensures { IfOk result (λ copy. copy ≡ self.now) }
+    {
+        let pending = match &self.pending {
+            Some(pending) => Some(pending.copy(alloc)?),
+            None => None,
+        };
+        let last = self.last;
+        Ok(QuorumState { pending, last })
+    }
+
     /// A block was accepted, of this part, and needs so many replicas; one that needs fewer than 2 changes nothing. It takes
     /// no memory.
     pub fn open(&mut self, alloc: Global, part: PartName, need: u32)

@@ -26,6 +26,7 @@ use crate::entry_log::EntryLog;
 use crate::layout::new_ops;
 use crate::ops::multi;
 use rmt_inserts::Window;
+use rmt_names::PartitionId;
 use rmt_partitions::Partitions;
 use rmt_quorum::QuorumState;
 use rmt_tree::Tree;
@@ -149,6 +150,20 @@ impl TableTree {
         ensures { result ≡ self.now.values }
     {
         self.values
+    }
+
+    /// The partitions that exist, in order, each with the block number that it gives next. It takes no memory.
+    pub fn next_numbers(&self) -> &[(PartitionId, u32)]
+        ensures { result.now ≡ self.now.next }
+    {
+        self.partitions.as_slice()
+    }
+
+    /// What is kept of quorum inserts. It takes no memory.
+    pub fn quorum_state(&self) -> &QuorumState
+        ensures { result.now ≡ self.now.quorum }
+    {
+        &self.quorum
     }
 
     /// The session of a replica; `None` where it has none.
