@@ -8,7 +8,7 @@ use Rattle.rmt_model.specs.EntryLimits.{client_count}
 use Rattle.rmt_table_model.specs.Held.{Held}
 use Rattle.rmt_statement_model.specs.Books.{GainsWork, GainWork}
 use Rattle.rmt_statement_model.proofs.WorkerEntries.{clients-stay}
-use Rattle.rmt_workers.specs.Desks.{logs_of, GainsMerge, GainsMutate, AppendsMerge, AppendsMutate}
+use Rattle.rmt_workers.specs.SharedTables.{logs_of, GainsMerge, GainsMutate, AppendsMerge, AppendsMutate}
 use Rattle.rmt_workers.proofs.NamedLemmas.{map-length, map-set, log-at}
 
 -- an element in its own place

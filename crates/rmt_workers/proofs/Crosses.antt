@@ -3,8 +3,8 @@
 use denote.RattleType.{RattleType}
 use Rattle.std.proofs.sync.ledger.Book.TheSendSync.{the_send as book_send}
 use Rattle.rmt_workers.specs.declared.naming.Naming.{Ghosts}
-use Rattle.rmt_workers.specs.contracts.desk.Desk as desk
-use Rattle.rmt_workers.specs.contracts.stand.Stand as stand
+use Rattle.rmt_workers.specs.contracts.shared_tables.SharedTables as shared_tables
+use Rattle.rmt_workers.specs.contracts.shared_replica.SharedReplica as shared_replica
 use denote.RattleType.{RattleType}
 use denote.Param.Send.{IsSend, IsSync, sendable}
 use Rattle.std.proofs.Crossing.{crosses}
@@ -188,8 +188,8 @@ supply_send = search (sendable, crosses, part_send, part_sync) depth 30
 
 -- ---- what lies under locks
 
-pub desk_send : (N : RattleType) (g : Ghosts N.Denot) → IsSend (desk.the_row N g)
-desk_send N g = search (sendable, crosses, table_send, book_send) depth 30
+pub shared_tables_send : (N : RattleType) (g : Ghosts N.Denot) → IsSend (shared_tables.the_row N g)
+shared_tables_send N g = search (sendable, crosses, table_send, book_send) depth 30
 
-pub stand_send : (N : RattleType) (g : Ghosts N.Denot) → IsSend (stand.the_row N g)
-stand_send N g = search (sendable, crosses, replica_send) depth 30
+pub shared_replica_send : (N : RattleType) (g : Ghosts N.Denot) → IsSend (shared_replica.the_row N g)
+shared_replica_send N g = search (sendable, crosses, replica_send) depth 30

@@ -26,9 +26,9 @@ use Rattle.rmt_replica.specs.Supplies.{supplied}
 use Rattle.rmt_replica.specs.StagedBlocks.{Staged, number_cmp}
 use Rattle.rmt_replica.specs.Answers.{IsChange, PartsAfter, settled, released}
 use Rattle.rmt_replica.specs.Replicas.{ReplicaView}
-use Rattle.rmt_workers.specs.Desks.{NamedTable}
+use Rattle.rmt_workers.specs.SharedTables.{NamedTable}
 use Rattle.rmt_workers.specs.Passes.{name_at}
-use Rattle.rmt_workers.specs.Stands.{IsStand, HoldsOnly, IsMadeOf}
+use Rattle.rmt_workers.specs.SharedReplicas.{IsSharedReplica, HoldsOnly, IsMadeOf}
 use Rattle.rmt_part.specs.CellRows.{IsPartOfRow}
 use Rattle.rmt_replica.proofs.RowLemmas.{applied-of-row}
 
@@ -96,27 +96,27 @@ module _ (Offered : Block → Type 0) where
   })
 
 -- it stays one of its table
-pub applied-stand : (names : List NamedTable) (replicas : ℕ) (Offered : ℕ → Block → Type 0) (table : ℕ) (old : ReplicaView) (i : ℕ) (supply : Supply) (result : Result Applied ApplyError) (new : ReplicaView) → IsChange old i supply result new → IsStand names replicas Offered (record { table = table; replica = old })
-    → IfSome (supplied supply) (IsPartOfRow (name_at names table).row) → IfSome (supplied supply) (IsMadeOf (Offered table)) → IsStand names replicas Offered (record { table = table; replica = new })
-applied-stand names replicas Offered table old i supply (Err e) new c s row made = subst (λ (r : ReplicaView). IsStand names replicas Offered (record { table = table; replica = r })) (sym c) s
-applied-stand names replicas Offered table old i supply (Ok applied.Already) new c s row made = subst (λ (r : ReplicaView). IsStand names replicas Offered (record { table = table; replica = r })) (sym c) (record {
+pub applied-replica : (names : List NamedTable) (replicas : ℕ) (Offered : ℕ → Block → Type 0) (table : ℕ) (old : ReplicaView) (i : ℕ) (supply : Supply) (result : Result Applied ApplyError) (new : ReplicaView) → IsChange old i supply result new → IsSharedReplica names replicas Offered (record { table = table; replica = old })
+    → IfSome (supplied supply) (IsPartOfRow (name_at names table).row) → IfSome (supplied supply) (IsMadeOf (Offered table)) → IsSharedReplica names replicas Offered (record { table = table; replica = new })
+applied-replica names replicas Offered table old i supply (Err e) new c s row made = subst (λ (r : ReplicaView). IsSharedReplica names replicas Offered (record { table = table; replica = r })) (sym c) s
+applied-replica names replicas Offered table old i supply (Ok applied.Already) new c s row made = subst (λ (r : ReplicaView). IsSharedReplica names replicas Offered (record { table = table; replica = r })) (sym c) (record {
   number = s.number;
   few = s.few;
   schema = s.schema;
   row = record { copy = s.row.copy; parts = s.row.parts };
   blocks = settled-holds (Offered table) old i s.blocks;
 })
-applied-stand names replicas Offered table old i supply (Ok applied.Dropped) new c s row made = subst (λ (r : ReplicaView). IsStand names replicas Offered (record { table = table; replica = r })) (sym c) (record {
+applied-replica names replicas Offered table old i supply (Ok applied.Dropped) new c s row made = subst (λ (r : ReplicaView). IsSharedReplica names replicas Offered (record { table = table; replica = r })) (sym c) (record {
   number = s.number;
   few = s.few;
   schema = s.schema;
   row = record { copy = s.row.copy; parts = s.row.parts };
   blocks = settled-holds (Offered table) old i s.blocks;
 })
-applied-stand names replicas Offered table old i supply (Ok applied.Installed) new c s row made =
+applied-replica names replicas Offered table old i supply (Ok applied.Installed) new c s row made =
     let of = applied-of-row (name_at names table).row old i supply (Ok applied.Installed) new c s.row row in
     let holds = applied-holds (Offered table) old i supply (Ok applied.Installed) new c s.blocks made in
-    subst (λ (r : ReplicaView). IsStand names replicas Offered (record { table = table; replica = r })) (sym c.others) (record {
+    subst (λ (r : ReplicaView). IsSharedReplica names replicas Offered (record { table = table; replica = r })) (sym c.others) (record {
       number = s.number;
       few = s.few;
       schema = s.schema;

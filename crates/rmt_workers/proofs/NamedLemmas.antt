@@ -9,7 +9,7 @@ use Rattle.rmt_table_model.specs.Held.{Held}
 use Rattle.rmt_statement_model.specs.BackgroundWork.{IsOfWorker}
 use Rattle.rmt_statement_model.specs.Books.{ArePrefixesOf, all_clients, GainsWork, GainWork}
 use Rattle.rmt_statement_model.proofs.WorkerEntries.{clients-stay, front-clients}
-use Rattle.rmt_workers.specs.Desks.{NamedTable, named, logs_of, IsDesk}
+use Rattle.rmt_workers.specs.SharedTables.{NamedTable, named, logs_of, AreSharedTables}
 use Rattle.rmt_workers.specs.Passes.{IsCopyOfNamed, AreCopiesOf, name_at}
 
 -- ---- lists
@@ -121,8 +121,8 @@ gained-at (x ∷ copies) [] i c l g h = absurd g
 -- ---- a table in place of another
 
 -- the tables stay those that are named, each with its replicas, and their count stays, where a log gains none of a client
-pub desk-with : (names : List NamedTable) (replicas : ℕ) (tables : List Held) (total k : ℕ) (old new : Held) → IsDesk names replicas tables total → k < length tables → old ≡ get_or tables k old → named new ≡ named old → length new.sessions ≡ length old.sessions → client_count new.log ≡ client_count old.log → IsDesk names replicas (set tables k new) total
-desk-with names replicas tables total k old new d h at same sessions count = record {
+pub tables-with : (names : List NamedTable) (replicas : ℕ) (tables : List Held) (total k : ℕ) (old new : Held) → AreSharedTables names replicas tables total → k < length tables → old ≡ get_or tables k old → named new ≡ named old → length new.sessions ≡ length old.sessions → client_count new.log ≡ client_count old.log → AreSharedTables names replicas (set tables k new) total
+tables-with names replicas tables total k old new d h at same sessions count = record {
   are_named = map-set named tables k new ∙ (set-same named tables k old new h at same ∙ d.are_named);
   sessions = each-set (λ (x : Held). length x.sessions ≡ replicas) tables k old new h at (λ e. sessions ∙ e) d.sessions;
   counted = d.counted ∙ sym all;

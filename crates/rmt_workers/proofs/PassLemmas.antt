@@ -7,7 +7,7 @@ use Rattle.rmt_history.specs.Copies.{History}
 use Rattle.rmt_table_model.specs.Held.{Held}
 use Rattle.rmt_statement_model.specs.Books.{all_clients, GainsWork, GainWork}
 use Rattle.rmt_statement_model.proofs.WorkerEntries.{gained-workers}
-use Rattle.rmt_workers.specs.Desks.{NamedTable, named, logs_of, log_in}
+use Rattle.rmt_workers.specs.SharedTables.{NamedTable, named, logs_of, log_in}
 use Rattle.rmt_workers.specs.Passes.{IsCopyOfNamed, AreCopiesOf, IsPass, SeesWork, SeesAll, logs_in, name_at, seen_log}
 use Rattle.rmt_workers.proofs.NamedLemmas.{map-length, map-get, map-set, copies-set, tables-in, set-clients, between, gained-at}
 

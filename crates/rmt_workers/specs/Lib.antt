@@ -1,4 +1,4 @@
 pub use Rattle.rmt_statement_model.specs.Books
-pub mod Desks
+pub mod SharedTables
 pub mod Passes
-pub mod Stands
+pub mod SharedReplicas

@@ -7,7 +7,7 @@ use Rattle.rmt_model.specs.Words.{Each}
 use Rattle.rmt_history.specs.Copies.{History, IsLogOf}
 use Rattle.rmt_statement_model.specs.BackgroundWork.{IsOfWorker}
 use Rattle.rmt_statement_model.specs.Books.{all_clients}
-use Rattle.rmt_workers.specs.Desks.{NamedTable}
+use Rattle.rmt_workers.specs.SharedTables.{NamedTable}
 
 -- the copy is of the log of this table
 pub record IsCopyOfNamed (name : NamedTable) (copy : History) : Type 0 where

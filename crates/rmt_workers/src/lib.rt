@@ -1,15 +1,15 @@
 //! What threads share: the locks round tables and replicas, and what a client knows of what lies under them.
 #![tactic(auto)]
 
-mod desk;
 mod naming;
 mod pass;
-mod stand;
+mod shared_replica;
+mod shared_tables;
 
-pub use desk::Desk;
 pub use naming::{ClientEntries, Naming};
 pub use pass::Pass;
-pub use stand::Stand;
+pub use shared_replica::SharedReplica;
+pub use shared_tables::SharedTables;
 
 #[cfg(test)]
 mod tests;

@@ -1,6 +1,6 @@
 ghost use Rattle.std.specs.Prelude.{ℕ, List, []};
 ghost use Rattle.rmt_events.specs.Views.{Block};
-ghost use Rattle.rmt_workers.specs.Desks.{NamedTable};
+ghost use Rattle.rmt_workers.specs.SharedTables.{NamedTable};
 
 use std::marker::{Brand, PhantomData};
 use std::sync::ledger::Ledger;

@@ -1,10 +1,10 @@
 ghost use Rattle.std.specs.Prelude.{◌≡◌, ◌<◌, false, ℕ, length, IfOk, IfErr, IsTrue, MatchBool};
 ghost use Rattle.rmt_statement_model.specs.Books.{GainWork, all_clients};
-ghost use Rattle.rmt_workers.specs.Desks.{logs_of, log_in};
+ghost use Rattle.rmt_workers.specs.SharedTables.{logs_of, log_in};
 ghost use Rattle.rmt_workers.specs.Passes.{AreCopiesOf, IsCopyOfNamed, IsShorter, SeesAll, SeesWork, logs_in, name_at, seen_log};
 
-use crate::desk::Desk;
 use crate::naming::{ClientEntries, Naming};
+use crate::shared_tables::SharedTables;
 use rmt_history::LogCopy;
 use std::alloc::AllocError;
 use std::marker::Model;
@@ -63,33 +63,33 @@ impl<N: Naming> Pass<N> {
     }
 
     /// Whether no log is shorter than the client's copy of it. Then each goes on from it by background work alone.
-    pub fn meet(&mut self, desk: &mut Desk<N>) -> bool
+    pub fn meet(&mut self, tables: &mut SharedTables<N>) -> bool
         ensures same { self.new ≡ self.old }
-        ensures desk { desk.new ≡ desk.old }
-        ensures gained { IsTrue result → GainWork self.old (logs_of desk.old) }
-        ensures shorter { (result ≡ false) → IsShorter self.old (logs_of desk.old) }
+        ensures tables { tables.new ≡ tables.old }
+        ensures gained { IsTrue result → GainWork self.old (logs_of tables.old) }
+        ensures shorter { (result ≡ false) → IsShorter self.old (logs_of tables.old) }
     {
-        desk.audit(&mut self.entries);
-        desk.meet(&self.copies)
+        tables.audit(&mut self.entries);
+        tables.meet(&self.copies)
     }
 
     /// Brings the copy of a table's log to the log's length, and tells whether it did: it doesn't where a log is shorter than
     /// the client's copy of it.
     ///
     /// At an error no memory was left, and the client may have seen more of that log.
-    pub fn extend(&mut self, desk: &mut Desk<N>, table: usize) -> Result<bool, AllocError>
+    pub fn extend(&mut self, tables: &mut SharedTables<N>, table: usize) -> Result<bool, AllocError>
         requires table { table < length self.old }
         ensures ok { IfOk result (λ met. MatchBool met
-            (SeesAll self.old table (log_in desk.old table) self.new) (self.new ≡ self.old)) }
-        ensures shorter { IfOk result (λ met. (met ≡ false) → IsShorter self.old (logs_of desk.old)) }
+            (SeesAll self.old table (log_in tables.old table) self.new) (self.new ≡ self.old)) }
+        ensures shorter { IfOk result (λ met. (met ≡ false) → IsShorter self.old (logs_of tables.old)) }
         ensures err { IfErr result (λ e. SeesWork self.old table self.new) }
-        ensures desk { desk.new ≡ desk.old }
+        ensures tables { tables.new ≡ tables.old }
     {
-        if !self.meet(desk) {
+        if !self.meet(tables) {
             return Ok(false);
         }
-        desk.has_named_tables();
-        desk.extend_copy(table, &mut self.copies[table])?;
+        tables.has_named_tables();
+        tables.extend_copy(table, &mut self.copies[table])?;
         Ok(true)
     }
 }

@@ -4,7 +4,7 @@ ghost use Rattle.std.specs.Arc.{arc_value};
 ghost use Rattle.rmt_values.specs.Rows.{fits};
 ghost use Rattle.rmt_columns.specs.RowsByColumn.{kinds_in};
 ghost use Rattle.rmt_compact.specs.NewParts.{GetsBlock};
-ghost use Rattle.rmt_workers.specs.Desks.{named};
+ghost use Rattle.rmt_workers.specs.SharedTables.{named};
 
 use super::*;
 use rmt_block::{Block, BlockId};
@@ -201,21 +201,25 @@ fn dropped_table(alloc: Global) -> Result<TableTree, Fail>
 }
 
 /// What comes next at the replica under a lock, and what is done of it under both locks.
-fn decide<N: Naming>(alloc: Global, stand: &mut Stand<N>, desk: &mut Desk<N>) -> Result<Job, Fail> {
-    if stand.table() >= desk.len() {
+fn decide<N: Naming>(
+    alloc: Global,
+    shared: &mut SharedReplica<N>,
+    tables: &mut SharedTables<N>,
+) -> Result<Job, Fail> {
+    if shared.table() >= tables.len() {
         return Err("no table".into());
     }
-    let job = stand.decide(alloc, desk)?;
+    let job = shared.decide(alloc, tables)?;
     Ok(job)
 }
 
 /// Does the entry at a place of the replica's copy, which needs no part.
-fn install<N: Naming>(stand: &mut Stand<N>, place: u32) -> Result<(), Fail> {
+fn install<N: Naming>(shared: &mut SharedReplica<N>, place: u32) -> Result<(), Fail> {
     let place = place as usize;
-    if stand.replica().copy().len() <= place {
+    if shared.replica().copy().len() <= place {
         return Err("no entry".into());
     }
-    match stand.install(place, Supply::Nothing) {
+    match shared.install(place, Supply::Nothing) {
         Ok(_) => Ok(()),
         Err(_) => Err("not done".into()),
     }
@@ -232,13 +236,13 @@ fn work<N: Naming>(alloc: Global, table: TableTree, entries: Blank) -> Result<us
 {
     let schema = table.schema().clone()?;
     let replica = Replica::new(alloc, 1, schema, true);
-    let mut stand = Stand::<N>::new(0, replica);
+    let mut shared = SharedReplica::<N>::new(0, replica);
     let tables = vec![in alloc; table]?;
-    let (mut desk, _all) = Desk::<N>::open(tables, entries);
+    let (mut tables, _all) = SharedTables::<N>::open(tables, entries);
     for done in 0..10usize {
-        match decide(alloc, &mut stand, &mut desk)? {
+        match decide(alloc, &mut shared, &mut tables)? {
             Job::Idle => return Ok(done),
-            Job::Apply(place) => install(&mut stand, place)?,
+            Job::Apply(place) => install(&mut shared, place)?,
             _ => {}
         }
     }
@@ -258,16 +262,16 @@ fn merge<N: Naming>(alloc: Global, table: TableTree, entries: Blank) -> Result<u
     table.extend_copy(&mut copy)?;
     let tables = vec![in alloc; table]?;
     let copies = vec![in alloc; copy]?;
-    let (mut desk, all) = Desk::<N>::open(tables, entries);
+    let (mut tables, all) = SharedTables::<N>::open(tables, entries);
     let mut pass = Pass::<N>::new(copies, all);
-    if pass.len() == 0 || desk.len() == 0 {
+    if pass.len() == 0 || tables.len() == 0 {
         return Err("no table".into());
     }
     let names: [PartName; 2] = [block_name(None, 0), block_name(None, 1)];
-    if !desk.assign_merge(alloc, 0, pass.copy(0), &names)? {
+    if !tables.assign_merge(alloc, 0, pass.copy(0), &names)? {
         return Err("not merged".into());
     }
-    if !pass.extend(&mut desk, 0)? {
+    if !pass.extend(&mut tables, 0)? {
         return Err("the log is shorter".into());
     }
     Ok(pass.copy(0).len())

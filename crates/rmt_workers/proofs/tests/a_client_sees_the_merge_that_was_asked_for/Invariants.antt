@@ -1,5 +1,5 @@
 use Rattle.std.specs.Prelude.{⊤, [], ◌∷◌, length}
-use Rattle.rmt_workers.specs.Desks.{named}
+use Rattle.rmt_workers.specs.SharedTables.{named}
 use Rattle.rmt_workers.proofs.tests.a_client_sees_the_merge_that_was_asked_for.Given as goal
 
 abbrev pub ghosts-merge : goal.ghosts-merge

@@ -1,5 +1,5 @@
 use Rattle.std.specs.Prelude.{⊤, [], ◌∷◌, length}
-use Rattle.rmt_workers.specs.Desks.{named}
+use Rattle.rmt_workers.specs.SharedTables.{named}
 use Rattle.rmt_workers.proofs.tests.a_worker_does_what_the_log_has.Given as goal
 
 abbrev pub ghosts-work : goal.ghosts-work

@@ -3,7 +3,7 @@ use Rattle.rmt_entries.specs.declared.entry.Entry.{Entry}
 use Rattle.rmt_history.specs.Copies.{History}
 use Rattle.rmt_table_model.specs.Held.{Held}
 use Rattle.rmt_statement_model.specs.Books.{GainWork}
-use Rattle.rmt_workers.specs.Desks.{logs_of, log_in}
+use Rattle.rmt_workers.specs.SharedTables.{logs_of, log_in}
 use Rattle.rmt_workers.specs.Passes.{IsCopyOfNamed, SeesWork, SeesAll, logs_in, name_at}
 use Rattle.rmt_workers.proofs.NamedLemmas.{map-length, copy-at}
 use Rattle.rmt_workers.proofs.PassLemmas.{table-here, prefix-here, sees-more, sees-all, pass-more}
@@ -17,13 +17,13 @@ extend_copy-requires-clause-table g c =
     let m = map-length (λ (x : History). x.log) copies in
     let t : k < length (logs_in copies) = subst (λ (ls : List (List Entry)). k < length ls) (sym logs) c.requires.table in
     let here : k < length copies = omega (arith, m, t) in
-    let gains : GainWork (logs_in copies) (logs_of c.meet.new.desk) =
-    subst (λ (ts : List Held). GainWork (logs_in copies) (logs_of ts)) (sym c.meet.ensures.desk)
-    (subst (λ (ls : List (List Entry)). GainWork ls (logs_of c.args.desk.now)) (sym logs) (c.meet.ensures.gained c.if-not-meet.false)) in
+    let gains : GainWork (logs_in copies) (logs_of c.meet.new.tables) =
+    subst (λ (ts : List Held). GainWork (logs_in copies) (logs_of ts)) (sym c.meet.ensures.tables)
+    (subst (λ (ls : List (List Entry)). GainWork ls (logs_of c.args.tables.now)) (sym logs) (c.meet.ensures.gained c.if-not-meet.false)) in
     let old = c.index_mut.result.now in
     let at = c.index_mut.ensures.value in
     let are = c.has_named_tables.ensures in
-    table-here copies k old here at g.N.Naming.tables c.meet.new.desk are c.self.invariant.copies_of gains
+    table-here copies k old here at g.N.Naming.tables c.meet.new.tables are c.self.invariant.copies_of gains
 
 pub extend_copy-requires-clause-of : goal.extend_copy-requires-clause-of
 extend_copy-requires-clause-of g c =
@@ -33,9 +33,9 @@ extend_copy-requires-clause-of g c =
     let m = map-length (λ (x : History). x.log) copies in
     let t : k < length (logs_in copies) = subst (λ (ls : List (List Entry)). k < length ls) (sym logs) c.requires.table in
     let here : k < length copies = omega (arith, m, t) in
-    let gains : GainWork (logs_in copies) (logs_of c.meet.new.desk) =
-    subst (λ (ts : List Held). GainWork (logs_in copies) (logs_of ts)) (sym c.meet.ensures.desk)
-    (subst (λ (ls : List (List Entry)). GainWork ls (logs_of c.args.desk.now)) (sym logs) (c.meet.ensures.gained c.if-not-meet.false)) in
+    let gains : GainWork (logs_in copies) (logs_of c.meet.new.tables) =
+    subst (λ (ts : List Held). GainWork (logs_in copies) (logs_of ts)) (sym c.meet.ensures.tables)
+    (subst (λ (ls : List (List Entry)). GainWork ls (logs_of c.args.tables.now)) (sym logs) (c.meet.ensures.gained c.if-not-meet.false)) in
     let old = c.index_mut.result.now in
     let at = c.index_mut.ensures.value in
     let are = c.has_named_tables.ensures in
@@ -49,13 +49,13 @@ extend_copy-requires-clause-prefix g c =
     let m = map-length (λ (x : History). x.log) copies in
     let t : k < length (logs_in copies) = subst (λ (ls : List (List Entry)). k < length ls) (sym logs) c.requires.table in
     let here : k < length copies = omega (arith, m, t) in
-    let gains : GainWork (logs_in copies) (logs_of c.meet.new.desk) =
-    subst (λ (ts : List Held). GainWork (logs_in copies) (logs_of ts)) (sym c.meet.ensures.desk)
-    (subst (λ (ls : List (List Entry)). GainWork ls (logs_of c.args.desk.now)) (sym logs) (c.meet.ensures.gained c.if-not-meet.false)) in
+    let gains : GainWork (logs_in copies) (logs_of c.meet.new.tables) =
+    subst (λ (ts : List Held). GainWork (logs_in copies) (logs_of ts)) (sym c.meet.ensures.tables)
+    (subst (λ (ls : List (List Entry)). GainWork ls (logs_of c.args.tables.now)) (sym logs) (c.meet.ensures.gained c.if-not-meet.false)) in
     let old = c.index_mut.result.now in
     let at = c.index_mut.ensures.value in
     let are = c.has_named_tables.ensures in
-    prefix-here copies k old here at g.N.Naming.tables c.meet.new.desk are c.self.invariant.copies_of gains
+    prefix-here copies k old here at g.N.Naming.tables c.meet.new.tables are c.self.invariant.copies_of gains
 
 pub invariant_of-self : goal.invariant_of-self
 invariant_of-self g c =
@@ -65,13 +65,13 @@ invariant_of-self g c =
     let m = map-length (λ (x : History). x.log) copies in
     let t : k < length (logs_in copies) = subst (λ (ls : List (List Entry)). k < length ls) (sym logs) c.requires.table in
     let here : k < length copies = omega (arith, m, t) in
-    let gains : GainWork (logs_in copies) (logs_of c.meet.new.desk) =
-    subst (λ (ts : List Held). GainWork (logs_in copies) (logs_of ts)) (sym c.meet.ensures.desk)
-    (subst (λ (ls : List (List Entry)). GainWork ls (logs_of c.args.desk.now)) (sym logs) (c.meet.ensures.gained c.if-not-meet.false)) in
+    let gains : GainWork (logs_in copies) (logs_of c.meet.new.tables) =
+    subst (λ (ts : List Held). GainWork (logs_in copies) (logs_of ts)) (sym c.meet.ensures.tables)
+    (subst (λ (ls : List (List Entry)). GainWork ls (logs_of c.args.tables.now)) (sym logs) (c.meet.ensures.gained c.if-not-meet.false)) in
     let old = c.index_mut.result.now in
     let at = c.index_mut.ensures.value in
     let are = c.has_named_tables.ensures in
-    pass-more copies k old here at g.N.Naming.tables c.meet.new.desk are c.self.invariant.copies_of gains c.extend_copy.new.copy c.extend_copy.ensures.longer c.extend_copy.ensures.prefix g.N.Naming.parts c.self.inside.entries.parts c.self.inside.entries.amount c.self.invariant c.extend_copy.ensures.of
+    pass-more copies k old here at g.N.Naming.tables c.meet.new.tables are c.self.invariant.copies_of gains c.extend_copy.new.copy c.extend_copy.ensures.longer c.extend_copy.ensures.prefix g.N.Naming.parts c.self.inside.entries.parts c.self.inside.entries.amount c.self.invariant c.extend_copy.ensures.of
 
 pub returns-in_err-extend_copy-clause-err : goal.returns-in_err-extend_copy-clause-err
 returns-in_err-extend_copy-clause-err g c =
@@ -81,13 +81,13 @@ returns-in_err-extend_copy-clause-err g c =
     let m = map-length (λ (x : History). x.log) copies in
     let t : k < length (logs_in copies) = subst (λ (ls : List (List Entry)). k < length ls) (sym logs) c.requires.table in
     let here : k < length copies = omega (arith, m, t) in
-    let gains : GainWork (logs_in copies) (logs_of c.meet.new.desk) =
-    subst (λ (ts : List Held). GainWork (logs_in copies) (logs_of ts)) (sym c.meet.ensures.desk)
-    (subst (λ (ls : List (List Entry)). GainWork ls (logs_of c.args.desk.now)) (sym logs) (c.meet.ensures.gained c.if-not-meet.false)) in
+    let gains : GainWork (logs_in copies) (logs_of c.meet.new.tables) =
+    subst (λ (ts : List Held). GainWork (logs_in copies) (logs_of ts)) (sym c.meet.ensures.tables)
+    (subst (λ (ls : List (List Entry)). GainWork ls (logs_of c.args.tables.now)) (sym logs) (c.meet.ensures.gained c.if-not-meet.false)) in
     let old = c.index_mut.result.now in
     let at = c.index_mut.ensures.value in
     let are = c.has_named_tables.ensures in
-    let sees : SeesWork c.args.self.now k (logs_in (set copies k c.extend_copy.new.copy)) = subst (λ (ls : List (List Entry)). SeesWork ls k (logs_in (set copies k c.extend_copy.new.copy))) logs (sees-more copies k old here at g.N.Naming.tables c.meet.new.desk are c.self.invariant.copies_of gains c.extend_copy.new.copy c.extend_copy.ensures.longer c.extend_copy.ensures.prefix) in
+    let sees : SeesWork c.args.self.now k (logs_in (set copies k c.extend_copy.new.copy)) = subst (λ (ls : List (List Entry)). SeesWork ls k (logs_in (set copies k c.extend_copy.new.copy))) logs (sees-more copies k old here at g.N.Naming.tables c.meet.new.tables are c.self.invariant.copies_of gains c.extend_copy.new.copy c.extend_copy.ensures.longer c.extend_copy.ensures.prefix) in
     grind (arith, sees)
 
 pub invariant_of-self-2 : goal.invariant_of-self-2
@@ -98,13 +98,13 @@ invariant_of-self-2 g c =
     let m = map-length (λ (x : History). x.log) copies in
     let t : k < length (logs_in copies) = subst (λ (ls : List (List Entry)). k < length ls) (sym logs) c.requires.table in
     let here : k < length copies = omega (arith, m, t) in
-    let gains : GainWork (logs_in copies) (logs_of c.meet.new.desk) =
-    subst (λ (ts : List Held). GainWork (logs_in copies) (logs_of ts)) (sym c.meet.ensures.desk)
-    (subst (λ (ls : List (List Entry)). GainWork ls (logs_of c.args.desk.now)) (sym logs) (c.meet.ensures.gained c.if-not-meet.false)) in
+    let gains : GainWork (logs_in copies) (logs_of c.meet.new.tables) =
+    subst (λ (ts : List Held). GainWork (logs_in copies) (logs_of ts)) (sym c.meet.ensures.tables)
+    (subst (λ (ls : List (List Entry)). GainWork ls (logs_of c.args.tables.now)) (sym logs) (c.meet.ensures.gained c.if-not-meet.false)) in
     let old = c.index_mut.result.now in
     let at = c.index_mut.ensures.value in
     let are = c.has_named_tables.ensures in
-    pass-more copies k old here at g.N.Naming.tables c.meet.new.desk are c.self.invariant.copies_of gains c.extend_copy.new.copy c.extend_copy.ensures.longer c.extend_copy.ensures.prefix g.N.Naming.parts c.self.inside.entries.parts c.self.inside.entries.amount c.self.invariant c.extend_copy.ensures.of
+    pass-more copies k old here at g.N.Naming.tables c.meet.new.tables are c.self.invariant.copies_of gains c.extend_copy.new.copy c.extend_copy.ensures.longer c.extend_copy.ensures.prefix g.N.Naming.parts c.self.inside.entries.parts c.self.inside.entries.amount c.self.invariant c.extend_copy.ensures.of
 
 pub returns-clause-ok : goal.returns-clause-ok
 returns-clause-ok g c =
@@ -114,12 +114,12 @@ returns-clause-ok g c =
     let m = map-length (λ (x : History). x.log) copies in
     let t : k < length (logs_in copies) = subst (λ (ls : List (List Entry)). k < length ls) (sym logs) c.requires.table in
     let here : k < length copies = omega (arith, m, t) in
-    let gains : GainWork (logs_in copies) (logs_of c.meet.new.desk) =
-    subst (λ (ts : List Held). GainWork (logs_in copies) (logs_of ts)) (sym c.meet.ensures.desk)
-    (subst (λ (ls : List (List Entry)). GainWork ls (logs_of c.args.desk.now)) (sym logs) (c.meet.ensures.gained c.if-not-meet.false)) in
+    let gains : GainWork (logs_in copies) (logs_of c.meet.new.tables) =
+    subst (λ (ts : List Held). GainWork (logs_in copies) (logs_of ts)) (sym c.meet.ensures.tables)
+    (subst (λ (ls : List (List Entry)). GainWork ls (logs_of c.args.tables.now)) (sym logs) (c.meet.ensures.gained c.if-not-meet.false)) in
     let old = c.index_mut.result.now in
     let at = c.index_mut.ensures.value in
     let are = c.has_named_tables.ensures in
-    subst (λ (ls : List (List Entry)). SeesAll ls k (log_in c.args.desk.now k) (logs_in (set copies k c.extend_copy.new.copy))) logs
-    (subst (λ (ts : List Held). SeesAll (logs_in copies) k (log_in ts k) (logs_in (set copies k c.extend_copy.new.copy))) c.meet.ensures.desk
-    (sees-all copies k old here at g.N.Naming.tables c.meet.new.desk are c.self.invariant.copies_of gains c.extend_copy.new.copy c.extend_copy.ensures.longer c.extend_copy.ensures.prefix c.in_ok-extend_copy.ensures.ok))
+    subst (λ (ls : List (List Entry)). SeesAll ls k (log_in c.args.tables.now k) (logs_in (set copies k c.extend_copy.new.copy))) logs
+    (subst (λ (ts : List Held). SeesAll (logs_in copies) k (log_in ts k) (logs_in (set copies k c.extend_copy.new.copy))) c.meet.ensures.tables
+    (sees-all copies k old here at g.N.Naming.tables c.meet.new.tables are c.self.invariant.copies_of gains c.extend_copy.new.copy c.extend_copy.ensures.longer c.extend_copy.ensures.prefix c.in_ok-extend_copy.ensures.ok))

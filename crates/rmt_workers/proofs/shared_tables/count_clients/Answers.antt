@@ -1,9 +1,9 @@
 use Rattle.std.proofs.Common.{◌<◌, [], length, ap, arith, sym, ◌∙◌}
 use Rattle.rmt_model.specs.EntryLimits.{client_count}
 use Rattle.rmt_table_model.specs.Held.{Held}
-use Rattle.rmt_workers.specs.Desks.{logs_of}
+use Rattle.rmt_workers.specs.SharedTables.{logs_of}
 use Rattle.rmt_workers.proofs.NamedLemmas.{map-length, map-get, clients-to}
-use Rattle.rmt_workers.proofs.desk.count_clients.Goals as goal
+use Rattle.rmt_workers.proofs.shared_tables.count_clients.Goals as goal
 
 pub tables-preserved : goal.tables-preserved
 tables-preserved c =

@@ -1,32 +1,32 @@
 use Rattle.std.proofs.Common.{rules, ◌≡◌, ◌<◌, ◌⊎◌, inl, inr, List, length, set, get_or, sym, subst, ap, ◌∙◌}
 use Rattle.std.specs.Prelude.{MatchBool}
 use Rattle.rmt_table_model.specs.Held.{Held}
-use Rattle.rmt_events.specs.LogEvents.{AreMergeable}
-use Rattle.rmt_workers.specs.Desks.{logs_of, AppendsMerge, IsUnmerged}
-use Rattle.rmt_workers.proofs.NamedLemmas.{desk-with}
-use Rattle.rmt_workers.proofs.AppendLemmas.{merge-count, merge-appends}
-use Rattle.rmt_workers.proofs.desk.Desk.assign_merge.Goals as goal
+use Rattle.rmt_events.specs.LogEvents.{IsMutable}
+use Rattle.rmt_workers.specs.SharedTables.{logs_of, AppendsMutate, IsUnmutated}
+use Rattle.rmt_workers.proofs.NamedLemmas.{tables-with}
+use Rattle.rmt_workers.proofs.AppendLemmas.{mutate-count, mutate-appends}
+use Rattle.rmt_workers.proofs.shared_tables.SharedTables.assign_mutate.Goals as goal
 
 pub invariant_of-self-2 : goal.invariant_of-self-2
 invariant_of-self-2 g c =
     let h = subst (λ (ts : List Held). c.args.table < length ts) (sym c.self.view_is) c.requires.table in
-    desk-with g.N.Naming.tables g.N.Naming.replicas c.self.inside.tables.items c.self.inside.entries.total c.args.table c.index_mut-tree.result.now c.merge_in.new.tree c.self.invariant h c.index_mut-tree.ensures.value
-    c.merge_in.ensures.named c.merge_in.ensures.sessions (merge-count c.in_ok-done.done c.args.sources.now c.index_mut-tree.result.now c.merge_in.new.tree c.in_ok-done.ensures.ok)
+    tables-with g.N.Naming.tables g.N.Naming.replicas c.self.inside.tables.items c.self.inside.entries.total c.args.table c.index_mut-tree.result.now c.mutate_in.new.tree c.self.invariant h c.index_mut-tree.ensures.value
+    c.mutate_in.ensures.named c.mutate_in.ensures.sessions (mutate-count c.in_ok-done.done c.args.old.now c.args.upto c.index_mut-tree.result.now c.mutate_in.new.tree c.in_ok-done.ensures.ok)
 
 pub returns-clause-ok : goal.returns-clause-ok
 returns-clause-ok g c =
     let h = subst (λ (ts : List Held). c.args.table < length ts) (sym c.self.view_is) c.requires.table in
-    subst (λ (ts : List Held). MatchBool c.in_ok-done.done (AppendsMerge (logs_of ts) c.args.table c.args.sources.now (logs_of (set c.self.inside.tables.items c.args.table c.merge_in.new.tree))) (set c.self.inside.tables.items c.args.table c.merge_in.new.tree ≡ ts)) c.self.view_is
-    (merge-appends c.self.inside.tables.items c.args.table c.index_mut-tree.result.now c.merge_in.new.tree h c.index_mut-tree.ensures.value c.in_ok-done.done c.args.sources.now c.in_ok-done.ensures.ok)
+    subst (λ (ts : List Held). MatchBool c.in_ok-done.done (AppendsMutate (logs_of ts) c.args.table c.args.old.now c.args.upto (logs_of (set c.self.inside.tables.items c.args.table c.mutate_in.new.tree))) (set c.self.inside.tables.items c.args.table c.mutate_in.new.tree ≡ ts)) c.self.view_is
+    (mutate-appends c.self.inside.tables.items c.args.table c.index_mut-tree.result.now c.mutate_in.new.tree h c.index_mut-tree.ensures.value c.in_ok-done.done c.args.old.now c.args.upto c.in_ok-done.ensures.ok)
 
 pub returns-then-not-meet-clause-refused : goal.returns-then-not-meet-clause-refused
 returns-then-not-meet-clause-refused g c = λ e.
     let short : length c.index_mut-tree.result.now.log < length c.args.copy.now.log = search rules in
     record { table = c.index_mut-tree.result.now; is = c.index_mut-tree.ensures.value ∙ ap (λ (ts : List Held). get_or ts c.args.table c.index_mut-tree.result.now) c.self.view_is; why = inl short }
 
-pub returns-then-not-are_mergeable-clause-refused : goal.returns-then-not-are_mergeable-clause-refused
-returns-then-not-are_mergeable-clause-refused g c = λ e.
-    let no : AreMergeable c.args.copy.now.log c.args.sources.now → ⊥ = search rules in
+pub returns-then-not-is_mutable-clause-refused : goal.returns-then-not-is_mutable-clause-refused
+returns-then-not-is_mutable-clause-refused g c = λ e.
+    let no : IsMutable c.args.copy.now.log c.args.old.now c.args.upto → ⊥ = search rules in
     record { table = c.index_mut-tree.result.now; is = c.index_mut-tree.ensures.value ∙ ap (λ (ts : List Held). get_or ts c.args.table c.index_mut-tree.result.now) c.self.view_is; why = inr (inl no) }
 
 pub returns-clause-refused : goal.returns-clause-refused

@@ -1,10 +1,10 @@
 use Rattle.std.proofs.Common.{rules, ◌≡◌, ℕ, ◌<◌, List, length, map, get_or, sym, ap, subst, arith, ◌∙◌}
 use Rattle.rmt_history.specs.Copies.{History}
 use Rattle.rmt_table_model.specs.Held.{Held}
-use Rattle.rmt_workers.specs.Desks.{NamedTable, named, logs_of}
+use Rattle.rmt_workers.specs.SharedTables.{NamedTable, named, logs_of}
 use Rattle.rmt_workers.specs.Passes.{IsCopyOfNamed, logs_in, name_at}
 use Rattle.rmt_workers.proofs.NamedLemmas.{map-length, map-get, copies-length, copy-at, name-of, prefixes-more}
-use Rattle.rmt_workers.proofs.desk.Desk.meet.Goals as goal
+use Rattle.rmt_workers.proofs.shared_tables.SharedTables.meet.Goals as goal
 
 -- the copy of a named table is one of the table that is named
 of-table : (names : List NamedTable) (tables : List Held) (i : ℕ) (h : Held) (copy : History) → i < length tables → h ≡ get_or tables i h → map named tables ≡ names → IsCopyOfNamed (name_at names i) copy → IsCopyOfNamed (named h) copy

@@ -3,9 +3,9 @@ use Rattle.rmt_events.specs.Views.{Table}
 use Rattle.rmt_table_model.specs.Held.{Held}
 use Rattle.rmt_table.specs.TableTrees.{table_at}
 use Rattle.rmt_statement_model.specs.Books.{all_clients}
-use Rattle.rmt_workers.specs.Desks.{named, logs_of}
+use Rattle.rmt_workers.specs.SharedTables.{named, logs_of}
 use Rattle.rmt_workers.proofs.NamedLemmas.{map-set, set-same, each-set}
-use Rattle.rmt_workers.proofs.desk.Desk.pull.Goals as goal
+use Rattle.rmt_workers.proofs.shared_tables.SharedTables.pull.Goals as goal
 
 -- the log is as it was
 logs-stay : (tables : List Held) (k : ℕ) (old new : Held) → k < length tables → old ≡ get_or tables k old → table_at new ≡ table_at old → logs_of (set tables k new) ≡ logs_of tables

@@ -32,7 +32,7 @@ log_in tables k = slice_index_or (logs_of tables) k []
 
 -- the tables are those that are named, each has so many replicas, and the book has counted the entries of clients in their
 -- logs
-pub record IsDesk (names : List NamedTable) (replicas : ℕ) (tables : List Held) (total : ℕ) : Type 0 where
+pub record AreSharedTables (names : List NamedTable) (replicas : ℕ) (tables : List Held) (total : ℕ) : Type 0 where
   pub are_named : map named tables ≡ names
   pub sessions : Each (λ h. length h.sessions ≡ replicas) tables
   pub counted : total ≡ all_clients (logs_of tables)

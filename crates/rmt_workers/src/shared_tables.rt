@@ -5,12 +5,12 @@ ghost use Rattle.rmt_model.specs.Lawful.{IsPrefix};
 ghost use Rattle.rmt_replica.specs.declared.replica_error.ReplicaError.TheVariants as errors;
 ghost use Rattle.rmt_replica.specs.Replicas.{LengthensCopy, copy_of};
 ghost use Rattle.rmt_statement_model.specs.Books.{ArePrefixesOf, all_clients};
-ghost use Rattle.rmt_workers.specs.Desks.{named, logs_of, log_in, AppendsMerge, AppendsMutate, GainsMerge, GainsMutate, IsUnmerged, IsUnmutated, RefusesMerge, RefusesMutate};
+ghost use Rattle.rmt_workers.specs.SharedTables.{named, logs_of, log_in, AppendsMerge, AppendsMutate, GainsMerge, GainsMutate, IsUnmerged, IsUnmutated, RefusesMerge, RefusesMutate};
 ghost use Rattle.rmt_table.specs.TableTrees.{IsCopyOf};
 ghost use Rattle.rmt_events.specs.LogEvents.{AreMergeable};
 ghost use Rattle.rmt_events.specs.LogEvents.{IsMutable};
 ghost use Rattle.rmt_workers.specs.Passes.{AreCopiesOf, IsCopyOfNamed, IsShorter, logs_in, name_at};
-ghost use Rattle.rmt_workers.specs.Stands.{IsNumber};
+ghost use Rattle.rmt_workers.specs.SharedReplicas.{IsNumber};
 
 use crate::naming::{ClientEntries, Naming};
 use rmt_history::LogCopy;
@@ -24,15 +24,15 @@ use std::sync::ledger::{Blank, Book, Share};
 /// What lies under the lock of all tables: the tables, in the order in which they were created, and the book in which their
 /// entries of clients are counted. Contracts see the tables.
 #[derive(Drop)]
-pub struct Desk<N: Naming> {
+pub struct SharedTables<N: Naming> {
     tables: Vec<TableTree>,
     entries: Book<ClientEntries<N>>,
 }
 
-impl<N: Naming> Model for Desk<N> {
+impl<N: Naming> Model for SharedTables<N> {
     ghost use Rattle.std.specs.Prelude.{List};
     ghost use Rattle.rmt_table_model.specs.Held.{Held};
-    ghost use Rattle.rmt_workers.specs.Desks.{IsDesk};
+    ghost use Rattle.rmt_workers.specs.SharedTables.{AreSharedTables};
     ghost use Rattle.std.specs.Coded.{codes};
     ghost use Rattle.rmt_values.specs.contracts.checked.Checked as filter;
     ghost use Rattle.rmt_tree.specs.Trees.{tree_code};
@@ -43,7 +43,7 @@ impl<N: Naming> Model for Desk<N> {
 
     ghost view = { λ d. d.tables.items };
 
-    ghost invariant = { λ d. IsDesk N.tables N.replicas d.tables.items d.entries.total };
+    ghost invariant = { λ d. AreSharedTables N.tables N.replicas d.tables.items d.entries.total };
 }
 
 /// How many entries of clients the logs of tables have.
@@ -111,9 +111,12 @@ fn mutate_in(
     }
 }
 
-impl<N: Naming> Desk<N> {
+impl<N: Naming> SharedTables<N> {
     /// The tables under a new book, and the share of it that has all parts and the count of their entries of clients.
-    pub fn open(tables: Vec<TableTree>, entries: Blank) -> (Desk<N>, Share<ClientEntries<N>>)
+    pub fn open(
+        tables: Vec<TableTree>,
+        entries: Blank,
+    ) -> (SharedTables<N>, Share<ClientEntries<N>>)
         requires named { map named tables.items ≡ N.tables }
         requires sessions { Each (λ h. length h.sessions ≡ N.replicas) tables.items }
         requires few { length tables.items < 2 ^ 32 }
@@ -127,14 +130,14 @@ impl<N: Naming> Desk<N> {
         let count = count_clients(&tables);
         let (mut entries, mut all) = entries.open::<ClientEntries<N>>();
         entries.add(&mut all, count);
-        (Desk { tables, entries }, all)
+        (SharedTables { tables, entries }, all)
     }
 
     /// The tables.
     pub fn into_tables(self) -> Vec<TableTree>
         ensures { result.items ≡ self }
     {
-        let Desk { tables, .. } = self;
+        let SharedTables { tables, .. } = self;
         tables
     }
 

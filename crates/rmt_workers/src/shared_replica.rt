@@ -2,17 +2,17 @@ ghost use Rattle.std.specs.Prelude.{◌≡◌, ◌<◌, ◌⊎◌, false, length
 ghost use Rattle.std.specs.declared.result.Result.TheVariants.{Err};
 ghost use Rattle.rmt_replica.specs.declared.replica_error.ReplicaError.TheVariants as errors;
 ghost use Rattle.rmt_replica.specs.Replicas.{LengthensCopy};
-ghost use Rattle.rmt_workers.specs.Desks.{logs_of, log_in};
+ghost use Rattle.rmt_workers.specs.SharedTables.{logs_of, log_in};
 ghost use Rattle.rmt_statement_model.specs.Books.{GainWork};
 ghost use Rattle.rmt_jobs.specs.Jobs.{IsJob};
-ghost use Rattle.rmt_workers.specs.Stands.{IsStand, IsBegun, IsMadeOf, IsPulled, MayLengthen};
+ghost use Rattle.rmt_workers.specs.SharedReplicas.{IsSharedReplica, IsBegun, IsMadeOf, IsPulled, MayLengthen};
 ghost use Rattle.rmt_workers.specs.Passes.{name_at};
 ghost use Rattle.rmt_part.specs.CellRows.{IsPartOfRow};
 ghost use Rattle.rmt_replica.specs.Supplies.{supplied};
 ghost use Rattle.rmt_replica.specs.Answers.{IsAnswer, IsChange, IsOfTable};
 
-use crate::desk::Desk;
 use crate::naming::Naming;
+use crate::shared_tables::SharedTables;
 use rmt_jobs::{Job, next_job};
 use rmt_replica::{Applied, ApplyError, Replica, ReplicaError, Supply};
 use std::alloc::{AllocError, Global};
@@ -20,33 +20,33 @@ use std::marker::{Model, PhantomData};
 
 /// What lies under a replica's lock: the replica, and the place of its table. Contracts see both.
 #[derive(Drop)]
-pub struct Stand<N: Naming> {
+pub struct SharedReplica<N: Naming> {
     table: usize,
     replica: Replica,
     of: PhantomData<N>,
 }
 
-impl<N: Naming> Model for Stand<N> {
-    ghost use Rattle.rmt_workers.specs.Stands.{StandView, IsStand};
+impl<N: Naming> Model for SharedReplica<N> {
+    ghost use Rattle.rmt_workers.specs.SharedReplicas.{SharedReplicaView, IsSharedReplica};
     ghost use Rattle.std.specs.Coded.{codes};
     ghost use Rattle.rmt_values.specs.contracts.checked.Checked as filter;
 
-    ghost Value = { StandView };
+    ghost Value = { SharedReplicaView };
 
     ghost coded = { Prim.hlevel (codes, filter.the_row.coded) };
 
     ghost view = { λ s. record { table = s.table; replica = s.replica } };
 
-    ghost invariant = { λ s. IsStand N.tables N.replicas N.offered (record { table = s.table; replica = s.replica }) };
+    ghost invariant = { λ s. IsSharedReplica N.tables N.replicas N.offered (record { table = s.table; replica = s.replica }) };
 }
 
-impl<N: Naming> Stand<N> {
+impl<N: Naming> SharedReplica<N> {
     /// A replica of the table at a place, counted from 0.
-    pub fn new(table: usize, replica: Replica) -> Stand<N>
-        requires { IsStand N.tables N.replicas N.offered (record { table = table; replica = replica }) }
+    pub fn new(table: usize, replica: Replica) -> SharedReplica<N>
+        requires { IsSharedReplica N.tables N.replicas N.offered (record { table = table; replica = replica }) }
         ensures { result ≡ record { table = table; replica = replica } }
     {
-        Stand {
+        SharedReplica {
             table,
             replica,
             of: PhantomData,
@@ -63,7 +63,7 @@ impl<N: Naming> Stand<N> {
     /// The replica.
     pub fn replica(&self) -> &Replica
         ensures same { result.now ≡ self.now.replica }
-        ensures stand { IsStand N.tables N.replicas N.offered self.now }
+        ensures shared { IsSharedReplica N.tables N.replicas N.offered self.now }
     {
         &self.replica
     }
@@ -72,7 +72,7 @@ impl<N: Naming> Stand<N> {
     pub fn into_replica(self) -> Replica
         ensures { result ≡ self.replica }
     {
-        let Stand { replica, .. } = self;
+        let SharedReplica { replica, .. } = self;
         replica
     }
 
@@ -82,17 +82,21 @@ impl<N: Naming> Stand<N> {
     /// # Errors
     ///
     /// Down where the replica isn't up. Out of memory: its copy may be longer.
-    pub fn pull(&mut self, alloc: Global, desk: &mut Desk<N>) -> Result<bool, ReplicaError>
-        requires table { self.old.table < length desk.old }
-        ensures logs { logs_of desk.new ≡ logs_of desk.old }
+    pub fn pull(
+        &mut self,
+        alloc: Global,
+        tables: &mut SharedTables<N>,
+    ) -> Result<bool, ReplicaError>
+        requires table { self.old.table < length tables.old }
+        ensures logs { logs_of tables.new ≡ logs_of tables.old }
         ensures table { self.new.table ≡ self.old.table }
         ensures longer { LengthensCopy self.old.replica self.new.replica }
         ensures ok { IfOk result (λ met. MatchBool met
-            (self.new.replica.log ≡ log_in desk.old self.old.table) (self.new ≡ self.old)) }
-        ensures shorter { IfOk result (λ met. (met ≡ false) → length (log_in desk.old self.old.table) < length self.old.replica.log) }
+            (self.new.replica.log ≡ log_in tables.old self.old.table) (self.new ≡ self.old)) }
+        ensures shorter { IfOk result (λ met. (met ≡ false) → length (log_in tables.old self.old.table) < length self.old.replica.log) }
         ensures down { (result ≡ Err errors.Down) → self.old.replica.up ≡ false }
     {
-        desk.pull(alloc, self.table, &mut self.replica)
+        tables.pull(alloc, self.table, &mut self.replica)
     }
 
     /// Decides what background work comes next at the replica, and does of it what is done under both locks: its copy of the
@@ -100,17 +104,17 @@ impl<N: Naming> Stand<N> {
     /// is to be done is left to do.
     ///
     /// At an error no memory was left. The replica's copy may be longer.
-    pub fn decide(&mut self, alloc: Global, desk: &mut Desk<N>) -> Result<Job, AllocError>
-        requires table { self.old.table < length desk.old }
-        ensures job { IfOk result (IsJob self.old.replica (length (log_in desk.old self.old.table))) }
-        ensures begun { IfOk result (λ job. IsBegun self.old desk.old job self.new desk.new) }
-        ensures works { GainWork (logs_of desk.old) (logs_of desk.new) }
+    pub fn decide(&mut self, alloc: Global, tables: &mut SharedTables<N>) -> Result<Job, AllocError>
+        requires table { self.old.table < length tables.old }
+        ensures job { IfOk result (IsJob self.old.replica (length (log_in tables.old self.old.table))) }
+        ensures begun { IfOk result (λ job. IsBegun self.old tables.old job self.new tables.new) }
+        ensures works { GainWork (logs_of tables.old) (logs_of tables.new) }
         ensures table { self.new.table ≡ self.old.table }
         ensures longer { MayLengthen self.old.replica self.new.replica }
     {
-        let len = desk.log_len(self.table);
+        let len = tables.log_len(self.table);
         let job = next_job(alloc, &self.replica, len)?;
-        self.begin(alloc, desk, &job)?;
+        self.begin(alloc, tables, &job)?;
         Ok(job)
     }
 
@@ -147,21 +151,26 @@ impl<N: Naming> Stand<N> {
     /// Does of a job that comes next at the replica what is done under both locks.
     ///
     /// At an error no memory was left. The replica's copy may be longer.
-    fn begin(&mut self, alloc: Global, desk: &mut Desk<N>, job: &Job) -> Result<(), AllocError>
-        requires table { self.old.table < length desk.old }
-        ensures begun { OnOk result (IsBegun self.old desk.old job.now self.new desk.new) }
-        ensures works { GainWork (logs_of desk.old) (logs_of desk.new) }
+    fn begin(
+        &mut self,
+        alloc: Global,
+        tables: &mut SharedTables<N>,
+        job: &Job,
+    ) -> Result<(), AllocError>
+        requires table { self.old.table < length tables.old }
+        ensures begun { OnOk result (IsBegun self.old tables.old job.now self.new tables.new) }
+        ensures works { GainWork (logs_of tables.old) (logs_of tables.new) }
         ensures table { self.new.table ≡ self.old.table }
         ensures longer { MayLengthen self.old.replica self.new.replica }
     {
         match job {
-            Job::Pull => self.try_pull(alloc, desk),
+            Job::Pull => self.try_pull(alloc, tables),
             Job::Merge(names) => {
-                desk.assign_merge(alloc, self.table, self.replica.copy(), names.as_slice())?;
+                tables.assign_merge(alloc, self.table, self.replica.copy(), names.as_slice())?;
                 Ok(())
             }
             Job::Mutate { old, upto } => {
-                desk.assign_mutate(alloc, self.table, self.replica.copy(), old, *upto)?;
+                tables.assign_mutate(alloc, self.table, self.replica.copy(), old, *upto)?;
                 Ok(())
             }
             Job::Apply(_) | Job::Idle => Ok(()),
@@ -170,14 +179,14 @@ impl<N: Naming> Stand<N> {
 
     /// Brings the replica's copy of its table's log to the log's length, where the replica is up and the log isn't shorter. At
     /// an error no memory was left, and its copy may be longer.
-    fn try_pull(&mut self, alloc: Global, desk: &mut Desk<N>) -> Result<(), AllocError>
-        requires table { self.old.table < length desk.old }
-        ensures pulled { OnOk result (IsPulled self.old desk.old self.new) }
-        ensures logs { logs_of desk.new ≡ logs_of desk.old }
+    fn try_pull(&mut self, alloc: Global, tables: &mut SharedTables<N>) -> Result<(), AllocError>
+        requires table { self.old.table < length tables.old }
+        ensures pulled { OnOk result (IsPulled self.old tables.old self.new) }
+        ensures logs { logs_of tables.new ≡ logs_of tables.old }
         ensures table { self.new.table ≡ self.old.table }
         ensures longer { MayLengthen self.old.replica self.new.replica }
     {
-        match self.pull(alloc, desk) {
+        match self.pull(alloc, tables) {
             Ok(_) | Err(ReplicaError::Down) => Ok(()),
             Err(ReplicaError::Memory) => Err(AllocError),
         }

@@ -10,11 +10,11 @@ use Rattle.rmt_replica.specs.ReplicaRows.{IsReplicaOfRow}
 use Rattle.rmt_table_model.specs.Held.{Held}
 use Rattle.rmt_jobs.specs.declared.job.Job.{Job}
 use Rattle.rmt_jobs.specs.declared.job.Job.TheVariants as jobs
-use Rattle.rmt_workers.specs.Desks.{NamedTable, AppendsMerge, AppendsMutate, IsUnmerged, IsUnmutated, logs_of, log_in}
+use Rattle.rmt_workers.specs.SharedTables.{NamedTable, AppendsMerge, AppendsMutate, IsUnmerged, IsUnmutated, logs_of, log_in}
 use Rattle.rmt_workers.specs.Passes.{name_at}
 
 -- a replica, and the place of its table, counted from 0
-pub record StandView : Type 0 where
+pub record SharedReplicaView : Type 0 where
   pub table : ℕ
   pub replica : ReplicaView
 
@@ -33,7 +33,7 @@ pub record HoldsOnly (Offered : Block → Type 0) (r : ReplicaView) : Type 0 whe
   pub parts : Each (IsMadeOf Offered) r.parts
 
 -- the replica is one of so many of a named table, with tokens of its cells, and it holds only blocks that are offered to it
-pub record IsStand (names : List NamedTable) (replicas : ℕ) (Offered : ℕ → Block → Type 0) (s : StandView) : Type 0 where
+pub record IsSharedReplica (names : List NamedTable) (replicas : ℕ) (Offered : ℕ → Block → Type 0) (s : SharedReplicaView) : Type 0 where
   pub number : IsNumber s.replica.number replicas
   pub few : length s.replica.log ≤ 65536
   pub schema : s.replica.schema ≡ (name_at names s.table).schema
@@ -45,14 +45,14 @@ abbrev pub MayLengthen : ReplicaView → ReplicaView → Type 0
 MayLengthen old new = (new ≡ old) ⊎ LengthensCopy old new
 
 -- the replica's copy is the log of its table, unless the replica is down or that log is shorter
-abbrev pub IsPulled : StandView → List Held → StandView → Type 0
+abbrev pub IsPulled : SharedReplicaView → List Held → SharedReplicaView → Type 0
 IsPulled old tables new =
     (new.replica.log ≡ log_in tables old.table)
     ⊎ ((old.replica.up ≡ false) ⊎ (length (log_in tables old.table) < length old.replica.log))
 
 -- What is done of a job under the locks of all tables and of the replica: the copy is brought to the log's length, or a merge
 -- or a mutate enters the log unless there is a cause why it doesn't. An entry that is to be done is left to do.
-abbrev pub IsBegun : StandView → List Held → Job → StandView → List Held → Type 0
+abbrev pub IsBegun : SharedReplicaView → List Held → Job → SharedReplicaView → List Held → Type 0
 IsBegun old tables jobs.Idle new now = (new ≡ old) × (now ≡ tables)
 IsBegun old tables jobs.Pull new now = IsPulled old tables new × (logs_of now ≡ logs_of tables)
 IsBegun old tables (jobs.Apply i) new now = (new ≡ old) × (now ≡ tables)
