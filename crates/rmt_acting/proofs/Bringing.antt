@@ -19,7 +19,8 @@ use Rattle.rmt_acts.specs.Syncing.{SyncsReplica}
 use Rattle.rmt_acts.specs.Waiting.{WaitsTo}
 use Rattle.rmt_acting.specs.Stepped.{seen_of}
 use Rattle.rmt_events.specs.ClusterChanges.{KeepsTable}
-use Rattle.rmt_acting.specs.Acting.{KeepsShape, GoesOn, TurnsReplica, Brings, SyncsOr, MutatesOr, DropsOr, WaitsOr, ReadsParts, ReadsQuorum}
+use Rattle.rmt_acting.specs.Acting.{KeepsShape, GoesOn, TurnsReplica, Brings}
+use Rattle.rmt_statement_model.specs.ActOutcomes.{SyncsOr, MutatesOr, DropsOr, WaitsOr, ReadsParts, ReadsQuorum}
 
 -- without workers nothing rests
 pub brings : (s u : Cluster) (Change : TableState → TableState → Type 0) → ((t : TableState) → Shows s t → Leads u (Change t)) → Brings (seen_of s) Change (seen_of u)

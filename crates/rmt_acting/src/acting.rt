@@ -40,22 +40,8 @@ ghost use Rattle.rmt_acts.specs.StatementEvents.{
   WaitEvents,
 };
 ghost use Rattle.rmt_acts.specs.Checking.{AreDigests};
-ghost use Rattle.rmt_acting.specs.Acting.{
-  Sight,
-  MayAct,
-  KeepsShape,
-  GoesOn,
-  Leaves,
-  TurnsReplica,
-  Brings,
-  Stays,
-  SyncsOr,
-  MutatesOr,
-  DropsOr,
-  WaitsOr,
-  ReadsParts,
-  ReadsQuorum,
-};
+ghost use Rattle.rmt_acting.specs.Acting.{Sight, MayAct, KeepsShape, GoesOn, Leaves, TurnsReplica, Brings, Stays};
+ghost use Rattle.rmt_statement_model.specs.ActOutcomes.{SyncsOr, MutatesOr, DropsOr, WaitsOr, ReadsParts, ReadsQuorum};
 
 use rmt_acts::{Insertion, Optimization};
 use rmt_block::Block;

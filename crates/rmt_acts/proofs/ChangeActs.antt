@@ -29,7 +29,8 @@ use Rattle.rmt_statement_model.proofs.UpLaws.{up-step}
 use Rattle.rmt_statement_model.proofs.AttemptSteps.{HasWholeLog, IsApplied, quiet-shows, pulled, applied-shows}
 use Rattle.rmt_statement_model.proofs.DropEntries.{next-shown, newest, newest-place, drop-shows}
 use Rattle.rmt_statement_model.proofs.DropRows.{drop-applied, dropped-at, drop-nothing-row}
-use Rattle.rmt_acts.specs.Changing.{DropsSome, IsNumberAt, HasDropAt, HasDrop, DoesDrop}
+use Rattle.rmt_acts.specs.Changing.{IsNumberAt, HasDropAt, HasDrop, DoesDrop}
+use Rattle.rmt_statement_model.specs.ActOutcomes.{DropsSome}
 
 -- what follows where all went well
 pub on-ok : {A E : Type 0} (r : Result A E) (P Q : Type 0) → (P → Q) → OnOk r P → OnOk r Q

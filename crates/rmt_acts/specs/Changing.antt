@@ -1,5 +1,5 @@
 -- What mutations and drops come to. No public clause but those of `mutate` and `drop_partition` cites this module.
-use Rattle.std.specs.Prelude.{◌≡◌, ◌⊎◌, ℕ, List}
+use Rattle.std.specs.Prelude.{◌≡◌, ℕ, List}
 use Rattle.std.specs.declared.option.Option.{Option}
 use Rattle.std.specs.declared.option.Option.TheVariants.{Some}
 use Rattle.std.specs.declared.result.Result.{Result}
@@ -12,17 +12,14 @@ use Rattle.rmt_events.specs.Clusters.{Cluster}
 use Rattle.rmt_reply.specs.declared.refusal.Refusal.{Refusal}
 use Rattle.rmt_statement_model.specs.TableStates.{TableState, learned}
 use Rattle.rmt_statement_model.specs.Mutations.{Mutates, LacksMutation}
-use Rattle.rmt_statement_model.specs.Drops.{Drops, DropsNothing, LacksDrop}
+use Rattle.rmt_statement_model.specs.Drops.{LacksDrop}
+use Rattle.rmt_statement_model.specs.ActOutcomes.{DropsSome}
 use Rattle.rmt_statement_model.specs.Shows.{Shows, Leads}
 
 -- what a mutation comes to, whatever state the cluster shows: its id, or a refusal
 abbrev pub MutatesTo : Cluster → CheckedMutation → Result ℕ Refusal → Cluster → Type 0
 MutatesTo s command (Ok id) u = (t : TableState) → Shows s t → Leads u (Mutates t command id)
 MutatesTo s command (Err refusal) u = (t : TableState) → Shows s t → Leads u (LacksMutation t refusal)
-
--- a drop of a partition that exists, or of one that doesn't
-abbrev pub DropsSome : TableState → ℕ → Option ℕ → ℕ → TableState → Type 0
-DropsSome t r p below u = Drops t r p below u ⊎ DropsNothing t p below u
 
 -- what a drop comes to, whatever state the cluster shows: the number below which blocks are dropped, or a refusal
 abbrev pub DropsTo : Cluster → ℕ → Option ℕ → Result ℕ Refusal → Cluster → Type 0

@@ -26,7 +26,8 @@ use Rattle.rmt_statement_model.specs.TableStates.{TableState, data_at, plain_row
 use Rattle.rmt_statement_model.specs.Inserts.{Asked, asked_at, InsertsAll}
 use Rattle.rmt_statement_model.specs.Reads.{KnowsAll}
 use Rattle.rmt_statement_model.proofs.ReadLaws.{synced-knows}
-use Rattle.rmt_acting.specs.Acting.{Sight, Brings, Stays, SyncsOr}
+use Rattle.rmt_acting.specs.Acting.{Sight, Brings, Stays}
+use Rattle.rmt_statement_model.specs.ActOutcomes.{SyncsOr}
 use Rattle.rmt_statements.specs.declared.act.Act.TheVariants as acts
 use Rattle.rmt_statements.specs.declared.insert.Insert.{Insert}
 use Rattle.rmt_reply.specs.declared.line.Line.{Line}

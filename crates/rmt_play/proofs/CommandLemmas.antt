@@ -22,7 +22,7 @@ use Rattle.rmt_statements.specs.Partitions.{partition_named}
 use Rattle.rmt_statement_model.specs.TableStates.{TableState, shown_at, with_switch}
 use Rattle.rmt_statement_model.specs.Rests.{Runs}
 use Rattle.rmt_statement_model.specs.Optimizes.{OptimizesTable}
-use Rattle.rmt_acts.specs.Changing.{DropsSome}
+use Rattle.rmt_statement_model.specs.ActOutcomes.{DropsSome}
 use Rattle.rmt_reply.specs.declared.line.Line.{Line}
 use Rattle.rmt_reply.specs.declared.line.Line.TheVariants as lines
 use Rattle.rmt_reply.specs.declared.refusal.Refusal.{Refusal}
@@ -36,7 +36,8 @@ use Rattle.rmt_events.specs.declared.event.Event.TheVariants as ev
 use Rattle.rmt_acts.specs.StatementEvents.{Makes, SyncEvents, DropEvents, OptimizeEvents, WaitEvents}
 use Rattle.rmt_play.specs.Acts.{Acts}
 use Rattle.rmt_play.specs.ActEvents.{ActEvents}
-use Rattle.rmt_acting.specs.Acting.{Sight, Brings, SyncsOr, WaitsOr, ReadsParts}
+use Rattle.rmt_acting.specs.Acting.{Sight, Brings}
+use Rattle.rmt_statement_model.specs.ActOutcomes.{SyncsOr, WaitsOr, ReadsParts}
 use Rattle.rmt_play.specs.RunStatement.{RunsTurns}
 use Rattle.rmt_play.specs.ActSteps.{DoesAct, Declines, refusal_there, ExecutesAct, ExecutesIn, RunsTable, switch_act}
 use Rattle.rmt_play.proofs.SightLemmas.{IsKnown, brings-on, brings-none}

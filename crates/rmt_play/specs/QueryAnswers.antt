@@ -10,7 +10,7 @@ use Rattle.rmt_query.specs.Explained.{AreExplained}
 use Rattle.rmt_statement_model.specs.TableStates.{TableState}
 use Rattle.rmt_reply.specs.declared.line.Line.{Line}
 use Rattle.rmt_reply.specs.declared.line.Line.TheVariants as lines
-use Rattle.rmt_acting.specs.Acting.{ReadsParts, ReadsInQuorum, MeetsNone}
+use Rattle.rmt_statement_model.specs.ActOutcomes.{ReadsParts, ReadsInQuorum, MeetsNone}
 
 -- the names of parts that are read at the replica, and the answer over their rows
 pub record Selects (schema : Shape) (r : ℕ) (query : CheckedQuery) (names : List Name) (rows : List (List Cell)) (t u : TableState) : Type 0 where

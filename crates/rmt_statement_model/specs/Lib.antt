@@ -10,6 +10,7 @@ pub mod Mutations
 pub mod Drops
 pub mod Optimizes
 pub mod Waits
+pub mod ActOutcomes
 pub mod Shows
 pub mod Attempts
 pub mod Gathered

@@ -2,3 +2,4 @@ pub mod Crosses
 pub mod Counting
 pub mod Moves
 pub mod Gathering
+pub mod Serving

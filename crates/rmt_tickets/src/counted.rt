@@ -1,11 +1,11 @@
 ghost use Rattle.std.specs.Prelude.{◌≡◌, ◌≢◌, ◌<◌, ◌-◌, [], true, ℕ, MatchOption, IsTrue, IsFalse};
 ghost use Rattle.crossbeam_queue.specs.Passes.{view, IsPassOf, IsSamePass};
 ghost use Rattle.rmt_tickets.specs.declared.ticket.Ticket.{Ticket};
-ghost use Rattle.rmt_tickets.specs.Tickets.{hand, hand_that_put, hand_that_took, in_range, times, count_of, LAST, HasLast, HasRoom};
+ghost use Rattle.rmt_tickets.specs.Tickets.{moves, with_put, with_taken, in_range, times, count_of, LAST, HasLast, HasRoom};
 
 use crate::naming::NamesQueue;
 use crate::queue::{BlankQueue, TicketQueue};
-use crate::rule::{Cut, Hand, Puts, RuledQueue, Takes};
+use crate::rule::{Cut, PassMoves, Puts, RuledQueue, Takes};
 use crate::ticket::{PLACES, Ticket};
 use crossbeam_queue::Pass;
 use std::marker::{Model, PhantomData};
@@ -16,7 +16,7 @@ use std::thread;
 /// the right to know the whole, and as the tickets that it put and took, in order.
 #[derive(Drop)]
 pub struct CountedPass<N: NamesQueue> {
-    pass: Pass<Ticket, Hand>,
+    pass: Pass<Ticket, PassMoves>,
     parts: u64,
     puts: [u64; PLACES],
     takes: [u64; PLACES],
@@ -25,10 +25,10 @@ pub struct CountedPass<N: NamesQueue> {
 
 impl<N: NamesQueue> Model for CountedPass<N> {
     ghost use Rattle.crossbeam_queue.specs.Passes.{view as known};
-    ghost use Rattle.rmt_tickets.specs.declared.rule.Hand.{Hand};
+    ghost use Rattle.rmt_tickets.specs.declared.rule.PassMoves.{PassMoves};
     ghost use Rattle.rmt_tickets.specs.Counted.{IsCounted};
 
-    ghost Value = { Hand };
+    ghost Value = { PassMoves };
 
     ghost view = { λ c. known c.pass };
 
@@ -37,11 +37,11 @@ impl<N: NamesQueue> Model for CountedPass<N> {
 
 impl<N: NamesQueue> CountedPass<N> {
     // A pass that has put and taken nothing.
-    pub(crate) fn new(pass: Pass<Ticket, Hand>, parts: u64) -> CountedPass<N>
+    pub(crate) fn new(pass: Pass<Ticket, PassMoves>, parts: u64) -> CountedPass<N>
         requires name { (pass.table_id ≡ N.queue) × (pass.me.1 ≡ []) }
         requires parts { 0 < parts }
-        requires nothing { view pass ≡ hand parts [] [] }
-        ensures { result ≡ hand parts [] [] }
+        requires nothing { view pass ≡ moves parts [] [] }
+        ensures { result ≡ moves parts [] [] }
     {
         CountedPass {
             pass,
@@ -53,7 +53,7 @@ impl<N: NamesQueue> CountedPass<N> {
     }
 
     // The pass, and the number of its parts.
-    pub(crate) fn apart(self) -> (Pass<Ticket, Hand>, u64)
+    pub(crate) fn apart(self) -> (Pass<Ticket, PassMoves>, u64)
         ensures pass { (result.0.table_id ≡ N.queue) × (result.0.me.1 ≡ []) }
         ensures known { view result.0 ≡ self }
         ensures parts { (result.1 ≡ self.parts) × (0 < result.1) }
@@ -65,8 +65,8 @@ impl<N: NamesQueue> CountedPass<N> {
     // Cuts off a pass of one part, for another worker.
     pub(crate) fn cut(&mut self, queue: &TicketQueue<N>) -> CountedPass<N>
         requires { 1 < self.old.parts }
-        ensures rest { self.new ≡ hand (self.old.parts - 1) self.old.put self.old.taken }
-        ensures cut { result ≡ hand 1 [] [] }
+        ensures rest { self.new ≡ moves (self.old.parts - 1) self.old.put self.old.taken }
+        ensures cut { result ≡ moves 1 [] [] }
     {
         let pass = queue.ring.another::<Cut>(&mut self.pass);
         self.parts -= 1;
@@ -85,7 +85,7 @@ impl<N: NamesQueue> CountedPass<N> {
     pub(crate) fn take(&mut self, queue: &TicketQueue<N>) -> Option<Ticket>
         requires { (t : Ticket) → HasRoom t self.old }
         ensures { MatchOption result (self.new ≡ self.old)
-            (λ t. (self.new ≡ hand_that_took self.old t) × (in_range t ≡ true)) }
+            (λ t. (self.new ≡ with_taken self.old t) × (in_range t ≡ true)) }
     {
         let ticket = queue.ring.try_pop_as::<Takes>(&mut self.pass)?;
         self.takes[ticket.place()] += 1;
@@ -96,7 +96,7 @@ impl<N: NamesQueue> CountedPass<N> {
     pub(crate) fn put<R: Wait>(&mut self, rt: &R, queue: &TicketQueue<N>, ticket: Ticket)
         requires range { in_range ticket ≡ true }
         requires room { times ticket self.old.put ≢ LAST }
-        ensures { self.new ≡ hand_that_put self.old ticket }
+        ensures { self.new ≡ with_put self.old ticket }
     {
         push(rt, &queue.ring, &mut self.pass, ticket);
         self.puts[ticket.place()] += 1;
@@ -127,12 +127,12 @@ fn counted(counts: &[u64; PLACES], ticket: Ticket) -> u64
 }
 
 // Tries until the ticket is in the queue.
-fn push<R: Wait>(rt: &R, ring: &RuledQueue, pass: &mut Pass<Ticket, Hand>, ticket: Ticket)
+fn push<R: Wait>(rt: &R, ring: &RuledQueue, pass: &mut Pass<Ticket, PassMoves>, ticket: Ticket)
     requires queue { IsPassOf ring.now pass.old }
     requires part { 0 < (view pass.old).parts }
     requires range { in_range ticket ≡ true }
     ensures queue { IsSamePass pass.old pass.new }
-    ensures put { view pass.new ≡ hand_that_put (view pass.old) ticket }
+    ensures put { view pass.new ≡ with_put (view pass.old) ticket }
 {
     for _ in rt.forever() {
         if ring.try_push_as::<Puts>(pass, ticket).is_ok() {

@@ -1,6 +1,6 @@
 ghost use Rattle.std.specs.Prelude.{◌≡◌, ◌<◌, ◌≤◌, ◌+◌, ◌-◌, ◌&&◌, nat_lt, [], replicate, IfOk, OnOk};
 ghost use Rattle.rmt_tickets.specs.declared.ticket.Ticket.{Ticket};
-ghost use Rattle.rmt_tickets.specs.Tickets.{hand, place, dealt, dealt_to, times, one_if, all_parts};
+ghost use Rattle.rmt_tickets.specs.Tickets.{moves, place, dealt, dealt_to, times, one_if, all_parts};
 
 use crate::counted::CountedPass;
 use crate::naming::NamesQueue;
@@ -23,7 +23,7 @@ impl<N: NamesQueue> TicketQueue<N> {
         workers: u8,
     ) -> Result<Vec<Tickets<N>>, AllocError>
         requires sizes { (tables ≤ 4) × (replicas ≤ 8) × (0 < workers) × (workers ≤ 8) }
-        requires fresh { pass ≡ hand 8 [] [] }
+        requires fresh { pass ≡ moves 8 [] [] }
         // The first place has put each of these tickets, and no other has put or taken any.
         ensures ok { IfOk result (λ v. v.items ≡ dealt_to tables replicas workers) }
         ensures whole { IfOk result (λ v. all_parts v.items ≡ 8) }
@@ -46,8 +46,8 @@ fn idle_places<N: NamesQueue>(
     count: u8,
 ) -> Result<Vec<Tickets<N>>, AllocError>
     requires { count < pass.old.parts }
-    ensures places { IfOk result (λ v. v.items ≡ replicate count (place (hand 1 [] []) [])) }
-    ensures rest { OnOk result (pass.new ≡ hand (pass.old.parts - count) pass.old.put pass.old.taken) }
+    ensures places { IfOk result (λ v. v.items ≡ replicate count (place (moves 1 [] []) [])) }
+    ensures rest { OnOk result (pass.new ≡ moves (pass.old.parts - count) pass.old.put pass.old.taken) }
 {
     let mut places = Vec::new(alloc);
     for _ in 0..count {
@@ -66,7 +66,7 @@ fn put_all<N: NamesQueue, R: Wait>(
 )
     requires sizes { (tables ≤ 4) × (replicas ≤ 8) }
     requires fresh { pass.old.put ≡ [] }
-    ensures { pass.new ≡ hand pass.old.parts (dealt tables replicas) pass.old.taken }
+    ensures { pass.new ≡ moves pass.old.parts (dealt tables replicas) pass.old.taken }
 {
     for table in 0..tables {
         put_row(rt, queue, pass, table, replicas);
@@ -83,7 +83,7 @@ fn put_row<N: NamesQueue, R: Wait>(
 )
     requires sizes { (table < 4) × (replicas ≤ 8) }
     requires before { pass.old.put ≡ dealt table replicas }
-    ensures { pass.new ≡ hand pass.old.parts (dealt (table + 1) replicas) pass.old.taken }
+    ensures { pass.new ≡ moves pass.old.parts (dealt (table + 1) replicas) pass.old.taken }
 {
     for replica in 0..replicas {
         pass.put(rt, queue, Ticket::new(table, replica));

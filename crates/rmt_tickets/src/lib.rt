@@ -7,6 +7,7 @@ mod naming;
 mod open;
 mod queue;
 mod rule;
+mod served;
 mod settle;
 mod settle_error;
 #[cfg(test)]
@@ -19,6 +20,7 @@ mod work;
 pub use counted::CountedPass;
 pub use naming::NamesQueue;
 pub use queue::{BlankQueue, TicketQueue};
+pub use served::Served;
 pub use settle_error::SettleError;
 pub use ticket::Ticket;
 pub use tickets::Tickets;

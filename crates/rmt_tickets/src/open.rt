@@ -1,6 +1,6 @@
 //! How a queue is made, and how it gets its name.
 ghost use Rattle.std.specs.Prelude.{◌≡◌, [], IfOk};
-ghost use Rattle.rmt_tickets.specs.Tickets.{hand};
+ghost use Rattle.rmt_tickets.specs.Tickets.{moves};
 ghost use Rattle.rmt_tickets.specs.Blank.{name_of, room_of};
 
 use crate::counted::CountedPass;
@@ -24,7 +24,7 @@ impl<N: NamesQueue> TicketQueue<N> {
     /// The queue under its name, and the first pass.
     pub fn open(blank: BlankQueue) -> (TicketQueue<N>, CountedPass<N>)
         requires { name_of blank ≡ N.queue }
-        ensures { result.1 ≡ hand 8 [] [] }
+        ensures { result.1 ≡ moves 8 [] [] }
     {
         let BlankQueue { ring, pass } = blank;
         (TicketQueue::of_ring(ring), CountedPass::new(pass, 8))

@@ -1,9 +1,9 @@
 ghost use Rattle.std.specs.Prelude.{◌≡◌, []};
 ghost use Rattle.crossbeam_queue.specs.Passes.{view, IsPassOf};
-ghost use Rattle.rmt_tickets.specs.Tickets.{hand};
+ghost use Rattle.rmt_tickets.specs.Tickets.{moves};
 
 use crate::naming::NamesQueue;
-use crate::rule::{Hand, RuledQueue};
+use crate::rule::{PassMoves, RuledQueue};
 use crate::ticket::Ticket;
 use crossbeam_queue::Pass;
 use std::marker::PhantomData;
@@ -12,8 +12,8 @@ use std::marker::PhantomData;
 #[derive(Drop)]
 pub struct BlankQueue {
     pub(crate) ring: RuledQueue,
-    pub(crate) pass: Pass<Ticket, Hand>,
-    ghost fresh: { IsPassOf ring pass × (view pass ≡ hand 8 [] []) },
+    pub(crate) pass: Pass<Ticket, PassMoves>,
+    ghost fresh: { IsPassOf ring pass × (view pass ≡ moves 8 [] []) },
 }
 
 /// The queue that workers share.

@@ -5,7 +5,7 @@ use crossbeam_queue::protocol::{Join, Lesson, Outcome, Protocol, Split};
 use std::collections::LinkedList;
 
 /// What a pass has put and taken, and its parts of the right to know the whole. No value of it is made.
-pub struct Hand {
+pub struct PassMoves {
     pub parts: u64,
     pub put: LinkedList<Ticket>,
     pub taken: LinkedList<Ticket>,
@@ -14,62 +14,62 @@ pub struct Hand {
 /// What was put is what was taken and what the queue holds.
 pub struct Balance;
 
-impl Protocol<Ticket, Hand> for Balance {
+impl Protocol<Ticket, PassMoves> for Balance {
     ghost use Rattle.std.specs.Prelude.{[]};
-    ghost use Rattle.rmt_tickets.specs.Tickets.{hand};
+    ghost use Rattle.rmt_tickets.specs.Tickets.{moves};
     ghost use Rattle.rmt_tickets.specs.Balance.{Balanced};
 
     ghost holds = { Balanced };
 
-    ghost first = { hand 8 [] [] };
+    ghost first = { moves 8 [] [] };
 }
 
 /// A queue under that rule.
-pub type RuledQueue = RuledArrayQueue<Ticket, Hand, Balance>;
+pub type RuledQueue = RuledArrayQueue<Ticket, PassMoves, Balance>;
 
 /// One part is cut off, or put to the others.
 pub struct Cut;
 
-impl Split<Hand> for Cut {
+impl Split<PassMoves> for Cut {
     ghost use Rattle.std.specs.Prelude.{[], ◌-◌};
-    ghost use Rattle.rmt_tickets.specs.Tickets.{hand};
+    ghost use Rattle.rmt_tickets.specs.Tickets.{moves};
 
-    ghost left = { λ v. hand (v.parts - 1) v.put v.taken };
+    ghost left = { λ v. moves (v.parts - 1) v.put v.taken };
 
-    ghost right = { λ v. hand 1 [] [] };
+    ghost right = { λ v. moves 1 [] [] };
 }
 
-impl Join<Hand> for Cut {
+impl Join<PassMoves> for Cut {
     ghost use Rattle.std.specs.Prelude.{[]};
-    ghost use Rattle.rmt_tickets.specs.Tickets.{hand};
+    ghost use Rattle.rmt_tickets.specs.Tickets.{moves};
     ghost use Rattle.rmt_tickets.specs.Balance.{both};
 
     ghost both = { both };
 
-    ghost spent = { hand 0 [] [] };
+    ghost spent = { moves 0 [] [] };
 }
 
 /// A ticket was put.
 pub struct Puts;
 
-impl Outcome<Ticket, Hand> for Puts {
+impl Outcome<Ticket, PassMoves> for Puts {
     ghost use Rattle.std.specs.Prelude.{◌≡◌};
-    ghost use Rattle.rmt_tickets.specs.Tickets.{hand_that_put};
+    ghost use Rattle.rmt_tickets.specs.Tickets.{with_put};
 
-    ghost then = { λ v x w. w ≡ hand_that_put v x };
+    ghost then = { λ v x w. w ≡ with_put v x };
 }
 
 /// A ticket was taken, or the queue was empty.
 pub struct Takes;
 
-impl Outcome<Ticket, Hand> for Takes {
+impl Outcome<Ticket, PassMoves> for Takes {
     ghost use Rattle.std.specs.Prelude.{◌≡◌, true};
-    ghost use Rattle.rmt_tickets.specs.Tickets.{hand_that_took, in_range};
+    ghost use Rattle.rmt_tickets.specs.Tickets.{with_taken, in_range};
 
-    ghost then = { λ v x w. (w ≡ hand_that_took v x) × (in_range x ≡ true) };
+    ghost then = { λ v x w. (w ≡ with_taken v x) × (in_range x ≡ true) };
 }
 
-impl Lesson<Ticket, Hand> for Takes {
+impl Lesson<Ticket, PassMoves> for Takes {
     ghost use Rattle.rmt_tickets.specs.Balance.{IsWhole};
 
     ghost fact = { IsWhole };

@@ -7,7 +7,7 @@ ghost use Rattle.rmt_tickets.specs.Gathers.{Gathers};
 
 use crate::naming::NamesQueue;
 use crate::queue::TicketQueue;
-use crate::rule::{Cut, Hand, RuledQueue, Takes};
+use crate::rule::{Cut, PassMoves, RuledQueue, Takes};
 use crate::settle_error::SettleError;
 use crate::ticket::Ticket;
 use crate::tickets::Tickets;
@@ -47,7 +47,7 @@ impl<N: NamesQueue> TicketQueue<N> {
 fn gather<N: NamesQueue>(
     queue: &TicketQueue<N>,
     places: Vec<Tickets<N>>,
-) -> Option<Pass<Ticket, Hand>>
+) -> Option<Pass<Ticket, PassMoves>>
     ensures pass { IfSome result (λ p. IsPassOf queue.now.ring p × ((view p).parts ≡ 8)) }
     ensures gathers { IfSome result (λ p. Gathers places.items [] (view p)) }
     ensures all { all_parts places.items ≡ 8 → IsSome result }
@@ -67,7 +67,7 @@ fn drain<R: Wait>(
     rt: &R,
     ring: &RuledQueue,
     alloc: Global,
-    pass: Pass<Ticket, Hand>,
+    pass: Pass<Ticket, PassMoves>,
 ) -> Result<Vec<Ticket>, AllocError>
     requires pass { IsPassOf ring.now pass }
     requires all { (view pass).parts ≡ 8 }

@@ -118,7 +118,7 @@ fn one_starved<N: NamesQueue, R: Wait>(
     rt: &R,
     alloc: Global,
     blank: BlankQueue,
-) -> Result<(Turn, Result<Vec<Ticket>, SettleError>), AllocError>
+) -> Result<(Served, Result<Vec<Ticket>, SettleError>), AllocError>
     requires { name_of blank ≡ N.queue }
 {
     let (queue, pass) = TicketQueue::<N>::open(blank);
@@ -126,9 +126,8 @@ fn one_starved<N: NamesQueue, R: Wait>(
     let Some(mut place) = places.pop() else {
         return Err(AllocError);
     };
-    place.serve(rt, &queue, &AtomicBool::new(false), &Starved);
-    let turn = place.turn(rt, &queue, &Starved);
-    Ok((turn, queue.settle(rt, alloc, places)))
+    let served = place.serve(rt, &queue, &AtomicBool::new(false), &Starved);
+    Ok((served, queue.settle(rt, alloc, places)))
 }
 
 #[test]
@@ -148,9 +147,9 @@ fn what_two_workers_put_is_taken_or_left(rt: HostRuntime) -> Result<(), Fail> {
 #[test]
 fn a_worker_ends_where_memory_runs_out(rt: HostRuntime) -> Result<(), Fail> {
     let blank = BlankQueue::new(rt.alloc())?;
-    let (turn, left) = one_starved::<Brand, HostRuntime>(&rt, rt.alloc(), blank)?;
+    let (served, left) = one_starved::<Brand, HostRuntime>(&rt, rt.alloc(), blank)?;
     assert!(rt;
-        turn == Turn::OutOfMemory(Ticket::new(0, 0)),
+        served == Served::OutOfMemory(Ticket::new(0, 0)),
         "the ticket was put back"
     );
     assert!(rt;

@@ -6,7 +6,8 @@ ghost use Rattle.rmt_tickets.specs.Tickets.{place, dealt, times, IsEven, HasLast
 use crate::counted::CountedPass;
 use crate::naming::NamesQueue;
 use crate::queue::TicketQueue;
-use crate::rule::Hand;
+use crate::rule::PassMoves;
+use crate::served::Served;
 use crate::ticket::Ticket;
 use crate::turn::Turn;
 use crate::work::Work;
@@ -50,11 +51,11 @@ impl<N: NamesQueue> Tickets<N> {
     }
 
     // The pass, and the number of its parts.
-    pub(crate) fn apart(self) -> (Pass<Ticket, Hand>, u64)
+    pub(crate) fn apart(self) -> (Pass<Ticket, PassMoves>, u64)
         ensures pass { (result.0.table_id ≡ N.queue) × (result.0.me.1 ≡ []) }
-        ensures known { view result.0 ≡ self.hand }
-        ensures parts { (result.1 ≡ self.hand.parts) × (0 < result.1) }
-        ensures even { IsEven self.hand self.begun }
+        ensures known { view result.0 ≡ self.moves }
+        ensures parts { (result.1 ≡ self.moves.parts) × (0 < result.1) }
+        ensures even { IsEven self.moves self.begun }
     {
         let Tickets { counted, .. } = self;
         counted.apart()
@@ -62,14 +63,14 @@ impl<N: NamesQueue> Tickets<N> {
 
     /// How often it put this ticket.
     pub fn put(&self, ticket: Ticket) -> u64
-        ensures { result ≡ times ticket self.now.hand.put }
+        ensures { result ≡ times ticket self.now.moves.put }
     {
         self.counted.count_put(ticket)
     }
 
     /// How often it took this ticket.
     pub fn taken(&self, ticket: Ticket) -> u64
-        ensures { result ≡ times ticket self.now.hand.taken }
+        ensures { result ≡ times ticket self.now.moves.taken }
     {
         self.counted.count_taken(ticket)
     }
@@ -78,7 +79,7 @@ impl<N: NamesQueue> Tickets<N> {
     pub fn turn<W: Work, R: Wait>(&mut self, rt: &R, queue: &TicketQueue<N>, work: &W) -> Turn
         ensures turned { self.new ≡ turned self.old result }
         ensures answered { Answered (W.answered work.now) result }
-        ensures ended { result ≡ Ended → HasLast self.old.hand }
+        ensures ended { result ≡ Ended → HasLast self.old.moves }
     {
         if self.counted.is_full() {
             return Turn::Ended;
@@ -94,24 +95,25 @@ impl<N: NamesQueue> Tickets<N> {
         }
     }
 
-    /// Works until `stop` is set, memory runs out in the work, or a count is at its last value.
+    /// Works until `stop` is set, memory runs out in the work, or a count is at its last value, and tells which it was.
     pub fn serve<W: Work, R: Wait>(
         &mut self,
         rt: &R,
         queue: &TicketQueue<N>,
         stop: &AtomicBool,
         work: &W,
-    )
-        ensures { Serves self.old self.new }
+    ) -> Served
+        ensures { Serves (W.answered work.now) self.old result self.new }
     {
-        for _ in rt.forever() {
+        'turns: for _ in rt.forever() {
             if stop.load(Ordering::SeqCst) {
-                return;
+                return Served::Stopped;
             }
             match self.turn(rt, queue, work) {
                 Turn::Worked(_) => {}
                 Turn::Idle => thread::yield_now(),
-                Turn::Ended | Turn::OutOfMemory(_) => return,
+                Turn::Ended => return Served::Ended,
+                Turn::OutOfMemory(ticket) => return Served::OutOfMemory(ticket),
             }
         }
         unreachable!()

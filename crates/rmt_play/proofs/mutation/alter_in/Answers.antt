@@ -10,7 +10,8 @@ use Rattle.rmt_expr.specs.Mutations.{IsCheckedMutation, mutation_refusal}
 use Rattle.rmt_reply.specs.declared.line.Line.TheVariants as lines
 use Rattle.rmt_reply.specs.declared.refusal.Refusal.{Refusal}
 use Rattle.rmt_play.specs.ActRefusals.{refused_command}
-use Rattle.rmt_acting.specs.Acting.{Brings, MutatesOr}
+use Rattle.rmt_acting.specs.Acting.{Brings}
+use Rattle.rmt_statement_model.specs.ActOutcomes.{MutatesOr}
 use Rattle.rmt_play.proofs.CommandLemmas.{found-holds, found-fails, alters-in, alter-refused}
 use Rattle.rmt_play.proofs.mutation.alter_in.Goals as goal
 use Rattle.rmt_play.proofs.mutation.alter_in.Goals.{In-Ok}

@@ -6,7 +6,8 @@ use Rattle.rmt_statements.specs.Partitions.{partition_named}
 use Rattle.rmt_reply.specs.declared.line.Line.TheVariants as lines
 use Rattle.rmt_reply.specs.declared.refusal.Refusal.{Refusal}
 use Rattle.rmt_play.specs.ActRefusals.{refused_partition}
-use Rattle.rmt_acting.specs.Acting.{Brings, DropsOr}
+use Rattle.rmt_acting.specs.Acting.{Brings}
+use Rattle.rmt_statement_model.specs.ActOutcomes.{DropsOr}
 use Rattle.rmt_play.proofs.CommandLemmas.{found-holds, found-fails, dropped, drops-in, drop-refused}
 use Rattle.rmt_play.proofs.partition.drop_in.Goals as goal
 

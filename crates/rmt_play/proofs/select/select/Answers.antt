@@ -3,7 +3,7 @@ use Rattle.rmt_values.specs.Rows.{Shape}
 use Rattle.rmt_partset.specs.Snapshots.{data_in, all_rows}
 use Rattle.rmt_query.specs.Answers.{answer_of}
 use Rattle.rmt_play.specs.QueryAnswers.{Selects}
-use Rattle.rmt_acting.specs.Acting.{ReadsParts}
+use Rattle.rmt_statement_model.specs.ActOutcomes.{ReadsParts}
 use Rattle.rmt_play.proofs.SightLemmas.{brings-on}
 use Rattle.rmt_play.proofs.select.select.Goals as goal
 

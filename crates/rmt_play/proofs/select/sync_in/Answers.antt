@@ -9,7 +9,8 @@ use Rattle.rmt_play.specs.SelectStatement.{Syncs}
 use Rattle.std.specs.declared.option.Option.{Option}
 use Rattle.rmt_reply.specs.declared.refusal.Refusal.{Refusal}
 use Rattle.rmt_acts.specs.StatementEvents.{SyncEvents}
-use Rattle.rmt_acting.specs.Acting.{Brings, SyncsOr}
+use Rattle.rmt_acting.specs.Acting.{Brings}
+use Rattle.rmt_statement_model.specs.ActOutcomes.{SyncsOr}
 use Rattle.rmt_play.proofs.SightLemmas.{goes-then, keeps-then}
 use Rattle.rmt_play.proofs.ActLemmas.{found-known, found-checked, none-of, query-refused, syncs-in, sync-lacks}
 use Rattle.rmt_play.proofs.select.sync_in.Goals as goal

@@ -2,7 +2,8 @@ use Rattle.std.proofs.Common.{subst}
 use Rattle.std.specs.declared.option.Option.{Option}
 use Rattle.rmt_reply.specs.declared.refusal.Refusal.{Refusal}
 use Rattle.rmt_acts.specs.StatementEvents.{SyncEvents}
-use Rattle.rmt_acting.specs.Acting.{Brings, SyncsOr}
+use Rattle.rmt_acting.specs.Acting.{Brings}
+use Rattle.rmt_statement_model.specs.ActOutcomes.{SyncsOr}
 use Rattle.rmt_play.proofs.CommandLemmas.{drains-in, drain-lacks}
 use Rattle.rmt_play.proofs.system.drain_in.Goals as goal
 

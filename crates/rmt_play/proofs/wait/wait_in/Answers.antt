@@ -2,7 +2,8 @@ use Rattle.std.proofs.Common.{◌<◌, ◌≤◌, arith, subst}
 use Rattle.std.specs.declared.option.Option.{Option}
 use Rattle.rmt_acts.specs.StatementEvents.{WaitEvents}
 use Rattle.rmt_reply.specs.declared.refusal.Refusal.{Refusal}
-use Rattle.rmt_acting.specs.Acting.{Brings, WaitsOr}
+use Rattle.rmt_acting.specs.Acting.{Brings}
+use Rattle.rmt_statement_model.specs.ActOutcomes.{WaitsOr}
 use Rattle.rmt_play.proofs.CommandLemmas.{waits-in, wait-lacks, wait-refused}
 use Rattle.rmt_play.proofs.wait.wait_in.Goals as goal
 

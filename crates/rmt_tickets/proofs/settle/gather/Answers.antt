@@ -1,5 +1,5 @@
 use Rattle.std.proofs.Common.{ap, sym, ◌∙◌, arith}
-use Rattle.rmt_tickets.specs.declared.rule.Hand.{Hand}
+use Rattle.rmt_tickets.specs.declared.rule.PassMoves.{PassMoves}
 use Rattle.rmt_tickets.proofs.Moves.{merges}
 use Rattle.rmt_tickets.proofs.Gathering.{gathers-first, gathers-more, parts-below}
 use Rattle.rmt_tickets.proofs.settle.gather.Goals as goal
@@ -7,7 +7,7 @@ use Rattle.rmt_tickets.proofs.settle.gather.Goals as goal
 pub loop-place-init : goal.loop-place-init
 loop-place-init g c = let a = c.apart-pass.ensures in (
   (a.pass.0 ∙ sym c.args.queue.now.named, a.pass.1),
-  ap (λ (v : Hand). v.parts) a.known ∙ sym a.parts.0,
+  ap (λ (v : PassMoves). v.parts) a.known ∙ sym a.parts.0,
   a.parts.1,
   gathers-first _ _ _ _ c.in_ok-pop.ensures.items a.known a.even,
 )
@@ -29,8 +29,8 @@ loop-place-preserved g c =
     let q = c.absorb.ensures.queue in
     let r = c.absorb.ensures.rule in
     let sum = c.in_ok-parts.ensures.1 in
-    let p = ap (λ (v : Hand). v.parts) r in
-    let k = ap (λ (v : Hand). v.parts) a.known in (
+    let p = ap (λ (v : PassMoves). v.parts) r in
+    let k = ap (λ (v : PassMoves). v.parts) a.known in (
       (q.0 ∙ i.0.0, q.2 ∙ i.0.1),
       omega (arith, i.1, a.parts.0, sum, p, k),
       omega (arith, i.2, sum),

@@ -1,5 +1,5 @@
 use Rattle.std.proofs.Common.{ap, sym, subst, ◌∙◌, List, arith}
-use Rattle.rmt_tickets.specs.declared.rule.Hand.{Hand}
+use Rattle.rmt_tickets.specs.declared.rule.PassMoves.{PassMoves}
 use Rattle.rmt_tickets.specs.declared.ticket.Ticket.{Ticket}
 use Rattle.rmt_tickets.specs.Tickets.{Counts}
 use Rattle.rmt_tickets.proofs.Moves.{takes}
@@ -15,7 +15,7 @@ invariant_of-self-2 g c = let i = c.self.invariant in let q = c.in_ok-ticket.ens
       name = q.0 ∙ i.name;
       no_slot = q.2 ∙ i.no_slot;
       some_part = i.some_part;
-      parts_of = ap (λ (v : Hand). v.parts) r.0 ∙ i.parts_of;
-      put = subst (λ (us : List Ticket). Counts c.self.inside.puts us) (sym (ap (λ (v : Hand). v.put) r.0)) i.put;
-      taken = counts-step _ _ _ _ _ c.place.ensures r.1 (ap (λ (v : Hand). v.taken) r.0) i.taken;
+      parts_of = ap (λ (v : PassMoves). v.parts) r.0 ∙ i.parts_of;
+      put = subst (λ (us : List Ticket). Counts c.self.inside.puts us) (sym (ap (λ (v : PassMoves). v.put) r.0)) i.put;
+      taken = counts-step _ _ _ _ _ c.place.ensures r.1 (ap (λ (v : PassMoves). v.taken) r.0) i.taken;
     }

@@ -1,5 +1,5 @@
-use Rattle.rmt_tickets.specs.Tickets.{Serves}
+use Rattle.rmt_tickets.specs.Tickets.{WorksWell}
 use Rattle.rmt_tickets.proofs.tickets.Tickets.serve.Given as goal
 
-abbrev pub invariant-loop : goal.invariant-loop
-invariant-loop g l = Serves l.fn.self l.self
+abbrev pub invariant-turns : goal.invariant-turns
+invariant-turns g l = WorksWell (g.W.Work.answered l.fn.work) l.fn.self l.self
