@@ -13,8 +13,8 @@ use Rattle.rmt_reply.specs.declared.refusal.Refusal.TheVariants.{LimitReached}
 use Rattle.rmt_statement_model.specs.TableStates.{TableState, with_switch}
 use Rattle.rmt_statement_model.specs.Mutations.{Mutates, LacksMutation, with_mutation}
 use Rattle.rmt_statement_model.specs.Drops.{Drops, DropsNothing, LacksDrop, with_drop}
-use Rattle.rmt_clients.specs.Clients.{Client, known_table, KnowsTable, Fits, seeing, ChangesInto, RestsAnd}
-use Rattle.rmt_clients.proofs.ClientRests.{fits-all, knows-fits, SeesHere, rests-and}
+use Rattle.rmt_clients.specs.Clients.{Client, known_table, KnowsTable, Fits, seeing, ChangesInto, RestsAnd, SeesHere}
+use Rattle.rmt_clients.proofs.ClientRests.{fits-all, knows-fits, rests-and}
 
 -- ---- ALTER
 

@@ -11,8 +11,8 @@ use Rattle.rmt_events.specs.Views.{Block}
 use Rattle.rmt_reply.specs.declared.refusal.Refusal.TheVariants.{NoSource}
 use Rattle.rmt_statement_model.specs.TableStates.{TableState, learned_to, synced}
 use Rattle.rmt_statement_model.specs.LostSources.{LacksSource}
-use Rattle.rmt_clients.specs.Clients.{Client, known_table, KnowsTable, Fits, seeing, ChangesInto, RestsAnd}
-use Rattle.rmt_clients.proofs.ClientRests.{fits-all, knows-fits, SeesHere, rests-and}
+use Rattle.rmt_clients.specs.Clients.{Client, known_table, KnowsTable, Fits, seeing, ChangesInto, RestsAnd, SeesHere}
+use Rattle.rmt_clients.proofs.ClientRests.{fits-all, knows-fits, rests-and}
 
 -- the client has seen the log up to some place, everything below it is known at the replica then, and the replica is noted
 pub record DrainsHere (p : Client) (r : ℕ) (q : Client) : Type 0 where

@@ -25,8 +25,8 @@ use Rattle.rmt_statement_model.specs.QuorumCopies.{count_live}
 use Rattle.rmt_statement_model.specs.Inserts.{Asked, part_for, number_limit, with_number, with_block, refused_waiting, quorum_refusal, IsNew, Accepts, Repeats, Inserts, LacksQuorum, LacksNumber, LacksRoom, Refuses, InsertsLater, RefusesLater, InsertsAll}
 use Rattle.rmt_statement_model.proofs.InsertRows.{inserts-more, inserts-stop}
 use Rattle.rmt_statement_model.proofs.WorkerEntries.{kept-stay, clients-stay}
-use Rattle.rmt_clients.specs.Clients.{Client, known_table, KnowsTable, IsAcceptedAs, AreAccepted, AreClear, Fits, seeing, ChangesInto, RestsAnd}
-use Rattle.rmt_clients.proofs.ClientRests.{fits-all, knows-fits, SeesHere, rests-and, changes-as}
+use Rattle.rmt_clients.specs.Clients.{Client, known_table, KnowsTable, IsAcceptedAs, AreAccepted, AreClear, Fits, seeing, ChangesInto, RestsAnd, SeesHere}
+use Rattle.rmt_clients.proofs.ClientRests.{fits-all, knows-fits, rests-and, changes-as}
 
 -- ---- what stays between the two locks
 

@@ -8,8 +8,7 @@ use Rattle.rmt_model.specs.EntryLimits.{worker_count}
 use Rattle.rmt_statement_model.specs.BackgroundWork.{IsOfWorker, quorum_after_notes}
 use Rattle.rmt_statement_model.specs.Waits.{MutatesOrComes}
 use Rattle.rmt_statement_model.specs.Books.{GainsWork}
-use Rattle.rmt_clients.specs.Clients.{Client, MayBeNoted, seeing}
-use Rattle.rmt_clients.proofs.ClientRests.{SeesHere}
+use Rattle.rmt_clients.specs.Clients.{Client, MayBeNoted, seeing, SeesHere}
 use Rattle.rmt_clients.proofs.QuorumNotes.{notes-tell, notes-after}
 use Rattle.rmt_clients.proofs.ClientWaits.{MutatesPartsHere}
 

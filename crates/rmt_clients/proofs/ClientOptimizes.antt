@@ -17,8 +17,8 @@ use Rattle.rmt_statement_model.specs.TableStates.{TableState, synced}
 use Rattle.rmt_statement_model.specs.Optimizes.{live_of, partitions_asked, Optimizes, AreFirstUnmergeable, OptimizesLater, CantLater, OptimizesAll, OptimizesTable}
 use Rattle.rmt_statement_model.specs.LostSources.{LacksSource}
 use Rattle.rmt_statement_model.proofs.OptimizeRows.{optimizes-more, optimizes-stop}
-use Rattle.rmt_clients.specs.Clients.{Client, known_table, KnowsTable, Fits, seeing, after_work, ChangesInto, RestsAnd}
-use Rattle.rmt_clients.proofs.ClientRests.{fits-all, knows-fits, fits-as, fits-rested, SeesHere, rests-so, rests-and, changes-as, rests-as}
+use Rattle.rmt_clients.specs.Clients.{Client, known_table, KnowsTable, Fits, seeing, after_work, ChangesInto, RestsAnd, SeesHere}
+use Rattle.rmt_clients.proofs.ClientRests.{fits-all, knows-fits, fits-as, fits-rested, rests-so, rests-and, changes-as, rests-as}
 use Rattle.rmt_clients.proofs.ClientDrains.{DrainsHere, drained-here}
 
 -- ---- one partition

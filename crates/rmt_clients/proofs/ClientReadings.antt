@@ -34,8 +34,8 @@ use Rattle.rmt_statement_model.specs.BackgroundWork.{IsOfWorker, quorum_after_no
 use Rattle.rmt_statement_model.proofs.ReadLaws.{all-mutations-read}
 use Rattle.rmt_statement_model.proofs.WorkerEntries.{not-client, rows-stay}
 use Rattle.rmt_statement_model.specs.Reads.{IsReading, KnowsAll, IsSequentialReading, LacksLast, waiting_part, covers_part, without_part}
-use Rattle.rmt_clients.specs.Clients.{Client, known_table, KnowsTable, AreAccepted, AreClear, Fits, seeing, after_work, ClientsMarked, ChangesInto, RestsAnd}
-use Rattle.rmt_clients.proofs.ClientRests.{fits-all, fits-as, knows-fits, knows-itself, fits-rested, SeesHere, rests-and}
+use Rattle.rmt_clients.specs.Clients.{Client, known_table, KnowsTable, AreAccepted, AreClear, Fits, seeing, after_work, ClientsMarked, ChangesInto, RestsAnd, SeesHere}
+use Rattle.rmt_clients.proofs.ClientRests.{fits-all, fits-as, knows-fits, knows-itself, fits-rested, rests-and}
 use Rattle.rmt_clients.proofs.OfferedBlocks.{IsOfferedAs, part-content}
 use Rattle.rmt_clients.proofs.ClientReads.{reads-plain-names}
 

@@ -16,7 +16,7 @@ use Rattle.rmt_statement_model.specs.BackgroundWork.{IsOfWorker}
 use Rattle.rmt_statement_model.specs.Rests.{Idles, Rests, Runs}
 use Rattle.rmt_statement_model.proofs.WorkerEntries.{gained-room}
 use Rattle.rmt_statement_model.proofs.RestLaws.{rests-then}
-use Rattle.rmt_clients.specs.Clients.{Client, known_table, KnowsTable, AreAccepted, Fits, seeing, after_work, ChangesInto, RestsAnd}
+use Rattle.rmt_clients.specs.Clients.{Client, known_table, KnowsTable, AreAccepted, Fits, seeing, after_work, SeesHere, ChangesInto, RestsAnd}
 
 -- ---- what fits
 
@@ -68,12 +68,6 @@ accepted-behind O (DropRange p n ∷ gained) log blocks q a = absurd q.0
 any-noted : (noted : List ℕ) → Each (λ (r : ℕ). true ≡ true) noted
 any-noted [] = tt
 any-noted (r ∷ noted) = (refl, any-noted noted)
-
--- what the client found under the lock that its log has gained: entries of workers, within their limit
-pub record SeesHere (p : Client) (gained : List Entry) : Type 0 where
-  pub workers : Each IsOfWorker gained
-  pub few : worker_count (gained ++ p.log) ≤ 32768
-  pub lawful : Lawful p.schema (gained ++ p.log)
 
 -- each state that fitted fits again, once the client has seen the work
 pub fits-rested : (O : Block → Type 0) (p : Client) (gained : List Entry) (noted : List ℕ) → Each IsOfWorker gained → (t : TableState) → Fits O p t → Fits O (seeing gained noted p) (after_work gained noted t)

@@ -15,8 +15,8 @@ use Rattle.rmt_statement_model.specs.TableStates.{TableState}
 use Rattle.rmt_statement_model.specs.BackgroundWork.{IsOfWorker}
 use Rattle.rmt_statement_model.specs.Waits.{NonePending, SomePending, MutatesOrComes, MutatesParts, WaitsFor, LacksEntries}
 use Rattle.rmt_statement_model.proofs.WorkerEntries.{gained-room}
-use Rattle.rmt_clients.specs.Clients.{Client, Fits, seeing, after_work, ChangesInto}
-use Rattle.rmt_clients.proofs.ClientRests.{fits-all, fits-rested, SeesHere, rests-so}
+use Rattle.rmt_clients.specs.Clients.{Client, Fits, seeing, after_work, ChangesInto, SeesHere}
+use Rattle.rmt_clients.proofs.ClientRests.{fits-all, fits-rested, rests-so}
 use Rattle.rmt_clients.proofs.ClientDrains.{DrainsHere, drained-here}
 
 -- ---- parts are mutated

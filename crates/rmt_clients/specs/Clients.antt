@@ -1,6 +1,6 @@
 -- What a client knows of a table that workers change beside it, and the states of the table that fit it.
 -- No public source: this program's own.
-use Rattle.std.specs.Prelude.{◌≡◌, ℕ, ◌<◌, Bool, true, List, [], ◌∷◌, ◌++◌, length}
+use Rattle.std.specs.Prelude.{◌≡◌, ℕ, ◌<◌, Bool, true, List, [], ◌∷◌, ◌++◌, ◌≤◌, length}
 use Rattle.std.specs.declared.option.Option.{Option}
 use Rattle.std.specs.declared.option.Option.TheVariants.{Some, None}
 use Rattle.rmt_names.specs.Names.{Name}
@@ -9,11 +9,12 @@ use Rattle.rmt_entries.specs.declared.entry.Entry.{Entry}
 use Rattle.rmt_entries.specs.declared.entry.Entry.TheVariants.{Get, Merge, Mutate, Mutation, DropRange}
 use Rattle.rmt_model.specs.Words.{Has, Each, Pairwise}
 use Rattle.rmt_model.specs.Quorum.{Pending, Quorum}
-use Rattle.rmt_model.specs.EntryLimits.{is_client}
+use Rattle.rmt_model.specs.Lawful.{Lawful}
+use Rattle.rmt_model.specs.EntryLimits.{is_client, worker_count}
 use Rattle.rmt_events.specs.Views.{Block}
 use Rattle.rmt_events.specs.Clusters.{Accepted}
 use Rattle.rmt_statement_model.specs.TableStates.{TableState}
-use Rattle.rmt_statement_model.specs.BackgroundWork.{quorum_after_notes}
+use Rattle.rmt_statement_model.specs.BackgroundWork.{IsOfWorker, quorum_after_notes}
 use Rattle.rmt_statement_model.specs.Rests.{Rests}
 
 -- what a client knows of a table: its schema, its log as far as the client has seen it, the next numbers as the client's own calls
@@ -77,6 +78,12 @@ seeing gained noted p = record p { log = gained ++ p.log; quorum = quorum_after_
 abbrev pub after_work : List Entry → List ℕ → TableState → TableState
 after_work gained noted t = record t { log = gained ++ t.log; quorum = quorum_after_notes noted t.quorum }
 
+-- what the client finds that its log has gained: entries of workers, within their limit
+pub record SeesHere (p : Client) (gained : List Entry) : Type 0 where
+  pub workers : Each IsOfWorker gained
+  pub few : worker_count (gained ++ p.log) ≤ 32768
+  pub lawful : Lawful p.schema (gained ++ p.log)
+
 -- each entry of a client is marked; entries of background work may be unmarked
 abbrev pub ClientsMarked : List Entry → (ℕ → Bool) → Type 0
 ClientsMarked [] marked = Unit {0}
@@ -116,3 +123,8 @@ pub record RestsAnd (Offered : Block → Type 0) (q : Client) (Change : TableSta
   pub at : TableState
   pub rests : Rests true t at
   pub comes : ChangesInto Offered q (Change at)
+
+-- where no two offered blocks of one id differ: whatever state fits what the client knew, the table rests and then changes so, and
+-- comes to a state that fits what the client knows now
+abbrev pub StepsTo : (Block → Type 0) → Client → (TableState → TableState → Type 0) → Client → Type 0
+StepsTo Offered p Change q = AreClear Offered → (t : TableState) → Fits Offered p t → RestsAnd Offered q Change t
