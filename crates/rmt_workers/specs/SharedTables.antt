@@ -4,9 +4,10 @@ use Rattle.std.specs.Prelude.{◌≡◌, ◌<◌, ◌⊎◌, ℕ, List, [], ◌�
 use Rattle.rmt_values.specs.Rows.{Shape}
 use Rattle.rmt_names.specs.Names.{Name}
 use Rattle.rmt_entries.specs.declared.entry.Entry.{Entry}
-use Rattle.rmt_entries.specs.declared.entry.Entry.TheVariants.{Merge, Mutate}
 use Rattle.rmt_model.specs.Words.{Each}
+use Rattle.rmt_events.specs.Views.{Table}
 use Rattle.rmt_events.specs.LogEvents.{AreMergeable, IsMutable}
+use Rattle.rmt_events.specs.TableCalls.{AssignsMerge, AssignsMutate}
 use Rattle.rmt_events.specs.TableRefusals.{NotMerged, NotMutated}
 use Rattle.rmt_events.specs.declared.step_refused.StepRefused.{StepRefused}
 use Rattle.rmt_table_model.specs.Held.{Held}
@@ -21,6 +22,10 @@ pub record NamedTable : Type 0 where
 -- what stays of this table
 abbrev pub named : Held → NamedTable
 named h = record { schema = h.schema; row = h.row }
+
+-- the tables as events see them
+abbrev pub views_of : List Held → List Table
+views_of tables = map table_at tables
 
 -- the logs of tables, each with its newest entry first
 abbrev pub logs_of : List Held → List (List Entry)
@@ -37,30 +42,34 @@ pub record AreSharedTables (names : List NamedTable) (replicas : ℕ) (tables : 
   pub sessions : Each (λ h. length h.sessions ≡ replicas) tables
   pub counted : total ≡ all_clients (logs_of tables)
 
--- a merge of these names is the log's newest entry
-pub record GainsMerge (old : List Entry) (sources : List Name) (new : List Entry) : Type 0 where
+-- the table at a place changes so, and nothing else does
+pub record ChangesTable (old : List Held) (k : ℕ) (Change : Held → Held → Type 0) (new : List Held) : Type 0 where
+  pub table : Held
+  pub is : table ≡ slice_index_or old k table
+  pub after : Held
+  pub change : Change table after
+  pub rest : new ≡ slice_set old k after
+
+-- a merge of these names enters the table's log, and nothing else of the table changes
+pub record GainsMerge (old : Held) (sources : List Name) (new : Held) : Type 0 where
   pub name : Name
   pub count : ℕ
-  pub change : new ≡ Merge name sources count ∷ old
+  pub assigns : AssignsMerge (table_at old) name sources count (table_at new)
 
--- the mutate of this part, up to the mutation at a place, is the log's newest entry
-pub record GainsMutate (old : List Entry) (part : Name) (upto : ℕ) (new : List Entry) : Type 0 where
+-- the mutate of this part, up to the mutation at a place, enters the table's log, and nothing else of the table changes
+pub record GainsMutate (old : Held) (part : Name) (upto : ℕ) (new : Held) : Type 0 where
   pub name : Name
   pub count : ℕ
   pub mcount : ℕ
-  pub change : new ≡ Mutate part name upto count mcount ∷ old
+  pub assigns : AssignsMutate (table_at old) part name upto count mcount (table_at new)
 
--- such an entry in the log of the table at a place, and nothing else
-pub record AppendsMerge (old : List (List Entry)) (k : ℕ) (sources : List Name) (new : List (List Entry)) : Type 0 where
-  pub log : List Entry
-  pub gains : GainsMerge (slice_index_or old k []) sources log
-  pub change : new ≡ slice_set old k log
+-- such a merge enters the log of the table at a place, and nothing else changes
+abbrev pub AppendsMerge : List Held → ℕ → List Name → List Held → Type 0
+AppendsMerge old k sources new = ChangesTable old k (λ t u. GainsMerge t sources u) new
 
--- such an entry in the log of the table at a place, and nothing else
-pub record AppendsMutate (old : List (List Entry)) (k : ℕ) (part : Name) (upto : ℕ) (new : List (List Entry)) : Type 0 where
-  pub log : List Entry
-  pub gains : GainsMutate (slice_index_or old k []) part upto log
-  pub change : new ≡ slice_set old k log
+-- such a mutate enters the log of the table at a place, and nothing else changes
+abbrev pub AppendsMutate : List Held → ℕ → Name → ℕ → List Held → Type 0
+AppendsMutate old k part upto new = ChangesTable old k (λ t u. GainsMutate t part upto u) new
 
 -- the table refuses the merge of these names, which was chosen from a copy of this length
 abbrev pub RefusesMerge : Held → ℕ → List Name → Type 0

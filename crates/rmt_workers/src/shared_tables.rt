@@ -5,7 +5,7 @@ ghost use Rattle.rmt_model.specs.Lawful.{IsPrefix};
 ghost use Rattle.rmt_replica.specs.declared.replica_error.ReplicaError.TheVariants as errors;
 ghost use Rattle.rmt_replica.specs.Replicas.{LengthensCopy, copy_of};
 ghost use Rattle.rmt_statement_model.specs.Books.{ArePrefixesOf, all_clients};
-ghost use Rattle.rmt_workers.specs.SharedTables.{named, logs_of, log_in, AppendsMerge, AppendsMutate, GainsMerge, GainsMutate, IsUnmerged, IsUnmutated, RefusesMerge, RefusesMutate};
+ghost use Rattle.rmt_workers.specs.SharedTables.{named, logs_of, log_in, views_of, AppendsMerge, AppendsMutate, GainsMerge, GainsMutate, IsUnmerged, IsUnmutated, RefusesMerge, RefusesMutate};
 ghost use Rattle.rmt_table.specs.TableTrees.{IsCopyOf};
 ghost use Rattle.rmt_events.specs.LogEvents.{AreMergeable};
 ghost use Rattle.rmt_events.specs.LogEvents.{IsMutable};
@@ -71,7 +71,7 @@ fn merge_in(
     ensures named { named tree.new ≡ named tree.old }
     ensures sessions { length tree.new.sessions ≡ length tree.old.sessions }
     ensures ok { IfOk result (λ done. MatchBool done
-        (GainsMerge tree.old.log sources.now tree.new.log) (tree.new ≡ tree.old)) }
+        (GainsMerge tree.old sources.now tree.new) (tree.new ≡ tree.old)) }
     ensures refused { IfOk result (λ done. (done ≡ false) → RefusesMerge tree.old (length copy.now.log) sources.now) }
     ensures err { OnErr result (tree.new ≡ tree.old) }
 {
@@ -98,7 +98,7 @@ fn mutate_in(
     ensures named { named tree.new ≡ named tree.old }
     ensures sessions { length tree.new.sessions ≡ length tree.old.sessions }
     ensures ok { IfOk result (λ done. MatchBool done
-        (GainsMutate tree.old.log old.now upto tree.new.log) (tree.new ≡ tree.old)) }
+        (GainsMutate tree.old old.now upto tree.new) (tree.new ≡ tree.old)) }
     ensures refused { IfOk result (λ done. (done ≡ false) → RefusesMutate tree.old (length copy.now.log)) }
     ensures err { OnErr result (tree.new ≡ tree.old) }
 {
@@ -217,6 +217,7 @@ impl<N: Naming> SharedTables<N> {
         requires few { length replica.old.log ≤ 65536 }
         requires of { IsCopyOfNamed (name_at N.tables table) (copy_of replica.old) }
         ensures logs { logs_of self.new ≡ logs_of self.old }
+        ensures seen { views_of self.new ≡ views_of self.old }
         ensures of { IsCopyOfNamed (name_at N.tables table) (copy_of replica.new) }
         ensures longer { LengthensCopy replica.old replica.new }
         ensures few { length replica.new.log ≤ 65536 }
@@ -255,7 +256,7 @@ impl<N: Naming> SharedTables<N> {
         requires table { table < length self.old }
         requires of { IsCopyOfNamed (name_at N.tables table) copy.now }
         ensures ok { IfOk result (λ done. MatchBool done
-            (AppendsMerge (logs_of self.old) table sources.now (logs_of self.new))
+            (AppendsMerge self.old table sources.now self.new)
             (self.new ≡ self.old)) }
         ensures refused { IfOk result (λ done. (done ≡ false) → IsUnmerged self.old table copy.now.log sources.now) }
         ensures err { OnErr result (self.new ≡ self.old) }
@@ -285,7 +286,7 @@ impl<N: Naming> SharedTables<N> {
         requires table { table < length self.old }
         requires of { IsCopyOfNamed (name_at N.tables table) copy.now }
         ensures ok { IfOk result (λ done. MatchBool done
-            (AppendsMutate (logs_of self.old) table old.now upto (logs_of self.new))
+            (AppendsMutate self.old table old.now upto self.new)
             (self.new ≡ self.old)) }
         ensures refused { IfOk result (λ done. (done ≡ false) → IsUnmutated self.old table copy.now.log old.now upto) }
         ensures err { OnErr result (self.new ≡ self.old) }

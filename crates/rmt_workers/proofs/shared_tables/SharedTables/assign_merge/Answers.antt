@@ -2,9 +2,9 @@ use Rattle.std.proofs.Common.{rules, ◌≡◌, ◌<◌, ◌⊎◌, inl, inr, Li
 use Rattle.std.specs.Prelude.{MatchBool}
 use Rattle.rmt_table_model.specs.Held.{Held}
 use Rattle.rmt_events.specs.LogEvents.{AreMergeable}
-use Rattle.rmt_workers.specs.SharedTables.{logs_of, AppendsMerge, IsUnmerged}
+use Rattle.rmt_workers.specs.SharedTables.{GainsMerge, AppendsMerge, IsUnmerged}
 use Rattle.rmt_workers.proofs.NamedLemmas.{tables-with}
-use Rattle.rmt_workers.proofs.AppendLemmas.{merge-count, merge-appends}
+use Rattle.rmt_workers.proofs.AppendLemmas.{merge-count, changes-one}
 use Rattle.rmt_workers.proofs.shared_tables.SharedTables.assign_merge.Goals as goal
 
 pub invariant_of-self-2 : goal.invariant_of-self-2
@@ -16,8 +16,8 @@ invariant_of-self-2 g c =
 pub returns-clause-ok : goal.returns-clause-ok
 returns-clause-ok g c =
     let h = subst (λ (ts : List Held). c.args.table < length ts) (sym c.self.view_is) c.requires.table in
-    subst (λ (ts : List Held). MatchBool c.in_ok-done.done (AppendsMerge (logs_of ts) c.args.table c.args.sources.now (logs_of (set c.self.inside.tables.items c.args.table c.merge_in.new.tree))) (set c.self.inside.tables.items c.args.table c.merge_in.new.tree ≡ ts)) c.self.view_is
-    (merge-appends c.self.inside.tables.items c.args.table c.index_mut-tree.result.now c.merge_in.new.tree h c.index_mut-tree.ensures.value c.in_ok-done.done c.args.sources.now c.in_ok-done.ensures.ok)
+    subst (λ (ts : List Held). MatchBool c.in_ok-done.done (AppendsMerge ts c.args.table c.args.sources.now (set c.self.inside.tables.items c.args.table c.merge_in.new.tree)) (set c.self.inside.tables.items c.args.table c.merge_in.new.tree ≡ ts)) c.self.view_is
+    (changes-one c.in_ok-done.done (λ t u. GainsMerge t c.args.sources.now u) c.self.inside.tables.items c.args.table c.index_mut-tree.result.now c.merge_in.new.tree h c.index_mut-tree.ensures.value c.in_ok-done.ensures.ok)
 
 pub returns-then-not-meet-clause-refused : goal.returns-then-not-meet-clause-refused
 returns-then-not-meet-clause-refused g c = λ e.

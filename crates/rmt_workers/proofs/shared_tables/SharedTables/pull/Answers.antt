@@ -3,7 +3,7 @@ use Rattle.rmt_events.specs.Views.{Table}
 use Rattle.rmt_table_model.specs.Held.{Held}
 use Rattle.rmt_table.specs.TableTrees.{table_at}
 use Rattle.rmt_statement_model.specs.Books.{all_clients}
-use Rattle.rmt_workers.specs.SharedTables.{named, logs_of}
+use Rattle.rmt_workers.specs.SharedTables.{named, logs_of, views_of}
 use Rattle.rmt_workers.proofs.NamedLemmas.{map-set, set-same, each-set}
 use Rattle.rmt_workers.proofs.shared_tables.SharedTables.pull.Goals as goal
 
@@ -29,3 +29,9 @@ pub returns-clause-logs : goal.returns-clause-logs
 returns-clause-logs g c =
     logs-stay c.self.inside.tables.items c.args.table c.index_mut-tree.result.now c.pull.new.tree (subst (λ (ts : List Held). c.args.table < length ts) (sym c.self.view_is) c.requires.table) c.index_mut-tree.ensures.value c.pull.ensures.seen
     ∙ ap logs_of c.self.view_is
+
+pub returns-clause-seen : goal.returns-clause-seen
+returns-clause-seen g c =
+    map-set table_at c.self.inside.tables.items c.args.table c.pull.new.tree
+    ∙ (set-same table_at c.self.inside.tables.items c.args.table c.index_mut-tree.result.now c.pull.new.tree (subst (λ (ts : List Held). c.args.table < length ts) (sym c.self.view_is) c.requires.table) c.index_mut-tree.ensures.value c.pull.ensures.seen
+    ∙ ap views_of c.self.view_is)
