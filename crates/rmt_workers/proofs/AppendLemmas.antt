@@ -4,20 +4,12 @@ use Rattle.std.specs.Prelude.{MatchBool}
 use Rattle.rmt_names.specs.Names.{Name}
 use Rattle.rmt_entries.specs.declared.entry.Entry.{Entry}
 use Rattle.rmt_entries.specs.declared.entry.Entry.TheVariants.{Merge, Mutate}
-use Rattle.rmt_model.specs.EntryLimits.{client_count}
 use Rattle.rmt_events.specs.Views.{Table}
 use Rattle.rmt_table_model.specs.Held.{Held}
 use Rattle.rmt_statement_model.specs.BackgroundWork.{IsOfWorker}
 use Rattle.rmt_statement_model.specs.Books.{GainsWork, GainWork}
-use Rattle.rmt_statement_model.proofs.WorkerEntries.{clients-stay}
 use Rattle.rmt_workers.specs.SharedTables.{logs_of, ChangesTable, GainsMerge, GainsMutate, AppendsMerge, AppendsMutate}
-use Rattle.rmt_workers.proofs.NamedLemmas.{map-length, map-set, log-at}
-
--- an element in its own place
-set-own : {A : Type 0} (xs : List A) (i : ℕ) (x y : A) → i < length xs → x ≡ get_or xs i x → y ≡ x → set xs i y ≡ xs
-set-own [] i x y h at e = absurd (omega (arith, h))
-set-own (z ∷ zs) zero x y h at e = ap (λ w. w ∷ zs) (e ∙ at)
-set-own (z ∷ zs) (suc i) x y h at e = ap (λ ws. z ∷ ws) (set-own zs i x y (omega (arith, h)) at e)
+use Rattle.rmt_workers.proofs.NamedLemmas.{map-length, map-set, set-own, log-at}
 
 -- the log of the table goes on by the entry
 merge-log : (sources : List Name) (old new : Held) (m : GainsMerge old sources new) → new.log ≡ Merge m.name sources m.count ∷ old.log
@@ -25,15 +17,6 @@ merge-log sources old new m = ap (λ (t : Table). t.log) m.assigns.change
 
 mutate-log : (part : Name) (upto : ℕ) (old new : Held) (m : GainsMutate old part upto new) → new.log ≡ Mutate part m.name upto m.count m.mcount ∷ old.log
 mutate-log part upto old new m = ap (λ (t : Table). t.log) m.assigns.change
-
--- there are as many entries of clients
-pub merge-count : (done : Bool) (sources : List Name) (old new : Held) → MatchBool done (GainsMerge old sources new) (new ≡ old) → client_count new.log ≡ client_count old.log
-merge-count true sources old new m = ap client_count (merge-log sources old new m) ∙ clients-stay (Merge m.name sources m.count ∷ []) old.log (tt, tt)
-merge-count false sources old new m = ap (λ (h : Held). client_count h.log) m
-
-pub mutate-count : (done : Bool) (part : Name) (upto : ℕ) (old new : Held) → MatchBool done (GainsMutate old part upto new) (new ≡ old) → client_count new.log ≡ client_count old.log
-mutate-count true part upto old new m = ap client_count (mutate-log part upto old new m) ∙ clients-stay (Mutate part m.name upto m.count m.mcount ∷ []) old.log (tt, tt)
-mutate-count false part upto old new m = ap (λ (h : Held). client_count h.log) m
 
 -- the table at a place changes so, or nothing does
 pub changes-one : (done : Bool) (Change : Held → Held → Type 0) (tables : List Held) (k : ℕ) (old new : Held) → k < length tables → old ≡ get_or tables k old → MatchBool done (Change old new) (new ≡ old) → MatchBool done (ChangesTable tables k Change (set tables k new)) (set tables k new ≡ tables)

@@ -1,11 +1,12 @@
 -- What lies under the lock of all tables, and what the types of locks name of it.
 -- No public source: the locks are this program's own.
-use Rattle.std.specs.Prelude.{◌≡◌, ◌<◌, ◌⊎◌, ℕ, List, [], ◌∷◌, length, map, slice_index_or, slice_set}
+use Rattle.std.specs.Prelude.{◌≡◌, ◌<◌, ◌⊎◌, ℕ, suc, List, [], ◌∷◌, length, map, slice_index_or, slice_set}
 use Rattle.rmt_values.specs.Rows.{Shape}
 use Rattle.rmt_names.specs.Names.{Name}
 use Rattle.rmt_entries.specs.declared.entry.Entry.{Entry}
 use Rattle.rmt_model.specs.Words.{Each}
-use Rattle.rmt_events.specs.Views.{Table}
+use Rattle.rmt_events.specs.Views.{Block, Table}
+use Rattle.rmt_events.specs.Clusters.{Accepted, values_in}
 use Rattle.rmt_events.specs.LogEvents.{AreMergeable, IsMutable}
 use Rattle.rmt_events.specs.TableCalls.{AssignsMerge, AssignsMutate}
 use Rattle.rmt_events.specs.TableRefusals.{NotMerged, NotMutated}
@@ -13,6 +14,7 @@ use Rattle.rmt_events.specs.declared.step_refused.StepRefused.{StepRefused}
 use Rattle.rmt_table_model.specs.Held.{Held}
 use Rattle.rmt_table.specs.TableTrees.{table_at}
 use Rattle.rmt_statement_model.specs.Books.{all_clients}
+use Rattle.rmt_clients.specs.Clients.{AreAccepted}
 
 -- what stays of a table for good: its schema, and the names of the cells of its log
 pub record NamedTable : Type 0 where
@@ -35,12 +37,24 @@ logs_of tables = map (λ (h : Held). h.log) tables
 abbrev pub log_in : List Held → ℕ → List Entry
 log_in tables k = slice_index_or (logs_of tables) k []
 
--- the tables are those that are named, each has so many replicas, and the book has counted the entries of clients in their
--- logs
-pub record AreSharedTables (names : List NamedTable) (replicas : ℕ) (tables : List Held) (total : ℕ) : Type 0 where
+-- the accepted blocks of a table are offered ones, one for each Get, and the table has the count of their values
+pub record HasBlocks (Offered : Block → Type 0) (h : Held) : Type 0 where
+  pub blocks : List Accepted
+  pub accepted : AreAccepted Offered h.log blocks
+  pub counted : h.values ≡ values_in h.schema blocks
+
+-- each table has blocks that are offered to it, by its place
+abbrev pub HaveBlocks : (ℕ → Block → Type 0) → List Held → Type 0
+HaveBlocks Offered [] = Unit {0}
+HaveBlocks Offered (h ∷ tables) = HasBlocks (Offered 0) h × HaveBlocks (λ k. Offered (suc k)) tables
+
+-- the tables are those that are named, each has so many replicas and blocks that are offered to it, and the book has counted the
+-- entries of clients in their logs
+pub record AreSharedTables (names : List NamedTable) (replicas : ℕ) (Offered : ℕ → Block → Type 0) (tables : List Held) (total : ℕ) : Type 0 where
   pub are_named : map named tables ≡ names
   pub sessions : Each (λ h. length h.sessions ≡ replicas) tables
   pub counted : total ≡ all_clients (logs_of tables)
+  pub blocks : HaveBlocks Offered tables
 
 -- the table at a place changes so, and nothing else does
 pub record ChangesTable (old : List Held) (k : ℕ) (Change : Held → Held → Type 0) (new : List Held) : Type 0 where
