@@ -4,44 +4,24 @@ use Rattle.std.specs.Prelude.{MatchBool}
 use Rattle.rmt_names.specs.Names.{Name}
 use Rattle.rmt_entries.specs.declared.entry.Entry.{Entry}
 use Rattle.rmt_entries.specs.declared.entry.Entry.TheVariants.{Merge, Mutate}
-use Rattle.rmt_model.specs.EntryLimits.{client_count}
+use Rattle.rmt_events.specs.Views.{Table}
 use Rattle.rmt_table_model.specs.Held.{Held}
+use Rattle.rmt_statement_model.specs.BackgroundWork.{IsOfWorker}
 use Rattle.rmt_statement_model.specs.Books.{GainsWork, GainWork}
-use Rattle.rmt_statement_model.proofs.WorkerEntries.{clients-stay}
-use Rattle.rmt_workers.specs.SharedTables.{logs_of, GainsMerge, GainsMutate, AppendsMerge, AppendsMutate}
-use Rattle.rmt_workers.proofs.NamedLemmas.{map-length, map-set, log-at}
+use Rattle.rmt_workers.specs.SharedTables.{logs_of, ChangesTable, GainsMerge, GainsMutate, AppendsMerge, AppendsMutate}
+use Rattle.rmt_workers.proofs.NamedLemmas.{map-length, map-set, set-own, log-at}
 
--- an element in its own place
-set-own : {A : Type 0} (xs : List A) (i : ℕ) (x y : A) → i < length xs → x ≡ get_or xs i x → y ≡ x → set xs i y ≡ xs
-set-own [] i x y h at e = absurd (omega (arith, h))
-set-own (z ∷ zs) zero x y h at e = ap (λ w. w ∷ zs) (e ∙ at)
-set-own (z ∷ zs) (suc i) x y h at e = ap (λ ws. z ∷ ws) (set-own zs i x y (omega (arith, h)) at e)
+-- the log of the table goes on by the entry
+merge-log : (sources : List Name) (old new : Held) (m : GainsMerge old sources new) → new.log ≡ Merge m.name sources m.count ∷ old.log
+merge-log sources old new m = ap (λ (t : Table). t.log) m.assigns.change
 
--- there are as many entries of clients
-pub merge-count : (done : Bool) (sources : List Name) (old new : Held) → MatchBool done (GainsMerge old.log sources new.log) (new ≡ old) → client_count new.log ≡ client_count old.log
-merge-count true sources old new m = ap client_count m.change ∙ clients-stay (Merge m.name sources m.count ∷ []) old.log (tt, tt)
-merge-count false sources old new m = ap (λ (h : Held). client_count h.log) m
+mutate-log : (part : Name) (upto : ℕ) (old new : Held) (m : GainsMutate old part upto new) → new.log ≡ Mutate part m.name upto m.count m.mcount ∷ old.log
+mutate-log part upto old new m = ap (λ (t : Table). t.log) m.assigns.change
 
-pub mutate-count : (done : Bool) (part : Name) (upto : ℕ) (old new : Held) → MatchBool done (GainsMutate old.log part upto new.log) (new ≡ old) → client_count new.log ≡ client_count old.log
-mutate-count true part upto old new m = ap client_count m.change ∙ clients-stay (Mutate part m.name upto m.count m.mcount ∷ []) old.log (tt, tt)
-mutate-count false part upto old new m = ap (λ (h : Held). client_count h.log) m
-
-module _ (tables : List Held) (k : ℕ) (old new : Held) (here : k < length tables) (at : old ≡ get_or tables k old) where
-  pub merge-appends : (done : Bool) (sources : List Name) → MatchBool done (GainsMerge old.log sources new.log) (new ≡ old) → MatchBool done (AppendsMerge (logs_of tables) k sources (logs_of (set tables k new))) (set tables k new ≡ tables)
-  merge-appends true sources m = record {
-    log = new.log;
-    gains = subst (λ (l : List Entry). GainsMerge l sources new.log) (sym (log-at tables k old here at)) m;
-    change = map-set (λ (h : Held). h.log) tables k new;
-  }
-  merge-appends false sources m = set-own tables k old new here at m
-
-  pub mutate-appends : (done : Bool) (part : Name) (upto : ℕ) → MatchBool done (GainsMutate old.log part upto new.log) (new ≡ old) → MatchBool done (AppendsMutate (logs_of tables) k part upto (logs_of (set tables k new))) (set tables k new ≡ tables)
-  mutate-appends true part upto m = record {
-    log = new.log;
-    gains = subst (λ (l : List Entry). GainsMutate l part upto new.log) (sym (log-at tables k old here at)) m;
-    change = map-set (λ (h : Held). h.log) tables k new;
-  }
-  mutate-appends false part upto m = set-own tables k old new here at m
+-- the table at a place changes so, or nothing does
+pub changes-one : (done : Bool) (Change : Held → Held → Type 0) (tables : List Held) (k : ℕ) (old new : Held) → k < length tables → old ≡ get_or tables k old → MatchBool done (Change old new) (new ≡ old) → MatchBool done (ChangesTable tables k Change (set tables k new)) (set tables k new ≡ tables)
+changes-one true Change tables k old new here at m = record { table = old; is = at; after = new; change = m; rest = refl }
+changes-one false Change tables k old new here at m = set-own tables k old new here at m
 
 -- ---- what the logs gain
 
@@ -62,10 +42,16 @@ gain-one (x ∷ logs) (suc k) l h g = (record { gained = []; is = refl; workers 
 logs-here : (tables : List Held) (k : ℕ) → k < length tables → k < length (logs_of tables)
 logs-here tables k h = let m = map-length (λ (x : Held). x.log) tables in omega (arith, m, h)
 
-pub merge-works : (tables now : List Held) (k : ℕ) (done : Bool) (sources : List Name) → k < length tables → MatchBool done (AppendsMerge (logs_of tables) k sources (logs_of now)) (now ≡ tables) → GainWork (logs_of tables) (logs_of now)
-merge-works tables now k true sources h a = subst (GainWork (logs_of tables)) (sym a.change) (gain-one (logs_of tables) k a.log (logs-here tables k h) (record { gained = Merge a.gains.name sources a.gains.count ∷ []; is = a.gains.change; workers = (tt, tt) }))
+-- an entry of background work enters the log of one table
+work-in : (tables now : List Held) (k : ℕ) (old new : Held) (e : Entry) → k < length tables → old ≡ get_or tables k old → now ≡ set tables k new → new.log ≡ e ∷ old.log → IsOfWorker e → GainWork (logs_of tables) (logs_of now)
+work-in tables now k old new e h at rest log w =
+    subst (GainWork (logs_of tables)) (sym (ap logs_of rest ∙ map-set (λ (x : Held). x.log) tables k new))
+    (gain-one (logs_of tables) k new.log (logs-here tables k h) (record { gained = e ∷ []; is = log ∙ ap (λ (l : List Entry). e ∷ l) (sym (log-at tables k old h at)); workers = (w, tt) }))
+
+pub merge-works : (tables now : List Held) (k : ℕ) (done : Bool) (sources : List Name) → k < length tables → MatchBool done (AppendsMerge tables k sources now) (now ≡ tables) → GainWork (logs_of tables) (logs_of now)
+merge-works tables now k true sources h a = work-in tables now k a.table a.after (Merge a.change.name sources a.change.count) h a.is a.rest (merge-log sources a.table a.after a.change) tt
 merge-works tables now k false sources h a = gain-same (logs_of tables) (logs_of now) (ap logs_of a)
 
-pub mutate-works : (tables now : List Held) (k : ℕ) (done : Bool) (part : Name) (upto : ℕ) → k < length tables → MatchBool done (AppendsMutate (logs_of tables) k part upto (logs_of now)) (now ≡ tables) → GainWork (logs_of tables) (logs_of now)
-mutate-works tables now k true part upto h a = subst (GainWork (logs_of tables)) (sym a.change) (gain-one (logs_of tables) k a.log (logs-here tables k h) (record { gained = Mutate part a.gains.name upto a.gains.count a.gains.mcount ∷ []; is = a.gains.change; workers = (tt, tt) }))
+pub mutate-works : (tables now : List Held) (k : ℕ) (done : Bool) (part : Name) (upto : ℕ) → k < length tables → MatchBool done (AppendsMutate tables k part upto now) (now ≡ tables) → GainWork (logs_of tables) (logs_of now)
+mutate-works tables now k true part upto h a = work-in tables now k a.table a.after (Mutate part a.change.name upto a.change.count a.change.mcount) h a.is a.rest (mutate-log part upto a.table a.after a.change) tt
 mutate-works tables now k false part upto h a = gain-same (logs_of tables) (logs_of now) (ap logs_of a)

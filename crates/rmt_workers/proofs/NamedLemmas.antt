@@ -9,7 +9,7 @@ use Rattle.rmt_table_model.specs.Held.{Held}
 use Rattle.rmt_statement_model.specs.BackgroundWork.{IsOfWorker}
 use Rattle.rmt_statement_model.specs.Books.{ArePrefixesOf, all_clients, GainsWork, GainWork}
 use Rattle.rmt_statement_model.proofs.WorkerEntries.{clients-stay, front-clients}
-use Rattle.rmt_workers.specs.SharedTables.{NamedTable, named, logs_of, AreSharedTables}
+use Rattle.rmt_workers.specs.SharedTables.{NamedTable, named, logs_of}
 use Rattle.rmt_workers.specs.Passes.{IsCopyOfNamed, AreCopiesOf, name_at}
 
 -- ---- lists
@@ -28,6 +28,12 @@ map-set f [] i x = refl
 map-set f (y ∷ ys) zero x = refl
 map-set f (y ∷ ys) (suc i) x = ap (λ zs. f y ∷ zs) (map-set f ys i x)
 
+-- an element in its own place
+pub set-own : {A : Type 0} (xs : List A) (i : ℕ) (x y : A) → i < length xs → x ≡ get_or xs i x → y ≡ x → set xs i y ≡ xs
+set-own [] i x y h at e = absurd (omega (arith, h))
+set-own (z ∷ zs) zero x y h at e = ap (λ w. w ∷ zs) (e ∙ at)
+set-own (z ∷ zs) (suc i) x y h at e = ap (λ ws. z ∷ ws) (set-own zs i x y (omega (arith, h)) at e)
+
 -- an element is replaced by one of which this is the same
 pub set-same : {A B : Type 0} (f : A → B) (xs : List A) (i : ℕ) (old new : A) → i < length xs → old ≡ get_or xs i old → f new ≡ f old → set (map f xs) i (f new) ≡ map f xs
 set-same f [] i old new h at e = absurd (omega (arith, h))
@@ -39,6 +45,12 @@ pub each-set : {A : Type 0} (P : A → Type 0) (xs : List A) (i : ℕ) (old new 
 each-set P [] i old new h at f e = absurd (omega (arith, h))
 each-set P (x ∷ xs) zero old new h at f e = (f (subst P (sym at) e.0), e.1)
 each-set P (x ∷ xs) (suc i) old new h at f e = (e.0, each-set P xs i old new (omega (arith, h)) at f e.1)
+
+-- the replicas of the table at a place
+pub sessions-at : (replicas : ℕ) (tables : List Held) (k : ℕ) (h : Held) → Each (λ (x : Held). length x.sessions ≡ replicas) tables → k < length tables → h ≡ get_or tables k h → length h.sessions ≡ replicas
+sessions-at replicas [] k h e l at = absurd (omega (arith, l))
+sessions-at replicas (x ∷ xs) zero h e l at = ap (λ (y : Held). length y.sessions) at ∙ e.0
+sessions-at replicas (x ∷ xs) (suc k) h e l at = sessions-at replicas xs k h e.1 (omega (arith, l)) at
 
 -- ---- copies of the logs of named tables
 
@@ -117,25 +129,6 @@ gained-at (x ∷ copies) (y ∷ logs) zero c l g h = g.0
 gained-at (x ∷ copies) (y ∷ logs) (suc i) c l g h = gained-at copies logs i c l g.1 (omega (arith, h))
 gained-at [] (y ∷ logs) i c l g h = absurd g
 gained-at (x ∷ copies) [] i c l g h = absurd g
-
--- ---- a table in place of another
-
--- the tables stay those that are named, each with its replicas, and their count stays, where a log gains none of a client
-pub tables-with : (names : List NamedTable) (replicas : ℕ) (tables : List Held) (total k : ℕ) (old new : Held) → AreSharedTables names replicas tables total → k < length tables → old ≡ get_or tables k old → named new ≡ named old → length new.sessions ≡ length old.sessions → client_count new.log ≡ client_count old.log → AreSharedTables names replicas (set tables k new) total
-tables-with names replicas tables total k old new d h at same sessions count = record {
-  are_named = map-set named tables k new ∙ (set-same named tables k old new h at same ∙ d.are_named);
-  sessions = each-set (λ (x : Held). length x.sessions ≡ replicas) tables k old new h at (λ e. sessions ∙ e) d.sessions;
-  counted = d.counted ∙ sym all;
-}
-  where
-    all : all_clients (logs_of (set tables k new)) ≡ all_clients (logs_of tables)
-    all =
-        let m = map-length (λ (x : Held). x.log) tables in
-        let hl : k < length (logs_of tables) = omega (arith, m, h) in
-        let a = set-clients (logs_of tables) k new.log [] hl in
-        let b : client_count (get_or (logs_of tables) k []) ≡ client_count old.log = ap client_count (map-get (λ (x : Held). x.log) tables k old [] h ∙ ap (λ (x : Held). x.log) (sym at)) in
-        let c : all_clients (logs_of (set tables k new)) ≡ all_clients (set (logs_of tables) k new.log) = ap all_clients (map-set (λ (x : Held). x.log) tables k new) in
-        omega (arith, a, b, c, count)
 
 -- the log of the table at a place
 pub log-at : (tables : List Held) (k : ℕ) (old : Held) → k < length tables → old ≡ get_or tables k old → get_or (logs_of tables) k [] ≡ old.log

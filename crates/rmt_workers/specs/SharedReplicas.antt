@@ -10,7 +10,7 @@ use Rattle.rmt_replica.specs.ReplicaRows.{IsReplicaOfRow}
 use Rattle.rmt_table_model.specs.Held.{Held}
 use Rattle.rmt_jobs.specs.declared.job.Job.{Job}
 use Rattle.rmt_jobs.specs.declared.job.Job.TheVariants as jobs
-use Rattle.rmt_workers.specs.SharedTables.{NamedTable, AppendsMerge, AppendsMutate, IsUnmerged, IsUnmutated, logs_of, log_in}
+use Rattle.rmt_workers.specs.SharedTables.{NamedTable, AppendsMerge, AppendsMutate, IsUnmerged, IsUnmutated, log_in, views_of}
 use Rattle.rmt_workers.specs.Passes.{name_at}
 
 -- a replica, and the place of its table, counted from 0
@@ -54,13 +54,13 @@ IsPulled old tables new =
 -- or a mutate enters the log unless there is a cause why it doesn't. An entry that is to be done is left to do.
 abbrev pub IsBegun : SharedReplicaView → List Held → Job → SharedReplicaView → List Held → Type 0
 IsBegun old tables jobs.Idle new now = (new ≡ old) × (now ≡ tables)
-IsBegun old tables jobs.Pull new now = IsPulled old tables new × (logs_of now ≡ logs_of tables)
+IsBegun old tables jobs.Pull new now = IsPulled old tables new × (views_of now ≡ views_of tables)
 IsBegun old tables (jobs.Apply i) new now = (new ≡ old) × (now ≡ tables)
 IsBegun old tables (jobs.Merge names) new now =
     (new ≡ old)
-    × (AppendsMerge (logs_of tables) old.table names (logs_of now)
+    × (AppendsMerge tables old.table names now
     ⊎ ((now ≡ tables) × IsUnmerged tables old.table old.replica.log names))
 IsBegun old tables (jobs.Mutate part upto) new now =
     (new ≡ old)
-    × (AppendsMutate (logs_of tables) old.table part upto (logs_of now)
+    × (AppendsMutate tables old.table part upto now
     ⊎ ((now ≡ tables) × IsUnmutated tables old.table old.replica.log part upto))

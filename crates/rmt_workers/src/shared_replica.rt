@@ -2,7 +2,7 @@ ghost use Rattle.std.specs.Prelude.{◌≡◌, ◌<◌, ◌⊎◌, false, length
 ghost use Rattle.std.specs.declared.result.Result.TheVariants.{Err};
 ghost use Rattle.rmt_replica.specs.declared.replica_error.ReplicaError.TheVariants as errors;
 ghost use Rattle.rmt_replica.specs.Replicas.{LengthensCopy};
-ghost use Rattle.rmt_workers.specs.SharedTables.{logs_of, log_in};
+ghost use Rattle.rmt_workers.specs.SharedTables.{logs_of, log_in, views_of};
 ghost use Rattle.rmt_statement_model.specs.Books.{GainWork};
 ghost use Rattle.rmt_jobs.specs.Jobs.{IsJob};
 ghost use Rattle.rmt_workers.specs.SharedReplicas.{IsSharedReplica, IsBegun, IsMadeOf, IsPulled, MayLengthen};
@@ -89,6 +89,7 @@ impl<N: Naming> SharedReplica<N> {
     ) -> Result<bool, ReplicaError>
         requires table { self.old.table < length tables.old }
         ensures logs { logs_of tables.new ≡ logs_of tables.old }
+        ensures seen { views_of tables.new ≡ views_of tables.old }
         ensures table { self.new.table ≡ self.old.table }
         ensures longer { LengthensCopy self.old.replica self.new.replica }
         ensures ok { IfOk result (λ met. MatchBool met
@@ -183,6 +184,7 @@ impl<N: Naming> SharedReplica<N> {
         requires table { self.old.table < length tables.old }
         ensures pulled { OnOk result (IsPulled self.old tables.old self.new) }
         ensures logs { logs_of tables.new ≡ logs_of tables.old }
+        ensures seen { views_of tables.new ≡ views_of tables.old }
         ensures table { self.new.table ≡ self.old.table }
         ensures longer { MayLengthen self.old.replica self.new.replica }
     {

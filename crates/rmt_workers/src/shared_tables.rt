@@ -1,16 +1,21 @@
-ghost use Rattle.std.specs.Prelude.{◌≡◌, ◌<◌, ◌≤◌, ◌^◌, false, length, map, IfOk, IsTrue, MatchBool, OnErr, OnOk};
+ghost use Rattle.std.specs.Prelude.{◌≡◌, ◌<◌, ◌≤◌, ◌^◌, false, length, map, slice_index_or, IfOk, IsTrue, MatchBool, OnErr, OnOk};
 ghost use Rattle.std.specs.declared.result.Result.TheVariants.{Err};
 ghost use Rattle.rmt_model.specs.Words.{Each};
 ghost use Rattle.rmt_model.specs.Lawful.{IsPrefix};
 ghost use Rattle.rmt_replica.specs.declared.replica_error.ReplicaError.TheVariants as errors;
 ghost use Rattle.rmt_replica.specs.Replicas.{LengthensCopy, copy_of};
 ghost use Rattle.rmt_statement_model.specs.Books.{ArePrefixesOf, all_clients};
-ghost use Rattle.rmt_workers.specs.SharedTables.{named, logs_of, log_in, AppendsMerge, AppendsMutate, GainsMerge, GainsMutate, IsUnmerged, IsUnmutated, RefusesMerge, RefusesMutate};
+ghost use Rattle.rmt_workers.specs.SharedTables.{HasBlocks, HaveBlocks, named, logs_of, log_in, views_of, AppendsMerge, AppendsMutate, GainsMerge, GainsMutate, IsUnmerged, IsUnmutated, RefusesMerge, RefusesMutate};
+ghost use Rattle.rmt_table_model.specs.Held.{Held};
 ghost use Rattle.rmt_table.specs.TableTrees.{IsCopyOf};
 ghost use Rattle.rmt_events.specs.LogEvents.{AreMergeable};
 ghost use Rattle.rmt_events.specs.LogEvents.{IsMutable};
 ghost use Rattle.rmt_workers.specs.Passes.{AreCopiesOf, IsCopyOfNamed, IsShorter, logs_in, name_at};
 ghost use Rattle.rmt_workers.specs.SharedReplicas.{IsNumber};
+
+mod changes;
+mod inserts;
+mod sessions;
 
 use crate::naming::{ClientEntries, Naming};
 use rmt_history::LogCopy;
@@ -43,7 +48,7 @@ impl<N: Naming> Model for SharedTables<N> {
 
     ghost view = { λ d. d.tables.items };
 
-    ghost invariant = { λ d. AreSharedTables N.tables N.replicas d.tables.items d.entries.total };
+    ghost invariant = { λ d. AreSharedTables N.tables N.replicas N.offered d.tables.items d.entries.total };
 }
 
 /// How many entries of clients the logs of tables have.
@@ -68,10 +73,10 @@ fn merge_in(
 ) -> Result<bool, AllocError>
     requires of { IsCopyOf tree.old copy.now }
     requires neighbours { AreMergeable copy.now.log sources.now }
-    ensures named { named tree.new ≡ named tree.old }
+    ensures row { tree.new.row ≡ tree.old.row }
     ensures sessions { length tree.new.sessions ≡ length tree.old.sessions }
     ensures ok { IfOk result (λ done. MatchBool done
-        (GainsMerge tree.old.log sources.now tree.new.log) (tree.new ≡ tree.old)) }
+        (GainsMerge tree.old sources.now tree.new) (tree.new ≡ tree.old)) }
     ensures refused { IfOk result (λ done. (done ≡ false) → RefusesMerge tree.old (length copy.now.log) sources.now) }
     ensures err { OnErr result (tree.new ≡ tree.old) }
 {
@@ -95,10 +100,10 @@ fn mutate_in(
 ) -> Result<bool, AllocError>
     requires of { IsCopyOf tree.old copy.now }
     requires pending { IsMutable copy.now.log old.now upto }
-    ensures named { named tree.new ≡ named tree.old }
+    ensures row { tree.new.row ≡ tree.old.row }
     ensures sessions { length tree.new.sessions ≡ length tree.old.sessions }
     ensures ok { IfOk result (λ done. MatchBool done
-        (GainsMutate tree.old.log old.now upto tree.new.log) (tree.new ≡ tree.old)) }
+        (GainsMutate tree.old old.now upto tree.new) (tree.new ≡ tree.old)) }
     ensures refused { IfOk result (λ done. (done ≡ false) → RefusesMutate tree.old (length copy.now.log)) }
     ensures err { OnErr result (tree.new ≡ tree.old) }
 {
@@ -119,6 +124,7 @@ impl<N: Naming> SharedTables<N> {
     ) -> (SharedTables<N>, Share<ClientEntries<N>>)
         requires named { map named tables.items ≡ N.tables }
         requires sessions { Each (λ h. length h.sessions ≡ N.replicas) tables.items }
+        requires blocks { HaveBlocks N.offered tables.items }
         requires few { length tables.items < 2 ^ 32 }
         requires name { entries.name ≡ N.entries_name }
         requires parts { entries.parts ≡ N.parts }
@@ -146,6 +152,24 @@ impl<N: Naming> SharedTables<N> {
         ensures { map named self.now ≡ N.tables }
     {
         let _ = &self.tables;
+    }
+
+    /// Tells what always holds: the tables have no blocks but those that are offered to them. It does nothing.
+    pub fn has_offered_blocks(&self)
+        ensures { HaveBlocks N.offered self.now }
+    {
+        let _ = &self.tables;
+    }
+
+    /// The table at a place, counted from 0.
+    pub fn table(&self, place: usize) -> &TableTree
+        requires place { place < length self.now }
+        ensures same { (h : Held) → result.now ≡ slice_index_or self.now place h }
+        ensures named { named result.now ≡ name_at N.tables place }
+        ensures sessions { length result.now.sessions ≡ N.replicas }
+        ensures blocks { HasBlocks (N.offered place) result.now }
+    {
+        &self.tables[place]
     }
 
     /// How many tables there are.
@@ -217,6 +241,7 @@ impl<N: Naming> SharedTables<N> {
         requires few { length replica.old.log ≤ 65536 }
         requires of { IsCopyOfNamed (name_at N.tables table) (copy_of replica.old) }
         ensures logs { logs_of self.new ≡ logs_of self.old }
+        ensures seen { views_of self.new ≡ views_of self.old }
         ensures of { IsCopyOfNamed (name_at N.tables table) (copy_of replica.new) }
         ensures longer { LengthensCopy replica.old replica.new }
         ensures few { length replica.new.log ≤ 65536 }
@@ -255,7 +280,7 @@ impl<N: Naming> SharedTables<N> {
         requires table { table < length self.old }
         requires of { IsCopyOfNamed (name_at N.tables table) copy.now }
         ensures ok { IfOk result (λ done. MatchBool done
-            (AppendsMerge (logs_of self.old) table sources.now (logs_of self.new))
+            (AppendsMerge self.old table sources.now self.new)
             (self.new ≡ self.old)) }
         ensures refused { IfOk result (λ done. (done ≡ false) → IsUnmerged self.old table copy.now.log sources.now) }
         ensures err { OnErr result (self.new ≡ self.old) }
@@ -285,7 +310,7 @@ impl<N: Naming> SharedTables<N> {
         requires table { table < length self.old }
         requires of { IsCopyOfNamed (name_at N.tables table) copy.now }
         ensures ok { IfOk result (λ done. MatchBool done
-            (AppendsMutate (logs_of self.old) table old.now upto (logs_of self.new))
+            (AppendsMutate self.old table old.now upto self.new)
             (self.new ≡ self.old)) }
         ensures refused { IfOk result (λ done. (done ≡ false) → IsUnmutated self.old table copy.now.log old.now upto) }
         ensures err { OnErr result (self.new ≡ self.old) }

@@ -1,13 +1,18 @@
-ghost use Rattle.std.specs.Prelude.{◌≡◌, ◌≤◌, ◌<◌, ◌∷◌, [], true, length, IfOk};
+ghost use Rattle.std.specs.Prelude.{◌≡◌, ◌≤◌, ◌<◌, ◌∷◌, [], true, length, IfOk, OnOk};
 ghost use Rattle.std.specs.List.{All};
 ghost use Rattle.std.specs.Arc.{arc_value};
 ghost use Rattle.rmt_values.specs.Rows.{fits};
 ghost use Rattle.rmt_columns.specs.RowsByColumn.{kinds_in};
 ghost use Rattle.rmt_compact.specs.NewParts.{GetsBlock};
+ghost use Rattle.rmt_block.specs.Blocks.{id_of};
+ghost use Rattle.rmt_model.specs.EntryLimits.{client_count};
+ghost use Rattle.rmt_events.specs.Views.{Block as AnyBlock};
 ghost use Rattle.rmt_workers.specs.SharedTables.{named};
+ghost use Rattle.rmt_workers.specs.SharedReplicas.{IsNumber};
+ghost use Rattle.rmt_workers.specs.Passes.{IsCopyOfNamed, name_at};
 
 use super::*;
-use rmt_block::{Block, BlockId};
+use rmt_block::{Block, id};
 use rmt_columns::Rows;
 use rmt_compact::from_block;
 use rmt_entries::Entry;
@@ -18,11 +23,11 @@ use rmt_part::Part;
 use rmt_partset::{PartSet, Snapshot};
 use rmt_replica::{Replica, Supply};
 use rmt_row::{PutError, Row, Seen};
-use rmt_table::TableTree;
+use rmt_table::{Lock, TableTree};
 use rmt_values::{Column, Kind, Name, Row as ValueRow, Schema, Value};
 use std::alloc::{AllocError, Global};
 use std::marker::Brand;
-use std::sync::ledger::Blank;
+use std::sync::ledger::{Blank, Share};
 use std::sync::{Arc, Mutex, Wait};
 use std::test::Fail;
 use std::thread::join;
@@ -57,22 +62,22 @@ fn shared_schema(alloc: Global) -> Result<Arc<Schema, Global>, Fail> {
     Ok(shared)
 }
 
-/// The row 7.
-fn values_of(alloc: Global) -> Result<Vec<ValueRow>, AllocError>
+/// The row of a number.
+fn values_of(alloc: Global, number: u64) -> Result<Vec<ValueRow>, AllocError>
     ensures { IfOk result (λ rows. length rows.items ≡ 1) }
 {
-    let values = vec![in alloc; Value::UInt(7)]?;
+    let values = vec![in alloc; Value::UInt(number)]?;
     let rows = vec![in alloc; ValueRow::new(values)]?;
     Ok(rows)
 }
 
 /// That row, held by column.
-fn rows_of(alloc: Global, schema: &Schema) -> Result<Rows, Fail>
+fn rows_of(alloc: Global, schema: &Schema, number: u64) -> Result<Rows, Fail>
     ensures one { IfOk result (λ rows. length rows.rows ≡ 1) }
     ensures fit { IfOk result (λ rows. All (λ row. fits schema.now.columns row ≡ true) rows.rows) }
     ensures kinds { IfOk result (λ rows. rows.kinds ≡ kinds_in schema.now.columns) }
 {
-    let values = values_of(alloc)?;
+    let values = values_of(alloc, number)?;
     match Rows::of_rows(alloc, &values, schema)? {
         Some(rows) => Ok(rows),
         None => Err("the row is not of the table".into()),
@@ -80,10 +85,10 @@ fn rows_of(alloc: Global, schema: &Schema) -> Result<Rows, Fail>
 }
 
 /// A block of that row.
-fn block_of(alloc: Global, schema: &Schema) -> Result<Arc<Block, Global>, Fail>
+fn block_of(alloc: Global, schema: &Schema, number: u64) -> Result<Arc<Block, Global>, Fail>
     ensures { IfOk result (λ block. All (λ row. fits schema.now.columns row ≡ true) (arc_value block).rows) }
 {
-    let rows = rows_of(alloc, schema)?;
+    let rows = rows_of(alloc, schema, number)?;
     let block = Block::new(alloc, rows, schema)?;
     let shared = Arc::new(alloc, block)?;
     Ok(shared)
@@ -111,7 +116,7 @@ fn token_of(alloc: Global, block: &Block) -> Result<Seen<Entry>, Fail>
 /// The part of the block.
 fn part_of(alloc: Global) -> Result<Arc<Part, Global>, Fail> {
     let schema = shared_schema(alloc)?;
-    let block = block_of(alloc, &schema)?;
+    let block = block_of(alloc, &schema, 7)?;
     let token = token_of(alloc, &block)?;
     let part = from_block(alloc, block, token, &schema)?;
     let shared = Arc::new(alloc, part)?;
@@ -151,51 +156,104 @@ fn put(row: &Row<Entry>, alloc: Global, number: u32) -> Option<u32> {
     }
 }
 
-/// A table without entries.
+/// A table of one replica, without entries.
 fn table_of(alloc: Global) -> Result<TableTree, Fail>
-    ensures { IfOk result (λ table. length table.sessions ≡ 1) }
+    ensures sessions { IfOk result (λ table. length table.sessions ≡ 1) }
+    ensures empty { IfOk result (λ table. table.log ≡ []) }
+    ensures values { IfOk result (λ table. table.values ≡ 0) }
 {
     let schema = shared_schema(alloc)?;
     let table = TableTree::new(alloc, schema, 1)?;
     Ok(table)
 }
 
-/// Accepts a block of the only partition that no other block is, at the table's only replica.
-fn accept(alloc: Global, table: &mut TableTree, byte: u8) -> Result<(), Fail>
-    requires { length table.old.sessions ≡ 1 }
-    ensures { length table.new.sessions ≡ 1 }
+/// Inserts the block of a number at the first replica of the first table.
+fn insert<N: Naming>(
+    alloc: Global,
+    tables: &mut SharedTables<N>,
+    all: &mut Share<ClientEntries<N>>,
+    number: u64,
+) -> Result<(), Fail>
+    requires here { 1 ≤ N.replicas }
+    requires offered { (b : AnyBlock) → N.offered 0 b }
+    requires part { 0 < all.old.parts }
+    ensures parts { all.new.parts ≡ all.old.parts }
 {
-    let id = BlockId {
-        partition: None,
-        digest: [byte; 32],
-    };
-    let Ok(lock) = table.allocate(alloc, 1, &id, 0) else {
+    let schema = schema_of(alloc)?;
+    let block = block_of(alloc, &schema, number)?;
+    if tables.len() == 0 {
+        return Err("no table".into());
+    }
+    let Ok(lock) = tables.allocate(alloc, 0, 1, &id(&block), 0) else {
         return Err("no number".into());
     };
-    match table.commit_insert(alloc, &lock, 0, 1) {
-        Ok(_token) => Ok(()),
+    accept(alloc, tables, all, &lock, &block)
+}
+
+/// Accepts the block of a lock of the first table.
+fn accept<N: Naming>(
+    alloc: Global,
+    tables: &mut SharedTables<N>,
+    all: &mut Share<ClientEntries<N>>,
+    lock: &Lock,
+    block: &Block,
+) -> Result<(), Fail>
+    requires here { IsNumber lock.now.replica N.replicas }
+    requires id { lock.now.id ≡ id_of block.now }
+    requires offered { (b : AnyBlock) → N.offered 0 b }
+    requires part { 0 < all.old.parts }
+    ensures parts { all.new.parts ≡ all.old.parts }
+{
+    if tables.len() == 0 || !tables.has_lock(alloc, 0, lock)? {
+        return Err("no table or no lock".into());
+    }
+    match tables.commit_insert(alloc, 0, lock, 0, block, all) {
+        Ok(()) => Ok(()),
         Err(_) => Err("not accepted".into()),
     }
 }
 
-/// A table of one replica whose log has two blocks.
-fn filled_table(alloc: Global) -> Result<TableTree, Fail>
-    ensures { IfOk result (λ table. length table.sessions ≡ 1) }
+/// Starts the session of the first table's first replica.
+fn start<N: Naming>(alloc: Global, tables: &mut SharedTables<N>) -> Result<(), Fail>
+    requires here { 1 ≤ N.replicas }
 {
-    let mut table = table_of(alloc)?;
-    table.open(alloc, 1)?;
-    accept(alloc, &mut table, 1)?;
-    accept(alloc, &mut table, 2)?;
-    Ok(table)
+    if tables.len() == 0 {
+        return Err("no table".into());
+    }
+    tables.open_session(alloc, 0, 1)?;
+    Ok(())
 }
 
-/// That table, without its blocks.
-fn dropped_table(alloc: Global) -> Result<TableTree, Fail>
-    ensures { IfOk result (λ table. length table.sessions ≡ 1) }
+/// Fills the first table with two blocks.
+fn fill<N: Naming>(
+    alloc: Global,
+    tables: &mut SharedTables<N>,
+    all: &mut Share<ClientEntries<N>>,
+) -> Result<(), Fail>
+    requires here { 1 ≤ N.replicas }
+    requires offered { (b : AnyBlock) → N.offered 0 b }
+    requires part { 0 < all.old.parts }
+    ensures parts { all.new.parts ≡ all.old.parts }
 {
-    let mut table = filled_table(alloc)?;
-    match table.drop_partition(alloc, None) {
-        Ok(Some(_token)) => Ok(table),
+    start(alloc, tables)?;
+    insert(alloc, tables, all, 7)?;
+    insert(alloc, tables, all, 8)?;
+    Ok(())
+}
+
+/// Drops the only partition of the first table.
+fn empty<N: Naming>(
+    alloc: Global,
+    tables: &mut SharedTables<N>,
+    all: &mut Share<ClientEntries<N>>,
+) -> Result<(), Fail>
+    requires part { 0 < all.old.parts }
+{
+    if tables.len() == 0 {
+        return Err("no table".into());
+    }
+    match tables.drop_partition(alloc, 0, None, all) {
+        Ok(Some(2)) => Ok(()),
         _ => Err("not dropped".into()),
     }
 }
@@ -230,6 +288,9 @@ fn work<N: Naming>(alloc: Global, table: TableTree, entries: Blank) -> Result<us
     requires named { named table ∷ [] ≡ N.tables }
     requires sessions { length table.sessions ≡ N.replicas }
     requires some { 1 ≤ N.replicas }
+    requires empty { table.log ≡ [] }
+    requires values { table.values ≡ 0 }
+    requires offered { (b : AnyBlock) → N.offered 0 b }
     requires name { entries.name ≡ N.entries_name }
     requires parts { entries.parts ≡ N.parts }
     requires whole { 0 < N.parts }
@@ -238,7 +299,9 @@ fn work<N: Naming>(alloc: Global, table: TableTree, entries: Blank) -> Result<us
     let replica = Replica::new(alloc, 1, schema, true);
     let mut shared = SharedReplica::<N>::new(0, replica);
     let tables = vec![in alloc; table]?;
-    let (mut tables, _all) = SharedTables::<N>::open(tables, entries);
+    let (mut tables, mut all) = SharedTables::<N>::open(tables, entries);
+    fill(alloc, &mut tables, &mut all)?;
+    empty(alloc, &mut tables, &mut all)?;
     for done in 0..10usize {
         match decide(alloc, &mut shared, &mut tables)? {
             Job::Idle => return Ok(done),
@@ -249,20 +312,48 @@ fn work<N: Naming>(alloc: Global, table: TableTree, entries: Blank) -> Result<us
     Err("there is always more to do".into())
 }
 
+/// Brings a copy of nothing of the only table's log to the log's length, where all parts of the book count its entries.
+fn see<N: Naming>(
+    tables: &mut SharedTables<N>,
+    all: &mut Share<ClientEntries<N>>,
+    copy: &mut LogCopy,
+) -> Result<(), Fail>
+    requires one { length N.tables ≡ 1 }
+    requires whole { all.old.parts ≡ N.parts }
+    requires of { IsCopyOfNamed (name_at N.tables 0) copy.old }
+    requires empty { copy.old.log ≡ [] }
+    ensures of { OnOk result (IsCopyOfNamed (name_at N.tables 0) copy.new) }
+    ensures parts { all.new.parts ≡ all.old.parts }
+    ensures counted { OnOk result (all.new.amount ≡ client_count copy.new.log) }
+{
+    tables.has_named_tables();
+    tables.audit(all);
+    if tables.len() == 0 {
+        return Err("no table".into());
+    }
+    tables.extend_copy(0, copy)?;
+    Ok(())
+}
+
 /// How much of a table's log a client has seen after a merge of its two blocks was asked for.
 fn merge<N: Naming>(alloc: Global, table: TableTree, entries: Blank) -> Result<usize, Fail>
     requires named { named table ∷ [] ≡ N.tables }
     requires sessions { length table.sessions ≡ N.replicas }
+    requires some { 1 ≤ N.replicas }
+    requires empty { table.log ≡ [] }
+    requires values { table.values ≡ 0 }
+    requires offered { (b : AnyBlock) → N.offered 0 b }
     requires name { entries.name ≡ N.entries_name }
     requires parts { entries.parts ≡ N.parts }
     requires whole { 0 < N.parts }
 {
     let schema = table.schema().clone()?;
     let mut copy = LogCopy::new(alloc, schema);
-    table.extend_copy(&mut copy)?;
     let tables = vec![in alloc; table]?;
+    let (mut tables, mut all) = SharedTables::<N>::open(tables, entries);
+    fill(alloc, &mut tables, &mut all)?;
+    see(&mut tables, &mut all, &mut copy)?;
     let copies = vec![in alloc; copy]?;
-    let (mut tables, all) = SharedTables::<N>::open(tables, entries);
     let mut pass = Pass::<N>::new(copies, all);
     if pass.len() == 0 || tables.len() == 0 {
         return Err("no table".into());
@@ -345,7 +436,7 @@ fn a_part_is_handed_to_a_thread(rt: HostRuntime) -> Result<(), Fail> {
 
 #[test]
 fn a_worker_does_what_the_log_has(rt: HostRuntime) -> Result<(), Fail> {
-    let table = dropped_table(rt.alloc())?;
+    let table = table_of(rt.alloc())?;
     let done = work::<Brand>(rt.alloc(), table, Blank::new(1))?;
     assert_eq!(rt; done, 4);
     Ok(())
@@ -353,7 +444,7 @@ fn a_worker_does_what_the_log_has(rt: HostRuntime) -> Result<(), Fail> {
 
 #[test]
 fn a_client_sees_the_merge_that_was_asked_for(rt: HostRuntime) -> Result<(), Fail> {
-    let table = filled_table(rt.alloc())?;
+    let table = table_of(rt.alloc())?;
     let seen = merge::<Brand>(rt.alloc(), table, Blank::new(1))?;
     assert_eq!(rt; seen, 3);
     Ok(())

@@ -2,22 +2,22 @@ use Rattle.std.proofs.Common.{rules, ◌≡◌, ◌<◌, ◌⊎◌, inl, inr, Li
 use Rattle.std.specs.Prelude.{MatchBool}
 use Rattle.rmt_table_model.specs.Held.{Held}
 use Rattle.rmt_events.specs.LogEvents.{AreMergeable}
-use Rattle.rmt_workers.specs.SharedTables.{logs_of, AppendsMerge, IsUnmerged}
-use Rattle.rmt_workers.proofs.NamedLemmas.{tables-with}
-use Rattle.rmt_workers.proofs.AppendLemmas.{merge-count, merge-appends}
+use Rattle.rmt_workers.specs.SharedTables.{GainsMerge, AppendsMerge, IsUnmerged}
+use Rattle.rmt_workers.proofs.AppendLemmas.{changes-one}
+use Rattle.rmt_workers.proofs.CallLemmas.{merge-follows, tables-still}
 use Rattle.rmt_workers.proofs.shared_tables.SharedTables.assign_merge.Goals as goal
 
 pub invariant_of-self-2 : goal.invariant_of-self-2
 invariant_of-self-2 g c =
     let h = subst (λ (ts : List Held). c.args.table < length ts) (sym c.self.view_is) c.requires.table in
-    tables-with g.N.Naming.tables g.N.Naming.replicas c.self.inside.tables.items c.self.inside.entries.total c.args.table c.index_mut-tree.result.now c.merge_in.new.tree c.self.invariant h c.index_mut-tree.ensures.value
-    c.merge_in.ensures.named c.merge_in.ensures.sessions (merge-count c.in_ok-done.done c.args.sources.now c.index_mut-tree.result.now c.merge_in.new.tree c.in_ok-done.ensures.ok)
+    tables-still g.N.Naming.tables g.N.Naming.replicas g.N.Naming.offered c.self.inside.tables.items c.self.inside.entries.total c.args.table c.index_mut-tree.result.now c.merge_in.new.tree c.self.invariant h c.index_mut-tree.ensures.value
+    (merge-follows (g.N.Naming.offered c.args.table) c.index_mut-tree.result.now c.merge_in.new.tree c.merge_in.ensures.row c.merge_in.ensures.sessions c.in_ok-done.done c.args.sources.now c.in_ok-done.ensures.ok)
 
 pub returns-clause-ok : goal.returns-clause-ok
 returns-clause-ok g c =
     let h = subst (λ (ts : List Held). c.args.table < length ts) (sym c.self.view_is) c.requires.table in
-    subst (λ (ts : List Held). MatchBool c.in_ok-done.done (AppendsMerge (logs_of ts) c.args.table c.args.sources.now (logs_of (set c.self.inside.tables.items c.args.table c.merge_in.new.tree))) (set c.self.inside.tables.items c.args.table c.merge_in.new.tree ≡ ts)) c.self.view_is
-    (merge-appends c.self.inside.tables.items c.args.table c.index_mut-tree.result.now c.merge_in.new.tree h c.index_mut-tree.ensures.value c.in_ok-done.done c.args.sources.now c.in_ok-done.ensures.ok)
+    subst (λ (ts : List Held). MatchBool c.in_ok-done.done (AppendsMerge ts c.args.table c.args.sources.now (set c.self.inside.tables.items c.args.table c.merge_in.new.tree)) (set c.self.inside.tables.items c.args.table c.merge_in.new.tree ≡ ts)) c.self.view_is
+    (changes-one c.in_ok-done.done (λ t u. GainsMerge t c.args.sources.now u) c.self.inside.tables.items c.args.table c.index_mut-tree.result.now c.merge_in.new.tree h c.index_mut-tree.ensures.value c.in_ok-done.ensures.ok)
 
 pub returns-then-not-meet-clause-refused : goal.returns-then-not-meet-clause-refused
 returns-then-not-meet-clause-refused g c = λ e.

@@ -1,0 +1,8 @@
+use Rattle.std.proofs.Common.{◌≡◌, ◌<◌, List, length, set, get_or, sym, subst, ap, ◌∙◌}
+use Rattle.rmt_table_model.specs.Held.{Held}
+use Rattle.rmt_workers.specs.SharedTables.{HaveBlocks}
+use Rattle.rmt_workers.proofs.shared_tables.SharedTables.has_offered_blocks.Goals as goal
+
+pub returns : goal.returns
+returns g c =
+    subst (HaveBlocks g.N.Naming.offered) c.self.view_is c.self.invariant.blocks
