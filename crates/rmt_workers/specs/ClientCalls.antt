@@ -35,7 +35,7 @@ DropsIn old k p None new = HasTable old k (λ t. next_number t.next p ≡ 0) × 
 DropsIn old k p (Some n) new = ChangesTable old k (λ t u. DropsPartition (table_at t) p n (table_at u)) new
 
 -- a replica's block of this id gets the lock's number in a table where enough replicas have a session for it
-pub record TakesNumber (replica : ℕ) (id : BlockId) (need : ℕ) (lock : Lock) (old new : Held) : Type 0 where
+pub record GivesNumber (replica : ℕ) (id : BlockId) (need : ℕ) (lock : Lock) (old new : Held) : Type 0 where
   pub is : lock ≡ record { replica = replica; session = lock.session; number = next_number old.next id.partition; id = id }
   pub quorum : HasQuorum (table_at old) need
   pub allocates : Allocates (table_at old) replica id.partition id.digest lock.number (table_at new)

@@ -8,7 +8,7 @@ ghost use Rattle.rmt_table.specs.Causes.{allocate_cause, commit_cause};
 ghost use Rattle.rmt_table.specs.Refusals.{NoCommit};
 ghost use Rattle.rmt_workers.specs.SharedTables.{ChangesTable};
 ghost use Rattle.rmt_workers.specs.SharedReplicas.{IsNumber};
-ghost use Rattle.rmt_workers.specs.ClientCalls.{AcceptsBlock, HasTable, TakesNumber};
+ghost use Rattle.rmt_workers.specs.ClientCalls.{AcceptsBlock, HasTable, GivesNumber};
 
 use crate::naming::{ClientEntries, Naming};
 use crate::shared_tables::SharedTables;
@@ -41,7 +41,7 @@ impl<N: Naming> SharedTables<N> {
         requires table { table < length self.old }
         requires here { IsNumber replica N.replicas }
         ensures ok { IfOk result (λ lock. ChangesTable self.old table
-            (λ t u. TakesNumber replica id.now need lock t u) self.new) }
+            (λ t u. GivesNumber replica id.now need lock t u) self.new) }
         ensures refused { IfErr result (λ e. IfSome (allocate_cause e)
             (λ why. HasTable self.old table
             (λ t. NoNumber (table_at t) replica id.now.partition id.now.digest need why))) }

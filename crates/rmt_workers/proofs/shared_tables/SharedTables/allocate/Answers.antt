@@ -4,7 +4,7 @@ use Rattle.rmt_events.specs.TableRefusals.{NoNumber}
 use Rattle.rmt_table_model.specs.Held.{Held}
 use Rattle.rmt_table.specs.TableTrees.{table_at}
 use Rattle.rmt_table.specs.Causes.{allocate_cause}
-use Rattle.rmt_workers.specs.ClientCalls.{TakesNumber}
+use Rattle.rmt_workers.specs.ClientCalls.{GivesNumber}
 use Rattle.rmt_workers.proofs.CallLemmas.{allocate-follows, tables-still, here-at, changed, has-cause}
 use Rattle.rmt_workers.proofs.shared_tables.SharedTables.allocate.Goals as goal
 
@@ -26,4 +26,4 @@ invariant_of-self-2 g c =
 
 pub returns-clause-ok : goal.returns-clause-ok
 returns-clause-ok g c =
-    changed c.self.inside.tables.items c.args.self.now c.self.view_is c.args.table c.index_mut.result.now c.index_mut.ensures.value (λ t u. TakesNumber c.args.replica c.args.id.now c.args.need c.in_ok-lock.lock t u) c.allocate.new.self (record { is = c.in_ok-lock.ensures.lock; quorum = c.in_ok-lock.ensures.has_quorum; allocates = c.in_ok-lock.ensures.allocates })
+    changed c.self.inside.tables.items c.args.self.now c.self.view_is c.args.table c.index_mut.result.now c.index_mut.ensures.value (λ t u. GivesNumber c.args.replica c.args.id.now c.args.need c.in_ok-lock.lock t u) c.allocate.new.self (record { is = c.in_ok-lock.ensures.lock; quorum = c.in_ok-lock.ensures.has_quorum; allocates = c.in_ok-lock.ensures.allocates })
