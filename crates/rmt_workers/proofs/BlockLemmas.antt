@@ -1,6 +1,5 @@
 -- The accepted blocks of a table after a call.
-use Rattle.std.proofs.Common.{◌≡◌, ℕ, zero, suc, ◌+◌, ◌<◌, Bool, true, false, cond, List, [], ◌∷◌, length, set, get_or, refl, sym, ap, subst, arith, ◌∙◌}
-use Rattle.std.specs.declared.option.Option.{Option}
+use Rattle.std.proofs.Common.{◌≡◌, ℕ, zero, suc, ◌+◌, ◌<◌, List, [], ◌∷◌, length, set, get_or, refl, sym, ap, subst, arith, ◌∙◌}
 use Rattle.rmt_values.specs.Rows.{Shape}
 use Rattle.rmt_entries.specs.declared.entry.Entry.{Entry}
 use Rattle.rmt_entries.specs.declared.entry.Entry.TheVariants.{Get, Merge, Mutate, Mutation, DropRange}

@@ -1,5 +1,5 @@
 -- One table without entries, and a copy of its log of which nothing was seen yet.
-use Rattle.std.proofs.Common.{◌≡◌, ℕ, List, [], ◌∷◌, ◌++◌, length, map, take, sym, ap, subst, arith, ◌∙◌, append-nil}
+use Rattle.std.proofs.Common.{◌≡◌, List, [], ◌∷◌, ◌++◌, length, map, take, sym, ap, subst, arith, ◌∙◌, append-nil}
 use Rattle.rmt_entries.specs.declared.entry.Entry.{Entry}
 use Rattle.rmt_model.specs.Lawful.{IsPrefix}
 use Rattle.rmt_model.specs.EntryLimits.{client_count}
@@ -9,7 +9,7 @@ use Rattle.rmt_table_model.specs.Held.{Held}
 use Rattle.rmt_clients.specs.Clients.{AreAccepted}
 use Rattle.rmt_statement_model.specs.Books.{all_clients}
 use Rattle.rmt_workers.specs.SharedTables.{NamedTable, named, logs_of, log_in, HasBlocks}
-use Rattle.rmt_workers.specs.Passes.{IsCopyOfNamed, AreCopiesOf, logs_in, name_at}
+use Rattle.rmt_workers.specs.Passes.{IsCopyOfNamed, AreCopiesOf, name_at}
 
 -- a table without entries has no blocks
 pub no-blocks : (O : Block → Type 0) (h : Held) → h.log ≡ [] → h.values ≡ 0 → HasBlocks O h

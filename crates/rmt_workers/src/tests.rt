@@ -1,4 +1,4 @@
-ghost use Rattle.std.specs.Prelude.{◌≡◌, ◌≤◌, ◌<◌, ◌∷◌, [], true, length, IfOk, OnOk};
+ghost use Rattle.std.specs.Prelude.{◌≡◌, ◌≤◌, ◌<◌, ◌∷◌, [], ⊤, true, length, IfOk, OnOk};
 ghost use Rattle.std.specs.List.{All};
 ghost use Rattle.std.specs.Arc.{arc_value};
 ghost use Rattle.rmt_values.specs.Rows.{fits};
@@ -7,7 +7,7 @@ ghost use Rattle.rmt_compact.specs.NewParts.{GetsBlock};
 ghost use Rattle.rmt_block.specs.Blocks.{id_of};
 ghost use Rattle.rmt_model.specs.EntryLimits.{client_count};
 ghost use Rattle.rmt_events.specs.Views.{Block as AnyBlock};
-ghost use Rattle.rmt_workers.specs.SharedTables.{named};
+ghost use Rattle.rmt_workers.specs.SharedTables.{HasBlocks, named};
 ghost use Rattle.rmt_workers.specs.SharedReplicas.{IsNumber};
 ghost use Rattle.rmt_workers.specs.Passes.{IsCopyOfNamed, name_at};
 
@@ -159,8 +159,7 @@ fn put(row: &Row<Entry>, alloc: Global, number: u32) -> Option<u32> {
 /// A table of one replica, without entries.
 fn table_of(alloc: Global) -> Result<TableTree, Fail>
     ensures sessions { IfOk result (λ table. length table.sessions ≡ 1) }
-    ensures empty { IfOk result (λ table. table.log ≡ []) }
-    ensures values { IfOk result (λ table. table.values ≡ 0) }
+    ensures blocks { IfOk result (λ table. HasBlocks (λ b. ⊤) table) }
 {
     let schema = shared_schema(alloc)?;
     let table = TableTree::new(alloc, schema, 1)?;
@@ -180,14 +179,15 @@ fn insert<N: Naming>(
     ensures parts { all.new.parts ≡ all.old.parts }
 {
     let schema = schema_of(alloc)?;
-    let block = block_of(alloc, &schema, number)?;
+    let shared = block_of(alloc, &schema, number)?;
+    let block: &Block = &shared;
     if tables.len() == 0 {
         return Err("no table".into());
     }
-    let Ok(lock) = tables.allocate(alloc, 0, 1, &id(&block), 0) else {
+    let Ok(lock) = tables.allocate(alloc, 0, 1, &id(block), 0) else {
         return Err("no number".into());
     };
-    accept(alloc, tables, all, &lock, &block)
+    accept(alloc, tables, all, &lock, block)
 }
 
 /// Accepts the block of a lock of the first table.
@@ -288,8 +288,7 @@ fn work<N: Naming>(alloc: Global, table: TableTree, entries: Blank) -> Result<us
     requires named { named table ∷ [] ≡ N.tables }
     requires sessions { length table.sessions ≡ N.replicas }
     requires some { 1 ≤ N.replicas }
-    requires empty { table.log ≡ [] }
-    requires values { table.values ≡ 0 }
+    requires blocks { HasBlocks (N.offered 0) table }
     requires offered { (b : AnyBlock) → N.offered 0 b }
     requires name { entries.name ≡ N.entries_name }
     requires parts { entries.parts ≡ N.parts }
@@ -340,8 +339,7 @@ fn merge<N: Naming>(alloc: Global, table: TableTree, entries: Blank) -> Result<u
     requires named { named table ∷ [] ≡ N.tables }
     requires sessions { length table.sessions ≡ N.replicas }
     requires some { 1 ≤ N.replicas }
-    requires empty { table.log ≡ [] }
-    requires values { table.values ≡ 0 }
+    requires blocks { HasBlocks (N.offered 0) table }
     requires offered { (b : AnyBlock) → N.offered 0 b }
     requires name { entries.name ≡ N.entries_name }
     requires parts { entries.parts ≡ N.parts }

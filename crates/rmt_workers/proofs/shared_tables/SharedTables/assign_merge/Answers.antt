@@ -1,8 +1,8 @@
-use Rattle.std.proofs.Common.{rules, ◌≡◌, ◌<◌, ◌⊎◌, inl, inr, List, length, set, get_or, sym, subst, ap, ◌∙◌}
+use Rattle.std.proofs.Common.{rules, ◌≡◌, ◌<◌, inl, inr, List, length, set, get_or, sym, subst, ap, ◌∙◌}
 use Rattle.std.specs.Prelude.{MatchBool}
 use Rattle.rmt_table_model.specs.Held.{Held}
 use Rattle.rmt_events.specs.LogEvents.{AreMergeable}
-use Rattle.rmt_workers.specs.SharedTables.{GainsMerge, AppendsMerge, IsUnmerged}
+use Rattle.rmt_workers.specs.SharedTables.{GainsMerge, AppendsMerge}
 use Rattle.rmt_workers.proofs.AppendLemmas.{changes-one}
 use Rattle.rmt_workers.proofs.CallLemmas.{merge-follows, tables-still}
 use Rattle.rmt_workers.proofs.shared_tables.SharedTables.assign_merge.Goals as goal

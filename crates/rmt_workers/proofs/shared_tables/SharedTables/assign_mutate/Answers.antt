@@ -1,8 +1,8 @@
-use Rattle.std.proofs.Common.{rules, ◌≡◌, ◌<◌, ◌⊎◌, inl, inr, List, length, set, get_or, sym, subst, ap, ◌∙◌}
+use Rattle.std.proofs.Common.{rules, ◌≡◌, ◌<◌, inl, inr, List, length, set, get_or, sym, subst, ap, ◌∙◌}
 use Rattle.std.specs.Prelude.{MatchBool}
 use Rattle.rmt_table_model.specs.Held.{Held}
 use Rattle.rmt_events.specs.LogEvents.{IsMutable}
-use Rattle.rmt_workers.specs.SharedTables.{GainsMutate, AppendsMutate, IsUnmutated}
+use Rattle.rmt_workers.specs.SharedTables.{GainsMutate, AppendsMutate}
 use Rattle.rmt_workers.proofs.AppendLemmas.{changes-one}
 use Rattle.rmt_workers.proofs.CallLemmas.{mutate-follows, tables-still}
 use Rattle.rmt_workers.proofs.shared_tables.SharedTables.assign_mutate.Goals as goal

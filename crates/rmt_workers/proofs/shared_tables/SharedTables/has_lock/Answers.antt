@@ -1,7 +1,5 @@
-use Rattle.std.proofs.Common.{◌≡◌, ◌<◌, List, length, set, get_or, sym, subst, ap, ◌∙◌}
 use Rattle.std.specs.Prelude.{◌↔◌, IsTrue}
 use Rattle.rmt_events.specs.TableCalls.{IsLocked}
-use Rattle.rmt_table_model.specs.Held.{Held}
 use Rattle.rmt_table.specs.TableTrees.{table_at}
 use Rattle.rmt_workers.proofs.CallLemmas.{has-table}
 use Rattle.rmt_workers.proofs.shared_tables.SharedTables.has_lock.Goals as goal

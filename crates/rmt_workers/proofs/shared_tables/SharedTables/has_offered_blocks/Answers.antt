@@ -1,5 +1,4 @@
-use Rattle.std.proofs.Common.{◌≡◌, ◌<◌, List, length, set, get_or, sym, subst, ap, ◌∙◌}
-use Rattle.rmt_table_model.specs.Held.{Held}
+use Rattle.std.proofs.Common.{subst}
 use Rattle.rmt_workers.specs.SharedTables.{HaveBlocks}
 use Rattle.rmt_workers.proofs.shared_tables.SharedTables.has_offered_blocks.Goals as goal
 

@@ -1,7 +1,5 @@
-use Rattle.std.proofs.Common.{◌≡◌, ◌<◌, List, length, set, get_or, sym, subst, ap, ◌∙◌}
-use Rattle.std.specs.declared.option.Option.{Option}
+use Rattle.std.proofs.Common.{◌<◌, List, length, sym, subst}
 use Rattle.rmt_table_model.specs.Held.{Held}
-use Rattle.rmt_table.specs.TableTrees.{table_at}
 use Rattle.rmt_workers.proofs.CallLemmas.{noted-follows, noted-in, tables-still, here-at}
 use Rattle.rmt_workers.proofs.shared_tables.SharedTables.note_quorum.Goals as goal
 

@@ -1,7 +1,5 @@
-use Rattle.std.proofs.Common.{◌≡◌, ◌<◌, List, length, set, get_or, sym, subst, ap, ◌∙◌}
-use Rattle.std.proofs.Common.{ℕ}
+use Rattle.std.proofs.Common.{◌<◌, List, length, sym, subst}
 use Rattle.rmt_table_model.specs.Held.{Held}
-use Rattle.rmt_workers.specs.SharedTables.{HasBlocks}
 use Rattle.rmt_workers.proofs.NamedLemmas.{sessions-at}
 use Rattle.rmt_workers.proofs.BlockLemmas.{blocks-at}
 use Rattle.rmt_workers.proofs.CallLemmas.{named-at}
