@@ -28,7 +28,7 @@ use Rattle.rmt_replica.specs.Answers.{IsChange, PartsAfter, settled, released}
 use Rattle.rmt_replica.specs.Replicas.{ReplicaView}
 use Rattle.rmt_workers.specs.SharedTables.{NamedTable}
 use Rattle.rmt_workers.specs.Passes.{name_at}
-use Rattle.rmt_workers.specs.SharedReplicas.{IsSharedReplica, HoldsOnly, IsMadeOf}
+use Rattle.rmt_workers.specs.SharedReplicas.{IsSharedReplica, HoldsOnly, IsMadeOf, FitsColumns}
 use Rattle.rmt_part.specs.CellRows.{IsPartOfRow}
 use Rattle.rmt_replica.proofs.RowLemmas.{applied-of-row}
 
@@ -50,7 +50,7 @@ each-put P new (x ∷ xs) p f = go (before x.name new.name) (each-put P new xs p
 
 -- ---- staged blocks
 
-each-without : (Q : BlockNumber × BlockView → Type 0) (test : BlockNumber → Bool) (xs : Staged) → Each Q xs → Each Q (remove_entry test xs)
+pub each-without : (Q : BlockNumber × BlockView → Type 0) (test : BlockNumber → Bool) (xs : Staged) → Each Q xs → Each Q (remove_entry test xs)
 each-without Q test [] f = tt
 each-without Q test (x ∷ xs) f = go (test x.0) (each-without Q test xs f.1)
   where
@@ -105,6 +105,7 @@ applied-replica names replicas Offered table old i supply (Ok applied.Already) n
   schema = s.schema;
   row = record { copy = s.row.copy; parts = s.row.parts };
   blocks = settled-holds (Offered table) old i s.blocks;
+  fitting = each-released (λ z. FitsColumns (name_at names table).schema z.1) (entry_at old.log i) old.staged s.fitting;
 })
 applied-replica names replicas Offered table old i supply (Ok applied.Dropped) new c s row made = subst (λ (r : ReplicaView). IsSharedReplica names replicas Offered (record { table = table; replica = r })) (sym c) (record {
   number = s.number;
@@ -112,6 +113,7 @@ applied-replica names replicas Offered table old i supply (Ok applied.Dropped) n
   schema = s.schema;
   row = record { copy = s.row.copy; parts = s.row.parts };
   blocks = settled-holds (Offered table) old i s.blocks;
+  fitting = each-released (λ z. FitsColumns (name_at names table).schema z.1) (entry_at old.log i) old.staged s.fitting;
 })
 applied-replica names replicas Offered table old i supply (Ok applied.Installed) new c s row made =
     let of = applied-of-row (name_at names table).row old i supply (Ok applied.Installed) new c s.row row in
@@ -122,4 +124,5 @@ applied-replica names replicas Offered table old i supply (Ok applied.Installed)
       schema = s.schema;
       row = record { copy = s.row.copy; parts = of.parts };
       blocks = record { staged = each-released (λ z. Offered table (without_kinds z.1)) (entry_at old.log i) old.staged s.blocks.staged; parts = holds.parts };
+      fitting = each-released (λ z. FitsColumns (name_at names table).schema z.1) (entry_at old.log i) old.staged s.fitting;
     })

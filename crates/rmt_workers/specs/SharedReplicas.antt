@@ -1,6 +1,9 @@
 -- What lies under the lock of a replica.
 -- No public source: the locks are this program's own.
-use Rattle.std.specs.Prelude.{◌≡◌, ◌⊎◌, ◌≤◌, ◌<◌, ℕ, false, List, length}
+use Rattle.std.specs.Prelude.{◌≡◌, ◌⊎◌, ◌≤◌, ◌<◌, ℕ, true, false, List, length}
+use Rattle.std.specs.List.{All}
+use Rattle.rmt_values.specs.Rows.{Shape, fits}
+use Rattle.rmt_block.specs.Blocks.{BlockView}
 use Rattle.rmt_model.specs.Words.{Each}
 use Rattle.rmt_events.specs.Views.{Block}
 use Rattle.rmt_events.specs.Clusters.{without_kinds}
@@ -32,13 +35,23 @@ pub record HoldsOnly (Offered : Block → Type 0) (r : ReplicaView) : Type 0 whe
   pub staged : Each (λ s. Offered (without_kinds s.1)) r.staged
   pub parts : Each (IsMadeOf Offered) r.parts
 
--- the replica is one of so many of a named table, with tokens of its cells, and it holds only blocks that are offered to it
+-- each row of the block fits the columns of the schema
+abbrev pub FitsColumns : Shape → BlockView → Type 0
+FitsColumns schema b = All (λ row. fits schema.columns row ≡ true) b.rows
+
+-- each block that is staged at the replica fits the columns of the schema
+abbrev pub StagesFitting : Shape → ReplicaView → Type 0
+StagesFitting schema r = Each (λ z. FitsColumns schema z.1) r.staged
+
+-- the replica is one of so many of a named table, with tokens of its cells, and it holds only blocks that are offered to it;
+-- those that are staged fit the table's columns
 pub record IsSharedReplica (names : List NamedTable) (replicas : ℕ) (Offered : ℕ → Block → Type 0) (s : SharedReplicaView) : Type 0 where
   pub number : IsNumber s.replica.number replicas
   pub few : length s.replica.log ≤ 65536
   pub schema : s.replica.schema ≡ (name_at names s.table).schema
   pub row : IsReplicaOfRow (name_at names s.table).row s.replica
   pub blocks : HoldsOnly (Offered s.table) s.replica
+  pub fitting : StagesFitting (name_at names s.table).schema s.replica
 
 -- the replica is as it was, or its copy of the log is longer
 abbrev pub MayLengthen : ReplicaView → ReplicaView → Type 0

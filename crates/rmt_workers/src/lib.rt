@@ -5,11 +5,15 @@ mod naming;
 mod pass;
 mod shared_replica;
 mod shared_tables;
+mod supply;
 
 pub use naming::{ClientEntries, Naming};
 pub use pass::Pass;
 pub use shared_replica::SharedReplica;
 pub use shared_tables::SharedTables;
+pub use supply::{build_supply, send_supply};
 
+#[cfg(test)]
+mod supply_tests;
 #[cfg(test)]
 mod tests;

@@ -11,6 +11,9 @@ ghost use Rattle.rmt_part.specs.CellRows.{IsPartOfRow};
 ghost use Rattle.rmt_replica.specs.Supplies.{supplied};
 ghost use Rattle.rmt_replica.specs.Answers.{IsAnswer, IsChange, IsOfTable};
 
+mod outside;
+mod take;
+
 use crate::naming::Naming;
 use crate::shared_tables::SharedTables;
 use rmt_jobs::{Job, next_job};
