@@ -1,0 +1,6 @@
+pub mod MarkLemmas
+pub mod ReplicaLemmas
+pub mod CoveringLemmas
+pub mod QuorumLemmas
+pub mod NumberLemmas
+pub mod CallerLemmas
