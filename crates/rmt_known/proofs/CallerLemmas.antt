@@ -1,5 +1,5 @@
 -- What a caller needs of what is known.
-use Rattle.std.proofs.Common.{◌≡◌, ℕ, zero, suc, Bool, true, false, List, [], refl, ap}
+use Rattle.std.proofs.Common.{◌≡◌, ℕ, zero, suc, Bool, true, List, [], refl, ap}
 use Rattle.std.specs.Prelude.{replicate, slice_index_or}
 use Rattle.rmt_values.specs.Rows.{Shape}
 use Rattle.rmt_queue.specs.Marks.{done_at}

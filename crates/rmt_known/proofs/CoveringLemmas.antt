@@ -1,5 +1,5 @@
 -- Which of the names in order covers another one.
-use Rattle.std.proofs.Common.{◌≡◌, ℕ, zero, suc, ◌+◌, ◌-◌, ◌<◌, ◌≤◌, inl, inr, ◌⊎◌, ◌&&◌, ◌||◌, Bool, true, false, List, [], ◌∷◌, length, map, refl, sym, ap, subst, arith, ◌∙◌, nat_eq, nat_lt}
+use Rattle.std.proofs.Common.{◌≡◌, ℕ, zero, suc, ◌+◌, ◌<◌, ◌≤◌, inl, inr, ◌||◌, Bool, true, false, List, [], ◌∷◌, length, refl, sym, ap, subst, arith, ◌∙◌, nat_eq, nat_lt}
 use Rattle.std.proofs.lemmas.Bool.Decides.{nat_tests}
 use Rattle.std.proofs.lemmas.Option.{slice_get-map, slice_get_read}
 use Rattle.std.specs.Prelude.{slice_get, slice_index_or}
@@ -7,7 +7,7 @@ use Rattle.std.specs.Option.{option_map}
 use Rattle.std.specs.List.{list_any}
 use Rattle.std.specs.declared.option.Option.TheVariants.{Some}
 use Rattle.rmt_names.specs.Names.{Name, rank, Covers, covers}
-use Rattle.rmt_model.specs.Words.{Has, Each, Pairwise}
+use Rattle.rmt_model.specs.Words.{Has, Pairwise}
 use Rattle.rmt_model.specs.Live.{Before}
 use Rattle.rmt_model.proofs.Lists.{Each-at, covers-true, covers-false}
 use Rattle.rmt_partset.specs.Snapshots.{NamedData, names_in}

@@ -1,5 +1,4 @@
 pub mod MarkLemmas
-pub mod ReplicaLemmas
 pub mod CoveringLemmas
 pub mod QuorumLemmas
 pub mod NumberLemmas

@@ -1,13 +1,11 @@
 -- A quorum that waits, as it is noted, and as it is found in a table.
-use Rattle.std.proofs.Common.{◌≡◌, ℕ, zero, suc, ◌<◌, get_or, Bool, true, false, cond, List, [], ◌∷◌, length, refl, sym, ap, subst, arith, ◌∙◌, nat_lt}
+use Rattle.std.proofs.Common.{◌≡◌, ℕ, Bool, true, false, cond, List, length, refl, sym, subst, arith, nat_lt}
 use Rattle.std.proofs.lemmas.Bool.Decides.{nat_tests}
 use Rattle.std.specs.declared.option.Option.{Option}
 use Rattle.std.specs.declared.option.Option.TheVariants.{Some, None}
-use Rattle.rmt_names.specs.Names.{Name}
 use Rattle.rmt_entries.specs.declared.entry.Entry.{Entry}
-use Rattle.rmt_model.specs.Words.{Has, Each, Pairwise}
 use Rattle.rmt_model.specs.Lawful.{IsPrefix}
-use Rattle.rmt_model.specs.Quorum.{Pending, Quorum, QuorumBlock, IsPending, IsQuorum, noted_with, quorum_noted, noted_by, quorum_after_note}
+use Rattle.rmt_model.specs.Quorum.{Pending, Quorum, QuorumBlock, IsPending, noted_with, noted_by, quorum_after_note}
 use Rattle.rmt_model.proofs.QuorumLemmas.{noted-rising}
 use Rattle.rmt_events.specs.Sound.{IsSoundTable}
 use Rattle.rmt_table_model.specs.Held.{Held}
@@ -42,14 +40,3 @@ goes-on k h s w p n q e g = record {
   next = n;
   noted = record { waits = w; found_waits = table-waits h s; goes_on = subst (λ (x : Quorum). GoesOnFrom k.quorum.pending k.quorum.last x.pending x.last) e g };
 }
-
--- ---- each of a list
-
-pub each-from : (P : ℕ → Type 0) (xs : List ℕ) → ((k : ℕ) → k < length xs → P (get_or xs k 0)) → Each P xs
-each-from P [] f = tt
-each-from P (x ∷ xs) f = (f 0 (omega arith), each-from P xs (λ k l. f (suc k) (omega (arith, l))))
-
-pub each-at : (P : ℕ → Type 0) (xs : List ℕ) (k : ℕ) → Each P xs → k < length xs → P (get_or xs k 0)
-each-at P [] k e l = absurd (omega (arith, l))
-each-at P (x ∷ xs) zero e l = e.0
-each-at P (x ∷ xs) (suc k) e l = each-at P xs k e.1 (omega (arith, l))

@@ -1,12 +1,11 @@
 -- What one client knows of one table, as it is kept: its copy of the log, and marks for the places that are known at each replica.
 -- No public source: this program's own.
-use Rattle.std.specs.Prelude.{◌≡◌, ◌<◌, ◌≤◌, ℕ, zero, suc, ◌||◌, ◌&&◌, nat_eq, nat_lt, Bool, true, false, List, [], length, replicate, slice_get, slice_index_or}
+use Rattle.std.specs.Prelude.{◌≡◌, ◌<◌, ◌≤◌, ℕ, zero, suc, ◌||◌, ◌&&◌, nat_eq, nat_lt, Bool, true, List, [], length, replicate, slice_get, slice_index_or}
 use Rattle.std.specs.declared.option.Option.{Option}
 use Rattle.std.specs.declared.option.Option.TheVariants.{Some, None}
 use Rattle.rmt_values.specs.Rows.{Shape}
 use Rattle.rmt_names.specs.Names.{Name, Covers, rank}
 use Rattle.rmt_entries.specs.declared.entry.Entry.{Entry}
-use Rattle.rmt_model.specs.Words.{Pairwise}
 use Rattle.rmt_model.specs.Lawful.{IsPrefix}
 use Rattle.rmt_model.specs.Quorum.{Quorum}
 use Rattle.rmt_history.specs.Copies.{History}

@@ -1,4 +1,4 @@
-use Rattle.std.proofs.Common.{◌≡◌, arith}
+use Rattle.std.proofs.Common.{arith}
 use Rattle.rmt_known.proofs.MarkLemmas.{end-between}
 use Rattle.rmt_known.proofs.marks.mark_between.Goals as goal
 

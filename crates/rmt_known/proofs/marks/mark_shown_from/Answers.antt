@@ -1,4 +1,4 @@
-use Rattle.std.proofs.Common.{◌≡◌, arith}
+use Rattle.std.proofs.Common.{arith}
 use Rattle.rmt_partset.specs.Snapshots.{names_in}
 use Rattle.rmt_known.proofs.MarkLemmas.{all-shown}
 use Rattle.rmt_known.proofs.marks.mark_shown_from.Goals as goal

@@ -1,4 +1,3 @@
-use Rattle.std.proofs.Common.{◌≡◌}
 use Rattle.std.proofs.lemmas.Slice.Eq.{slice_eq-Decides}
 use Rattle.rmt_known.proofs.NumberLemmas.{pair-decides}
 use Rattle.rmt_known.proofs.known_table.table.are_same.Goals as goal
