@@ -8,6 +8,3 @@ mod quorums;
 mod replicas;
 
 pub use known_table::KnownTable;
-
-#[cfg(test)]
-mod tests;
