@@ -14,7 +14,8 @@ use Rattle.rmt_statement_model.specs.QuorumCopies.{is_asked, copied, copied_wher
 use Rattle.rmt_statement_model.specs.Inserts.{Asked, part_for, with_block, Accepts, LacksCopies}
 use Rattle.rmt_clients.specs.Clients.{Client, known_table, KnowsTable, AreAccepted, Fits, seeing, after_work, ChangesInto, RestsAnd, SeesHere}
 use Rattle.rmt_clients.proofs.ClientRests.{fits-all, knows-fits, knows-itself, fits-as, fits-rested, rests-so, rests-and}
-use Rattle.rmt_clients.proofs.ClientInserts.{TakesNumber, takes-still, MeetsLimit, block_taken, accepted-one}
+use Rattle.rmt_clients.specs.ClientBlocks.{TakesNumber, MeetsLimit}
+use Rattle.rmt_clients.proofs.ClientInserts.{takes-still, block_taken, accepted-one}
 
 -- ---- the writer is noted
 

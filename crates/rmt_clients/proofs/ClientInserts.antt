@@ -26,6 +26,7 @@ use Rattle.rmt_statement_model.specs.Inserts.{Asked, part_for, number_limit, wit
 use Rattle.rmt_statement_model.proofs.InsertRows.{inserts-more, inserts-stop}
 use Rattle.rmt_statement_model.proofs.WorkerEntries.{kept-stay, clients-stay}
 use Rattle.rmt_clients.specs.Clients.{Client, known_table, KnowsTable, IsAcceptedAs, AreAccepted, AreClear, Fits, seeing, ChangesInto, RestsAnd, SeesHere}
+use Rattle.rmt_clients.specs.ClientBlocks.{TakesNumber, MeetsLimit}
 use Rattle.rmt_clients.proofs.ClientRests.{fits-all, knows-fits, rests-and, changes-as}
 
 -- ---- what stays between the two locks
@@ -50,11 +51,6 @@ quorum-stays up p need gained noted e = go (nat_lt (count_live up) need) (nat_le
     go true b x f = absurd (cc)
     go false false x f = refl
     go false true x f = ap (λ (q : Quorum). refused_waiting q.pending) (notes-idle noted p.quorum (idle p.quorum.pending f)) ∙ f
-
--- the block is new to the table as the client has seen it, and gets the next number of its partition
-pub record TakesNumber (up : ℕ → Bool) (p : Client) (a : Asked) (b : Block) : Type 0 where
-  pub is_new : IsNew up (known_table p) a b
-  pub number : number_limit (known_table p) b ≡ None
 
 -- so it does once the client has seen what workers did since
 pub takes-still : (up : ℕ → Bool) (p : Client) (a : Asked) (b : Block) (gained : List Entry) (noted : List ℕ) → Each IsOfWorker gained → TakesNumber up p a b → TakesNumber up (seeing gained noted p) a b
@@ -91,10 +87,6 @@ same-blocks O clear (Merge name sources count ∷ log) bs cs a c = same-blocks O
 same-blocks O clear (Mutate old name upto count mcount ∷ log) bs cs a c = same-blocks O clear log bs cs a c
 same-blocks O clear (Mutation id numbers command ∷ log) bs cs a c = same-blocks O clear log bs cs a c
 same-blocks O clear (DropRange p n ∷ log) bs cs a c = same-blocks O clear log bs cs a c
-
--- whatever blocks were accepted, one more of these rows meets this limit, or none
-abbrev pub MeetsLimit : (Block → Type 0) → Client → Block → Option (Limit × ℕ) → Type 0
-MeetsLimit O p b limit = (blocks : List Accepted) → AreAccepted O p.log blocks → commit_limit p.log (values_in p.schema blocks) (values_of p.schema b.rows) ≡ limit
 
 -- which it does where it does so with the values of one list of accepted blocks
 pub meets-limit : (O : Block → Type 0) → AreClear O → (p : Client) (b : Block) (limit : Option (Limit × ℕ)) (held : List Accepted) → AreAccepted O p.log held → commit_limit p.log (values_in p.schema held) (values_of p.schema b.rows) ≡ limit → MeetsLimit O p b limit
