@@ -1,5 +1,5 @@
 -- What is taken out of a replica of a table is of that table, and so is the part that comes of it.
-use Rattle.std.proofs.Common.{◌≡◌, ℕ, ◌+◌, Bool, true, false, cond, List, [], ◌∷◌, ◌++◌, map, sym, ap, subst, ◌∙◌}
+use Rattle.std.proofs.Common.{◌≡◌, ℕ, ◌+◌, Bool, true, false, cond, List, [], ◌∷◌, ◌++◌, map, sym, subst, ◌∙◌}
 use Rattle.std.specs.Prelude.{IfSome, MatchOption}
 use Rattle.std.specs.Map.{lookup}
 use Rattle.std.specs.Arc.{arc_value}
@@ -26,7 +26,6 @@ use Rattle.rmt_replica.specs.Parts.{IsMadeIn}
 use Rattle.rmt_replica.specs.Replicas.{ReplicaView, IsStandingReplica, copy_of}
 use Rattle.rmt_replica.specs.Supplies.{supplied}
 use Rattle.rmt_replica.specs.declared.supply.Supply.{Supply}
-use Rattle.rmt_replica.specs.declared.supply.Supply.TheVariants as supplies
 use Rattle.rmt_supply.specs.PartSources.{IsAccepted, staged_for}
 use Rattle.rmt_supply.specs.TakenParts.{IsTokenAt, IsTaken, IsHeld, CanBuild, HasAccepted, BuildsPart, CanSend, SendsPart, IsSupplyOf}
 use Rattle.rmt_supply.specs.declared.taken.Taken.{Taken}
@@ -36,7 +35,7 @@ use Rattle.rmt_supply.specs.declared.held.Held.TheVariants as held
 use Rattle.rmt_workers.specs.SharedTables.{NamedTable}
 use Rattle.rmt_workers.specs.Passes.{name_at}
 use Rattle.rmt_workers.specs.SharedReplicas.{SharedReplicaView, IsSharedReplica, IsMadeOf, FitsColumns}
-use Rattle.rmt_workers.specs.ReplicaSupplies.{IsBlockOfNamed, IsPartOfNamed, IsTakenFrom, IsHeldFrom, IsWhole, SuppliesBuilt, IsWholeHeld, SendsSupply, SuppliesSent, HasFewRows}
+use Rattle.rmt_workers.specs.ReplicaSupplies.{IsBlockOfNamed, IsPartOfNamed, IsTakenFrom, IsHeldFrom, IsWhole, SuppliesBuilt, IsWholeHeld, HasFewRows}
 
 -- ---- lists
 

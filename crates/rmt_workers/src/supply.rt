@@ -26,7 +26,9 @@ fn gets(get: &Seen<Entry>, block: &Block) -> bool
     ensures { IsTrue result ↔ GetsBlock get.now.value block.now }
 {
     let Entry::Get {
-        partition, digest, ..
+        partition,
+        digest,
+        ..
     } = get.value()
     else {
         return false;
