@@ -14,6 +14,4 @@ pub use shared_tables::SharedTables;
 pub use supply::{build_supply, send_supply};
 
 #[cfg(test)]
-mod supply_tests;
-#[cfg(test)]
 mod tests;
