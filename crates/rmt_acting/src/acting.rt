@@ -43,8 +43,9 @@ ghost use Rattle.rmt_acts.specs.Checking.{AreDigests};
 ghost use Rattle.rmt_acting.specs.Acting.{Sight, MayAct, KeepsShape, GoesOn, Leaves, TurnsReplica, Brings, Stays};
 ghost use Rattle.rmt_statement_model.specs.ActOutcomes.{SyncsOr, MutatesOr, DropsOr, WaitsOr, ReadsParts, ReadsQuorum};
 
-use rmt_acts::{Insertion, Optimization};
+use rmt_acts::Insertion;
 use rmt_block::Block;
+use rmt_live_names::Optimization;
 use rmt_names::{PartName, PartitionId};
 use rmt_partset::Snapshot;
 use rmt_query::Tuple;

@@ -1,7 +1,8 @@
 use crate::acting::Acting;
-use rmt_acts::{Insertion, Optimization};
+use rmt_acts::Insertion;
 use rmt_block::Block;
 use rmt_cluster::Cluster;
+use rmt_live_names::Optimization;
 use rmt_names::{PartName, PartitionId};
 use rmt_partset::Snapshot;
 use rmt_query::Tuple;

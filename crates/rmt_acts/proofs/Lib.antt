@@ -7,9 +7,6 @@ pub mod SequentialActs
 pub mod CheckActs
 pub mod SyncActs
 pub mod ChangeActs
-pub mod PartitionLists
-pub mod PartitionNames
 pub mod OptimizeActs
 pub mod OptimizeLoops
-pub mod MutationTokens
 pub mod WaitActs

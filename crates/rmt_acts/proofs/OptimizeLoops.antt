@@ -24,8 +24,8 @@ use Rattle.rmt_acts.specs.Syncing.{SyncsReplica}
 use Rattle.rmt_acts.specs.StatementEvents.{AtMost, CatchesUp, MergesOnce, OptimizeEvents, SyncsThen}
 use Rattle.rmt_acts.specs.Optimizing.{MergesSome, OptimizesTo}
 use Rattle.rmt_acts.proofs.EventLists.{at-most-next, Reaches, reaches-merges, reaches-synced, reaches-then}
-use Rattle.rmt_acts.specs.declared.optimized.Optimized.{Optimized}
-use Rattle.rmt_acts.specs.declared.optimized.Optimized.TheVariants as optimized
+use Rattle.rmt_live_names.specs.declared.optimized.Optimized.{Optimized}
+use Rattle.rmt_live_names.specs.declared.optimized.Optimized.TheVariants as optimized
 
 -- ---- the partitions that are asked for
 

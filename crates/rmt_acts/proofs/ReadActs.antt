@@ -1,7 +1,6 @@
 -- What is read at a replica, from what its cluster says.
-use Rattle.std.proofs.Common.{◌≡◌, ℕ, zero, suc, ◌<◌, ◌≤◌, Bool, true, nat_lt, ◌∙◌, List, [], ◌∷◌, ◌++◌, map, filter, length, Ok, Err, inl, inr, refl, ap, sym, subst, arith}
-use Rattle.std.proofs.lemmas.Bool.Decides.{nat_tests}
-use Rattle.std.proofs.lemmas.List.{length-append, reverse-append}
+use Rattle.std.proofs.Common.{◌≡◌, ℕ, zero, suc, ◌∙◌, List, [], ◌∷◌, ◌++◌, map, filter, length, Ok, Err, inl, inr, refl, ap, sym, subst, arith}
+use Rattle.std.proofs.lemmas.List.{length-append}
 use Rattle.std.specs.Prelude.{IfOk}
 use Rattle.std.specs.declared.result.Result.{Result}
 use Rattle.std.specs.List.{All}
@@ -12,16 +11,11 @@ use Rattle.rmt_names.specs.Names.{Name}
 use Rattle.rmt_entries.specs.declared.entry.Entry.{Entry}
 use Rattle.rmt_granules.specs.Granules.{PartView}
 use Rattle.rmt_granules.specs.MadePart.{data_of}
-use Rattle.rmt_row.specs.Token.{Token}
-use Rattle.rmt_changes.specs.Changes.{entries_of}
-use Rattle.rmt_changes.specs.Laws.{EntryFits}
-use Rattle.rmt_history.specs.Mutations.{first_entries, mutations_below}
 use Rattle.rmt_model.specs.Lawful.{Lawful, is_mutation}
-use Rattle.rmt_model.specs.Words.{Has, Each}
+use Rattle.rmt_model.specs.Words.{Has}
 use Rattle.rmt_model.specs.Content.{Row, content}
 use Rattle.rmt_model.specs.Fair.{AreFair}
 use Rattle.rmt_model.specs.CopiedParts.{Copied, names_of}
-use Rattle.rmt_model.proofs.Lists.{Each-at, Each-all, Has-filter}
 use Rattle.rmt_query.specs.Answers.{answer_of}
 use Rattle.rmt_query.specs.ReadRows.{rows_read}
 use Rattle.rmt_query.proofs.BagLaws.{one-answer}
@@ -37,7 +31,7 @@ use Rattle.rmt_cluster.specs.Readings.{parts_read}
 use Rattle.rmt_statement_model.specs.TableStates.{TableState, data_at, plain_rows, shown_at}
 use Rattle.rmt_statement_model.specs.Reads.{IsReading, KnowsAll}
 use Rattle.rmt_statement_model.specs.Shows.{Knows, Shows}
-use Rattle.rmt_statement_model.proofs.ReadLaws.{all-mutations-read, entries-fit, plain-read}
+use Rattle.rmt_statement_model.proofs.ReadLaws.{all-mutations-read, plain-read}
 use Rattle.rmt_statement_model.proofs.ShownParts.{shown-shows}
 
 -- the names of what is read
@@ -98,17 +92,6 @@ snapshot-keys s k parts h f = subst (λ (ps : List NamedData). All (λ part. par
 
 -- ---- all of the log
 
--- all places are below the length
-whole-first : (log : List Entry) (i : ℕ) → length log ≤ i → first_entries log i ≡ log
-whole-first [] i h = refl
-whole-first (x ∷ log) i h = rw (below (length log) i (omega (arith, h))) refl
-  where
-    below : (k n : ℕ) → k < n → nat_lt k n ≡ true
-    below k n l = grind (arith, nat_tests)
-
-pub all-below : (log : List Entry) → mutations_below log (length log) ≡ filter is_mutation log
-all-below log = ap (filter is_mutation) (whole-first log (length log) (omega arith))
-
 -- where every place is known, the copy is whole
 known-whole : (s : Cluster) (k : ℕ) (x : Replica) → IsWhole s → IsNumbered s k x → (t : TableState) → Shows s t → KnowsAll t k → x.log ≡ s.table.log
 known-whole s k x w at t h all = go f.prefix.gained f.prefix.is
@@ -141,30 +124,3 @@ answers-all (Ok a) tuples s k parts pending log query w h p l r e = λ t v all.
     e ∙ (ap (λ (c : Shape). answer_of c query (rows_read pending parts)) (sym v.table.schema) ∙ (ap (answer_of t.schema query) rows
     ∙ one-answer t.schema query (rows_read t.log parts) (plain_rows t) (plain-read t k parts (shown-lawful s t w v) (r t v) all)))
 answers-all (Err x) tuples s k parts pending log query w h p l r e = tt
-
--- ---- the tokens of the mutations
-
--- both sides
-Each-split : {A : Type 0} (P : A → Type 0) (xs ys : List A) → Each P (xs ++ ys) → Each P xs × Each P ys
-Each-split P [] ys e = (tt, e)
-Each-split P (x ∷ xs) ys e = let r = Each-split P xs ys e.1 in ((e.0, r.0), r.1)
-
-Each-tokens : (P : Entry → Type 0) (tokens : List (Token Entry)) → Each P (entries_of tokens) → Each (λ t. P t.value) tokens
-Each-tokens P [] e = tt
-Each-tokens P (t ∷ tokens) e =
-    let r = Each-split P (entries_of tokens) (t.value ∷ []) (subst (Each P) (reverse-append (t.value ∷ []) (map (λ (x : Token Entry). x.value) tokens)) e) in
-    (r.1.0, Each-tokens P tokens r.0)
-
-Each-filter : {A : Type 0} (P : A → Type 0) (test : A → Bool) (xs : List A) → Each P xs → Each P (filter test xs)
-Each-filter P test xs e = Each-all P (filter test xs) (λ x h. Each-at P xs x e (Has-filter test xs x h).0)
-
-All-each : {A : Type 0} (P : A → Type 0) (xs : List A) → Each P xs → All P xs
-All-each P [] e k d l = absurd (omega (arith, l))
-All-each P (x ∷ xs) e zero d l = e.0
-All-each P (x ∷ xs) e (suc k) d l = All-each P xs e.1 k d (omega (arith, l))
-
--- each token's entry fits, where all entries do
-pub tokens-fit : (schema : Shape) (log : List Entry) (tokens : List (Token Entry)) → Lawful schema log → entries_of tokens ≡ filter is_mutation log → All (λ token. EntryFits schema token.value) tokens
-tokens-fit schema log tokens l e =
-    All-each (λ (t : Token Entry). EntryFits schema t.value) tokens
-    (Each-tokens (EntryFits schema) tokens (subst (Each (EntryFits schema)) (sym e) (Each-filter (EntryFits schema) is_mutation log (entries-fit schema log l))))

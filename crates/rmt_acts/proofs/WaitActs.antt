@@ -30,8 +30,9 @@ use Rattle.rmt_statement_model.specs.Shows.{IsIdle, IsUpToDate, Shows, Leads, up
 use Rattle.rmt_statement_model.proofs.PendingLaws.{AreToCome, pending-mutable, all-to-come, none-to-come, one-passed, one-mutated}
 use Rattle.rmt_statement_model.proofs.WaitRows.{IsMutateReply, MutatesSynced, mutated, mutate-shows, refused-shows}
 use Rattle.rmt_statement_model.proofs.WaitLeads.{placed-still, wait-begins, wait-goes-on, wait-ends, wait-stops}
+use Rattle.rmt_live_names.specs.Places.{IsPlaceOf}
 use Rattle.rmt_acts.specs.StatementEvents.{CatchesUp, MutatesOnce, SyncsThen, WaitEvents}
-use Rattle.rmt_acts.specs.Waiting.{MutatesSome, IsPlaceOf, BecomesMutated, MutatesOne, Settles, WaitsTo}
+use Rattle.rmt_acts.specs.Waiting.{MutatesSome, BecomesMutated, MutatesOne, Settles, WaitsTo}
 use Rattle.rmt_acts.specs.Syncing.{KeepsButQuorum, SyncsReplica, HasDoneGets}
 use Rattle.rmt_acts.proofs.SyncActs.{gets-done, gets-done-still}
 use Rattle.rmt_acts.proofs.OptimizeActs.{whole-log}

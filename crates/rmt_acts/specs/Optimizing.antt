@@ -15,8 +15,8 @@ use Rattle.rmt_statement_model.specs.TableStates.{TableState, synced}
 use Rattle.rmt_statement_model.specs.Optimizes.{Optimizes, CantOptimize}
 use Rattle.rmt_statement_model.specs.Shows.{Shows, Leads}
 use Rattle.rmt_acts.specs.StatementEvents.{MergesOnce}
-use Rattle.rmt_acts.specs.declared.optimized.Optimized.{Optimized}
-use Rattle.rmt_acts.specs.declared.optimized.Optimized.TheVariants as optimized
+use Rattle.rmt_live_names.specs.declared.optimized.Optimized.{Optimized}
+use Rattle.rmt_live_names.specs.declared.optimized.Optimized.TheVariants as optimized
 
 -- the partition has one part, and the replica is up to date
 pub record OptimizesOne (t : TableState) (r : ℕ) (p : Option ℕ) (name : Name) (u : TableState) : Type 0 where

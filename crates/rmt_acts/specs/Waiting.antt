@@ -1,12 +1,10 @@
 -- What WAIT MUTATION comes to, part by part. No public clause but that of `wait_for` cites this module.
-use Rattle.std.specs.Prelude.{◌≡◌, ◌⊎◌, ℕ, ◌+◌, Bool, false, List, ◌∷◌, MatchOption}
+use Rattle.std.specs.Prelude.{◌≡◌, ◌⊎◌, ℕ, ◌+◌, Bool, false, ◌∷◌, MatchOption}
 use Rattle.std.specs.declared.option.Option.{Option}
 use Rattle.std.specs.declared.option.Option.TheVariants.{Some, None}
-use Rattle.rmt_values.specs.declared.checked_mutation.CheckedMutation.{CheckedMutation}
 use Rattle.rmt_names.specs.Names.{Name}
-use Rattle.rmt_entries.specs.declared.entry.Entry.{Entry}
-use Rattle.rmt_entries.specs.declared.entry.Entry.TheVariants.{Mutate, Mutation}
-use Rattle.rmt_model.specs.Lawful.{Lawful, entry_at}
+use Rattle.rmt_entries.specs.declared.entry.Entry.TheVariants.{Mutate}
+use Rattle.rmt_model.specs.Lawful.{Lawful}
 use Rattle.rmt_model.specs.Choices.{last_pending}
 use Rattle.rmt_model.specs.EntryLimits.{worker_limit}
 use Rattle.rmt_events.specs.Clusters.{Cluster}
@@ -28,10 +26,6 @@ WaitsTo s r id None u = (t : TableState) → Shows s t → Leads u (WaitsFor fal
 WaitsTo s r id (Some refusal) u = (t : TableState) → Shows s t → Leads u (RefusesWait (ups s) t r id refusal)
 
 -- ---- what only private functions cite
-
--- the mutation of this id is at the place
-abbrev pub IsPlaceOf : List Entry → ℕ → ℕ → Type 0
-IsPlaceOf log id place = (numbers : List (Option ℕ × ℕ)) × (command : CheckedMutation) × (entry_at log place ≡ Some (Mutation id numbers command))
 
 -- a part is mutated up to the mutation at a place, within the limit of worker entries, and the replica is up to date
 pub record BecomesMutated (s : Cluster) (r : ℕ) (old : Name) (upto : ℕ) (u : Cluster) : Type 0 where

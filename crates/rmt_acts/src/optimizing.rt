@@ -14,15 +14,13 @@ ghost use Rattle.rmt_statement_model.specs.Shows.{IsIdle, IsUpToDate, Shows, Lea
 ghost use Rattle.rmt_acts.specs.StatementEvents.{OptimizeEvents, StopsAfter};
 ghost use Rattle.rmt_acts.specs.Optimizing.{IsMergeAt, IsToldAs, MergesSome, OptimizesTo};
 
-use crate::optimization::Optimization;
-use crate::optimized::Optimized;
-use crate::partitions::{live_names, partitions};
 use crate::syncing::{catch_up, sync_replica};
 use rmt_cluster::Cluster;
 use rmt_entries::Entry;
 use rmt_events::{Event, Reply, StepRefused};
 use rmt_history::LogCopy;
 use rmt_list::List;
+use rmt_live_names::{Optimization, Optimized, live_names, partitions};
 use rmt_names::{PartName, PartitionId};
 use rmt_reply::Refusal;
 use rmt_values::ReplicaId;

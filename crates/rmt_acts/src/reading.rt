@@ -1,28 +1,19 @@
 //! What is read of a table at a replica.
-ghost use Rattle.std.specs.Prelude.{◌≡◌, ℕ, length, slice_get, true, IfOk};
-ghost use Rattle.std.specs.declared.option.Option.TheVariants.{Some};
-ghost use Rattle.std.specs.List.{All, filter};
+ghost use Rattle.std.specs.Prelude.{◌≡◌, length, true, IfOk};
+ghost use Rattle.std.specs.List.{All};
 ghost use Rattle.rmt_state.specs.States.{IsNumber};
-ghost use Rattle.rmt_row.specs.Token.{Token};
-ghost use Rattle.rmt_model.specs.Lawful.{is_mutation, mutation_count};
-ghost use Rattle.rmt_history.specs.Mutations.{HasOrder};
-ghost use Rattle.rmt_changes.specs.Changes.{entries_of};
-ghost use Rattle.rmt_changes.specs.Laws.{EntryFits};
 ghost use Rattle.rmt_format.specs.PartBytes.{HasPartBytes};
 ghost use Rattle.rmt_query.specs.Answers.{answer_of};
 ghost use Rattle.rmt_partset.specs.Snapshots.{names_in};
 ghost use Rattle.rmt_statement_model.specs.TableStates.{TableState, plain_rows, shown_at};
 ghost use Rattle.rmt_statement_model.specs.Reads.{IsReading, KnowsAll};
 ghost use Rattle.rmt_statement_model.specs.Shows.{Shows, ups};
-ghost use Rattle.rmt_acts.specs.Waiting.{IsPlaceOf};
 
 use rmt_cluster::Cluster;
-use rmt_entries::Entry;
-use rmt_history::LogCopy;
+use rmt_live_names::all_mutations;
 use rmt_partset::Snapshot;
 use rmt_query::{Tuple, answer};
 use rmt_replica::ReplicaError;
-use rmt_row::Seen;
 use rmt_values::{CheckedQuery, ReplicaId, Schema};
 use std::alloc::{AllocError, Global};
 
@@ -55,21 +46,6 @@ pub fn read_parts(
         Ok(parts) => Ok(parts),
         Err(ReplicaError::Memory) => Err(AllocError),
         Err(ReplicaError::Down) => unreachable!(),
-    }
-}
-
-/// The mutations of a copy, the oldest first: that of an id is at the index of the same number.
-pub(crate) fn all_mutations(copy: &LogCopy) -> &[Seen<Entry>]
-    ensures entries { entries_of result.now ≡ filter is_mutation copy.now.log }
-    ensures fit { All (λ token. EntryFits copy.now.schema token.value) result.now }
-    ensures ordered { All (λ token. HasOrder token.value) result.now }
-    ensures count { length result.now ≡ mutation_count copy.now.log }
-    ensures places { (id : ℕ) (token : Token Entry) → slice_get result.now id ≡ Some token
-        → IsPlaceOf copy.now.log id token.place }
-{
-    match copy.mutations(copy.len()) {
-        Some(list) => list.as_slice(),
-        None => &[],
     }
 }
 

@@ -1,55 +1,19 @@
 //! What a sequential SELECT reads.
-ghost use Rattle.std.specs.Prelude.{◌≡◌, length, not, true, IfOk, IfErr, IsTrue};
-ghost use Rattle.std.specs.List.{All, filter, list_any};
-ghost use Rattle.rmt_names.specs.Names.{covers as name_covers};
+ghost use Rattle.std.specs.Prelude.{◌≡◌, length, true, IfOk, IfErr};
+ghost use Rattle.std.specs.List.{All};
 ghost use Rattle.rmt_partset.specs.Snapshots.{names_in};
 ghost use Rattle.rmt_state.specs.States.{IsNumber};
 ghost use Rattle.rmt_statement_model.specs.TableStates.{TableState, shown_at};
-ghost use Rattle.rmt_statement_model.specs.Reads.{IsSequentialReading, LacksLast, covers_part};
+ghost use Rattle.rmt_statement_model.specs.Reads.{IsSequentialReading, LacksLast};
 ghost use Rattle.rmt_statement_model.specs.Shows.{Shows, ups};
 
 use crate::reading::read_parts;
 use rmt_cluster::Cluster;
-use rmt_names::{PartName, covers};
-use rmt_partset::{NamedPart, Snapshot};
+use rmt_partset::Snapshot;
 use rmt_reply::Refusal;
+use rmt_sequential::{has_cover, without};
 use rmt_values::ReplicaId;
 use std::alloc::{AllocError, Global};
-
-/// Whether a name covers a part, where there is one.
-fn covers_any(name: &PartName, part: &Option<PartName>) -> bool
-    ensures { result ≡ covers_part part.now name.now }
-{
-    match part {
-        Some(part) => covers(name, part),
-        None => false,
-    }
-}
-
-/// Parts without those that cover a part, where there is one.
-fn without(alloc: Global, parts: &Snapshot, part: &Option<PartName>) -> Result<Snapshot, AllocError>
-    ensures { IfOk result (λ kept. kept ≡ filter (λ p. not (covers_part part.now p.name)) parts.now) }
-{
-    let mut kept = Vec::with_capacity(alloc, parts.len())?;
-    'parts: for one in parts.parts() {
-        if !covers_any(one.name(), part) {
-            kept.push(NamedPart::new(*one.name(), one.data().clone()?))?;
-        }
-    }
-    Ok(Snapshot::of(kept))
-}
-
-/// Whether one of the parts covers a part.
-fn has_cover(parts: &Snapshot, part: &PartName) -> bool
-    ensures { result ≡ list_any (λ p. name_covers p.name part.now) parts.now }
-{
-    'parts: for one in parts.parts() {
-        if covers(one.name(), part) {
-            return true;
-        }
-    }
-    false
-}
 
 /// The active parts of a replica without those that cover the part which waits for its quorum. Or gives the refusal, where none of
 /// them covers the last part whose quorum was met. At an error no memory was left.

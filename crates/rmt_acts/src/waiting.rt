@@ -7,28 +7,16 @@ ghost use Rattle.rmt_state.specs.States.{IsNumber};
 ghost use Rattle.rmt_events.specs.LogEvents.{IsMutable};
 ghost use Rattle.rmt_statement_model.specs.Shows.{IsIdle, IsUpToDate, KeepsUps, fetching_of};
 ghost use Rattle.rmt_acts.specs.StatementEvents.{MutatesOnce, StopsAfter, WaitEvents};
-ghost use Rattle.rmt_acts.specs.Waiting.{IsPlaceOf, MutatesOne, MutatesSome, Settles, WaitsTo};
+ghost use Rattle.rmt_acts.specs.Waiting.{MutatesOne, MutatesSome, Settles, WaitsTo};
 
-use crate::reading::all_mutations;
 use crate::syncing::{catch_up, sync_replica};
 use rmt_cluster::Cluster;
 use rmt_events::{Event, Reply, StepRefused};
-use rmt_history::LogCopy;
+use rmt_live_names::place_of;
 use rmt_names::PartName;
 use rmt_reply::Refusal;
 use rmt_values::ReplicaId;
 use std::alloc::{AllocError, Global};
-
-/// The place of a mutation in a copy.
-fn place_of(copy: &LogCopy, id: u32) -> usize
-    requires known { id < mutation_count copy.now.log }
-    ensures { IsPlaceOf copy.now.log id result }
-{
-    let Some(token) = all_mutations(copy).get(id as usize) else {
-        unreachable!()
-    };
-    token.place()
-}
 
 /// Mutates a part up to the mutation at a place, and brings the replica up to date; or gives the refusal, where one more
 /// entry would pass a limit.

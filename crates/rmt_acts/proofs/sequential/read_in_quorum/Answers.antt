@@ -8,7 +8,8 @@ use Rattle.rmt_partset.specs.Snapshots.{NamedData, names_in}
 use Rattle.rmt_table_model.specs.Held.{Held}
 use Rattle.rmt_events.specs.Views.{Table}
 use Rattle.rmt_statement_model.specs.Reads.{waiting_part}
-use Rattle.rmt_acts.proofs.SequentialActs.{is_kept, any-named, told-part, reads-kept, known-kept, lacks-last}
+use Rattle.rmt_sequential.proofs.KeptParts.{is_kept, any-named}
+use Rattle.rmt_acts.proofs.SequentialActs.{told-part, reads-kept, known-kept, lacks-last}
 use Rattle.rmt_acts.proofs.sequential.read_in_quorum.Goals as goal
 use Rattle.rmt_acts.proofs.sequential.read_in_quorum.Goals.{in-Some+else-not-has_cover, in_default}
 

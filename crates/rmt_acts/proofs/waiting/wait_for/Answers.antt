@@ -5,8 +5,9 @@ use Rattle.rmt_names.specs.Names.{Name}
 use Rattle.rmt_entries.specs.declared.entry.Entry.{Entry}
 use Rattle.rmt_model.specs.Live.{live}
 use Rattle.rmt_reply.specs.declared.refusal.Refusal.{Refusal}
+use Rattle.rmt_live_names.specs.Places.{IsPlaceOf}
 use Rattle.rmt_acts.specs.Syncing.{SyncsReplica}
-use Rattle.rmt_acts.specs.Waiting.{IsPlaceOf, Settles}
+use Rattle.rmt_acts.specs.Waiting.{Settles}
 use Rattle.rmt_acts.proofs.SyncActs.{synced-told, synced-events}
 use Rattle.rmt_acts.proofs.OptimizeActs.{whole-log}
 use Rattle.rmt_acts.proofs.WaitActs.{IsWaiting, wait-lacks, waiting-begins, waiting-goes-on, waiting-ends, waiting-stops, waited-all, waited-some, next-part, place-below}

@@ -6,9 +6,9 @@ use Rattle.std.specs.declared.option.Option.{Option}
 use Rattle.rmt_names.specs.Names.{rank}
 use Rattle.rmt_model.specs.Live.{live}
 use Rattle.rmt_statement_model.specs.Optimizes.{partitions_of, partitions_asked}
-use Rattle.rmt_acts.proofs.PartitionLists.{deduped}
-use Rattle.rmt_acts.proofs.partitions.partitions.Goals as goal
-use Rattle.rmt_acts.proofs.partitions.partitions.Goals.{in-Some, in_default}
+use Rattle.rmt_live_names.proofs.PartitionLists.{deduped}
+use Rattle.rmt_live_names.proofs.live.partitions.Goals as goal
+use Rattle.rmt_live_names.proofs.live.partitions.Goals.{in-Some, in_default}
 
 pub returns : goal.returns
 returns c =

@@ -1,8 +1,8 @@
 use Rattle.std.proofs.Common.{◌≤◌, ◌∙◌, List, length, filter, ap, subst, sym}
 use Rattle.std.proofs.lemmas.List.{take_all}
 use Rattle.rmt_partset.specs.Snapshots.{NamedData, AreInOrder}
-use Rattle.rmt_acts.proofs.SequentialActs.{is_kept, order-kept}
-use Rattle.rmt_acts.proofs.sequential.without.Goals as goal
+use Rattle.rmt_sequential.proofs.KeptParts.{is_kept, order-kept}
+use Rattle.rmt_sequential.proofs.kept.without.Goals as goal
 
 pub of-requires : goal.of-requires
 of-requires c =

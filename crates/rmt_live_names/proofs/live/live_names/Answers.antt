@@ -3,7 +3,7 @@ use Rattle.rmt_names.specs.Names.{Name}
 use Rattle.rmt_model.specs.Words.{Pairwise}
 use Rattle.rmt_model.specs.Live.{Before}
 use Rattle.rmt_model.proofs.LiveLaws.{Tight, tight}
-use Rattle.rmt_acts.proofs.partitions.live_names.Goals as goal
+use Rattle.rmt_live_names.proofs.live.live_names.Goals as goal
 
 pub of_partition-requires : goal.of_partition-requires
 of_partition-requires c = record {

@@ -1,9 +1,9 @@
 use rmt_names::PartName;
 use rmt_reply::Refusal;
 
-/// What became of one partition.
+/// What became of the live parts of one partition.
 #[derive(Drop)]
-pub(crate) enum Optimized {
+pub enum Optimized {
     /// It has this part alone.
     Name(PartName),
     /// Its parts weren't merged.

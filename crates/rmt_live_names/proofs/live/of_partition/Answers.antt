@@ -4,8 +4,8 @@ use Rattle.std.specs.List.{prefix_len}
 use Rattle.std.specs.declared.option.Option.TheVariants.{None}
 use Rattle.rmt_names.specs.Names.{Name}
 use Rattle.rmt_nameset.proofs.Ranges.{Downward, parted, point_is}
-use Rattle.rmt_acts.proofs.PartitionNames.{is_early, is_of, early-down, later-down, side-by-side}
-use Rattle.rmt_acts.proofs.partitions.of_partition.Goals as goal
+use Rattle.rmt_live_names.proofs.PartitionNames.{is_early, is_of, early-down, later-down, side-by-side}
+use Rattle.rmt_live_names.proofs.live.of_partition.Goals as goal
 
 pub returns : goal.returns
 returns c =

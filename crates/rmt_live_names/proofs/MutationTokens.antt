@@ -1,20 +1,66 @@
 -- The tokens of a copy's mutations: that of an id is at the index of the same number.
-use Rattle.std.proofs.Common.{◌≡◌, ℕ, zero, suc, ◌+◌, List, [], ◌∷◌, ◌++◌, map, filter, length, inl, inr, sym, ap, subst, arith, ◌∙◌}
+use Rattle.std.proofs.Common.{◌≡◌, ℕ, zero, suc, ◌+◌, ◌<◌, ◌≤◌, Bool, true, nat_lt, List, [], ◌∷◌, ◌++◌, map, filter, length, inl, inr, refl, sym, ap, subst, arith, ◌∙◌}
+use Rattle.std.proofs.lemmas.Bool.Decides.{nat_tests}
 use Rattle.std.proofs.lemmas.List.{length-append, length-map, length-reverse, reverse-append}
+use Rattle.std.specs.List.{All}
 use Rattle.std.specs.Prelude.{slice_get}
 use Rattle.std.specs.declared.option.Option.TheVariants.{Some}
 use Rattle.rmt_values.specs.Rows.{Shape}
 use Rattle.rmt_entries.specs.declared.entry.Entry.{Entry}
 use Rattle.rmt_row.specs.Token.{Token}
 use Rattle.rmt_changes.specs.Changes.{entries_of}
+use Rattle.rmt_changes.specs.Laws.{EntryFits}
 use Rattle.rmt_history.specs.Copies.{History}
-use Rattle.rmt_history.specs.Mutations.{IsTokenBelow}
+use Rattle.rmt_history.specs.Mutations.{IsTokenBelow, first_entries, mutations_below}
 use Rattle.rmt_model.specs.Words.{Has, Each}
 use Rattle.rmt_model.specs.Lawful.{Lawful, is_mutation, mutation_count}
 use Rattle.rmt_model.proofs.Drops.{some-same}
-use Rattle.rmt_model.proofs.Lists.{Each-at}
+use Rattle.rmt_model.proofs.Lists.{Each-at, Each-all, Has-filter}
 use Rattle.rmt_statement_model.proofs.MutationIds.{IsMutationOf, CountsDown, counted-down}
-use Rattle.rmt_acts.specs.Waiting.{IsPlaceOf}
+use Rattle.rmt_statement_model.proofs.ReadLaws.{entries-fit}
+use Rattle.rmt_live_names.specs.Places.{IsPlaceOf}
+
+-- ---- all of a log
+
+-- all places are below the length
+whole-first : (log : List Entry) (i : ℕ) → length log ≤ i → first_entries log i ≡ log
+whole-first [] i h = refl
+whole-first (x ∷ log) i h = rw (below (length log) i (omega (arith, h))) refl
+  where
+    below : (k n : ℕ) → k < n → nat_lt k n ≡ true
+    below k n l = grind (arith, nat_tests)
+
+pub all-below : (log : List Entry) → mutations_below log (length log) ≡ filter is_mutation log
+all-below log = ap (filter is_mutation) (whole-first log (length log) (omega arith))
+
+-- ---- the tokens of the mutations
+
+-- both sides
+Each-split : {A : Type 0} (P : A → Type 0) (xs ys : List A) → Each P (xs ++ ys) → Each P xs × Each P ys
+Each-split P [] ys e = (tt, e)
+Each-split P (x ∷ xs) ys e = let r = Each-split P xs ys e.1 in ((e.0, r.0), r.1)
+
+Each-tokens : (P : Entry → Type 0) (tokens : List (Token Entry)) → Each P (entries_of tokens) → Each (λ t. P t.value) tokens
+Each-tokens P [] e = tt
+Each-tokens P (t ∷ tokens) e =
+    let r = Each-split P (entries_of tokens) (t.value ∷ []) (subst (Each P) (reverse-append (t.value ∷ []) (map (λ (x : Token Entry). x.value) tokens)) e) in
+    (r.1.0, Each-tokens P tokens r.0)
+
+Each-filter : {A : Type 0} (P : A → Type 0) (test : A → Bool) (xs : List A) → Each P xs → Each P (filter test xs)
+Each-filter P test xs e = Each-all P (filter test xs) (λ x h. Each-at P xs x e (Has-filter test xs x h).0)
+
+All-each : {A : Type 0} (P : A → Type 0) (xs : List A) → Each P xs → All P xs
+All-each P [] e k d l = absurd (omega (arith, l))
+All-each P (x ∷ xs) e zero d l = e.0
+All-each P (x ∷ xs) e (suc k) d l = All-each P xs e.1 k d (omega (arith, l))
+
+-- each token's entry fits, where all entries do
+pub tokens-fit : (schema : Shape) (log : List Entry) (tokens : List (Token Entry)) → Lawful schema log → entries_of tokens ≡ filter is_mutation log → All (λ token. EntryFits schema token.value) tokens
+tokens-fit schema log tokens l e =
+    All-each (λ (t : Token Entry). EntryFits schema t.value) tokens
+    (Each-tokens (EntryFits schema) tokens (subst (Each (EntryFits schema)) (sym e) (Each-filter (EntryFits schema) is_mutation log (entries-fit schema log l))))
+
+-- ---- by their ids
 
 -- the last of entries that count down is the mutation of the least id
 down-last : (k : ℕ) (es : List Entry) (y : Entry) → CountsDown k (es ++ y ∷ []) → IsMutationOf k y × CountsDown (k + 1) es

@@ -35,8 +35,8 @@ fn of_partition(names: &[PartName], partition: PartitionId) -> &[PartName]
     later.split_at(count).0
 }
 
-/// The live names of a partition, in order.
-pub(crate) fn live_names(
+/// Returns the live names of a partition, in order: none where it has none. At an error no memory was left.
+pub fn live_names(
     alloc: Global,
     copy: &LogCopy,
     partition: PartitionId,
@@ -56,8 +56,9 @@ fn each_partition(alloc: Global, names: &[PartName]) -> Result<Vec<PartitionId>,
     names.iter().map(|name| name.partition()).collect(alloc)
 }
 
-/// The partitions that are asked for: of those that have live names all, or the one that is named.
-pub(crate) fn partitions(
+/// Returns the partitions that are asked for, in order: of those that have live names all, or the one that is named. At an error no
+/// memory was left.
+pub fn partitions(
     alloc: Global,
     copy: &LogCopy,
     asked: Option<PartitionId>,

@@ -3,8 +3,8 @@ use Rattle.std.proofs.lemmas.Grind.{common_steps}
 use Rattle.std.proofs.lemmas.Option.{gets}
 use Rattle.std.specs.Prelude.{slice_get}
 use Rattle.std.specs.declared.option.Option.TheVariants.{Some}
-use Rattle.rmt_acts.specs.Waiting.{IsPlaceOf}
-use Rattle.rmt_acts.proofs.waiting.place_of.Goals as goal
+use Rattle.rmt_live_names.specs.Places.{IsPlaceOf}
+use Rattle.rmt_live_names.proofs.mutations.place_of.Goals as goal
 
 pub returns : goal.returns
 returns c =

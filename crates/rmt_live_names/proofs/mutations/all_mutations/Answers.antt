@@ -4,9 +4,8 @@ use Rattle.rmt_row.specs.Token.{Token}
 use Rattle.rmt_changes.specs.Changes.{entries_of}
 use Rattle.rmt_model.specs.Words.{Each}
 use Rattle.rmt_history.specs.Mutations.{HasOrder, IsTokenBelow, mutations_below}
-use Rattle.rmt_acts.proofs.ReadActs.{all-below, tokens-fit}
-use Rattle.rmt_acts.proofs.MutationTokens.{tokens-count, token-places}
-use Rattle.rmt_acts.proofs.reading.all_mutations.Goals as goal
+use Rattle.rmt_live_names.proofs.MutationTokens.{all-below, tokens-fit, tokens-count, token-places}
+use Rattle.rmt_live_names.proofs.mutations.all_mutations.Goals as goal
 
 pub returns-in-Some-clause-entries : goal.returns-in-Some-clause-entries
 returns-in-Some-clause-entries c =

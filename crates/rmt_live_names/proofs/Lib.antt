@@ -1,0 +1,3 @@
+pub mod PartitionLists
+pub mod PartitionNames
+pub mod MutationTokens
