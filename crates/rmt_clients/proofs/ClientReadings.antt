@@ -1,5 +1,5 @@
 -- What a client reads at a replica: the check of a snapshot under the lock is all that has to be known.
-use Rattle.std.proofs.Common.{◌≡◌, ℕ, ◌≤◌, ◌⊎◌, inl, inr, Bool, true, false, not, List, [], ◌∷◌, ◌++◌, length, map, arith, filter, refl, sym, ap, subst, ◌∙◌}
+use Rattle.std.proofs.Common.{◌≡◌, ℕ, ◌≤◌, inl, inr, Bool, true, false, not, List, [], ◌∷◌, ◌++◌, length, map, arith, filter, refl, sym, ap, subst, ◌∙◌}
 use Rattle.std.specs.List.{filter_map}
 use Rattle.std.specs.declared.option.Option.{Option}
 use Rattle.std.specs.declared.option.Option.TheVariants.{Some}
@@ -12,11 +12,11 @@ use Rattle.rmt_entries.specs.declared.entry.Entry.TheVariants.{Get, Merge, Mutat
 use Rattle.rmt_granules.specs.Granules.{PartView}
 use Rattle.rmt_granules.specs.MadePart.{data_of}
 use Rattle.rmt_model.specs.Words.{Has, Each}
-use Rattle.rmt_model.specs.Live.{made, Dropped}
+use Rattle.rmt_model.specs.Live.{made}
 use Rattle.rmt_model.specs.Lawful.{Lawful, IsPrefix, MakesAt, is_mutation}
 use Rattle.rmt_model.specs.Content.{Row, Blocks, content, snapshot}
 use Rattle.rmt_model.specs.EntryLimits.{is_client}
-use Rattle.rmt_model.specs.Fair.{CoveredBy, MadeAtMark, DroppedAtMark, AreFair, AllMarked}
+use Rattle.rmt_model.specs.Fair.{MadeAtMark, DroppedAtMark, AreFair, AllMarked}
 use Rattle.rmt_model.specs.CopiedParts.{Copied, IsCopied, names_of}
 use Rattle.rmt_model.proofs.Lists.{Each-at, Each-all, Has-filter}
 use Rattle.rmt_partset.specs.Snapshots.{NamedData, names_in, data_in}
@@ -35,6 +35,7 @@ use Rattle.rmt_statement_model.proofs.ReadLaws.{all-mutations-read}
 use Rattle.rmt_statement_model.proofs.WorkerEntries.{not-client, rows-stay}
 use Rattle.rmt_statement_model.specs.Reads.{IsReading, KnowsAll, IsSequentialReading, LacksLast, waiting_part, covers_part, without_part}
 use Rattle.rmt_clients.specs.Clients.{Client, known_table, KnowsTable, AreAccepted, AreClear, Fits, seeing, after_work, ClientsMarked, ChangesInto, RestsAnd, SeesHere}
+use Rattle.rmt_clients.specs.ClientReadings.{IsChecked}
 use Rattle.rmt_clients.proofs.ClientRests.{fits-all, fits-as, knows-fits, knows-itself, fits-rested, rests-and}
 use Rattle.rmt_clients.proofs.OfferedBlocks.{IsOfferedAs, part-content}
 use Rattle.rmt_clients.proofs.ClientReads.{reads-plain-names}
@@ -68,12 +69,6 @@ names-without waiting (part ∷ parts) = go (not (covers_part waiting part.name)
     go false e i = rw e i
 
 -- ---- the check
-
--- what a snapshot compares under the lock: no part is taken away by a drop that is known, and each result of a known place is
--- covered or dropped
-pub record IsChecked (log : List Entry) (known : ℕ → Bool) (names : List Name) : Type 0 where
-  pub kept : Each (λ a. DroppedAtMark log known a → ⊥) names
-  pub answered : (a : Name) → MadeAtMark log known a → CoveredBy names a ⊎ Dropped log a
 
 -- a standing replica whose copy is a prefix of the client's log, whose blocks are offered ones, and whose active parts are checked
 pub record ChecksHere (O : Block → Type 0) (p : Client) (r : ℕ) (x : Replica) : Type 0 where

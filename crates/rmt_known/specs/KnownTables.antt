@@ -1,6 +1,6 @@
 -- What one client knows of one table, as it is kept: its copy of the log, and marks for the places that are known at each replica.
 -- No public source: this program's own.
-use Rattle.std.specs.Prelude.{◌≡◌, ◌<◌, ◌≤◌, ℕ, zero, suc, ◌||◌, ◌&&◌, nat_eq, nat_lt, Bool, true, List, [], length, replicate, slice_get, slice_index_or}
+use Rattle.std.specs.Prelude.{◌≡◌, ◌<◌, ◌≤◌, ℕ, zero, suc, ◌||◌, ◌&&◌, nat_eq, nat_lt, Bool, true, false, List, [], length, replicate, slice_get, slice_index_or}
 use Rattle.std.specs.declared.option.Option.{Option}
 use Rattle.std.specs.declared.option.Option.TheVariants.{Some, None}
 use Rattle.rmt_values.specs.Rows.{Shape}
@@ -55,6 +55,12 @@ new_known schema n = record { schema = schema; log = []; cells = []; next = []; 
 pub record IsReplicaIn (k : Known) (r : ℕ) : Type 0 where
   pub first : 1 ≤ r
   pub last : r ≤ length k.fetching
+
+-- the place of the log is known at one of these replicas, the first one first
+pub record IsKnownAtOne (p : Client) (replicas : List Bool) (i : ℕ) : Type 0 where
+  pub replica : ℕ
+  pub among : slice_index_or replicas replica false ≡ true
+  pub known : p.known (suc replica) i ≡ true
 
 -- the table that is found goes on from what is known: its log from the copy, the next numbers are as the client's own calls left
 -- them, and the quorum may have come of notes

@@ -1,8 +1,8 @@
-ghost use Rattle.std.specs.Prelude.{◌≡◌, ◌<◌, ℕ, true, false, length, OnOk, OnErr};
+ghost use Rattle.std.specs.Prelude.{◌≡◌, ◌<◌, ℕ, suc, true, false, length, slice_index_or, IsTrue, OnOk, OnErr};
 ghost use Rattle.rmt_partset.specs.Snapshots.{names_in};
 ghost use Rattle.rmt_statement_model.specs.TableStates.{learned, learned_to, shown_at};
 ghost use Rattle.rmt_clients.specs.Clients.{KnowsTable};
-ghost use Rattle.rmt_known.specs.KnownTables.{IsReplicaIn, KeepsCopy, client_of, known_state};
+ghost use Rattle.rmt_known.specs.KnownTables.{IsReplicaIn, IsKnownAtOne, KeepsCopy, client_of, known_state};
 
 use crate::known_table::KnownTable;
 use crate::marks::{first_unmarked, is_marked, mark_below, mark_place, mark_shown};
@@ -20,6 +20,19 @@ impl KnownTable {
             return false;
         };
         is_marked(marks, i)
+    }
+
+    /// Whether a place of the log is known at one of these replicas, the first one first.
+    pub fn is_known_at_one(&self, replicas: &[bool], i: usize) -> bool
+        ensures some { IsTrue result → IsKnownAtOne (client_of self.now) replicas.now i }
+        ensures none { (result ≡ false) → (k : ℕ) → slice_index_or replicas.now k false ≡ true → (client_of self.now).known (suc k) i ≡ false }
+    {
+        'replicas: for k in 0..replicas.len().min(self.marks.len()) {
+            if replicas[k] && is_marked(&self.marks[k], i) {
+                return true;
+            }
+        }
+        false
     }
 
     /// The lowest place that isn't known at a replica.
@@ -44,6 +57,17 @@ impl KnownTable {
         Ok(())
     }
 
+    /// Notes that every place below a length is known at a replica. At an error no memory was left.
+    pub fn learn_below(&mut self, replica: ReplicaId, len: usize) -> Result<(), AllocError>
+        requires { IsReplicaIn self.old replica }
+        ensures ok { OnOk result (KnowsTable (client_of self.new) (record (known_state self.old) { known = learned_to (known_state self.old).known replica len })) }
+        ensures keeps { KeepsCopy self.old self.new }
+        ensures err { OnErr result (self.new ≡ self.old) }
+    {
+        mark_below(&mut self.marks[usize::from(replica) - 1], len)?;
+        Ok(())
+    }
+
     /// Notes that every place of the copy of the log is known at a replica. At an error no memory was left.
     pub fn learn_all(&mut self, replica: ReplicaId) -> Result<(), AllocError>
         requires { IsReplicaIn self.old replica }
@@ -52,7 +76,7 @@ impl KnownTable {
         ensures err { OnErr result (self.new ≡ self.old) }
     {
         let len = self.copy.len();
-        mark_below(&mut self.marks[usize::from(replica) - 1], len)?;
+        self.learn_below(replica, len)?;
         Ok(())
     }
 

@@ -1,0 +1,4 @@
+pub mod DropTests
+pub mod CheckLemmas
+pub mod CallerLemmas
+pub mod QuorumLemmas

@@ -1,0 +1,15 @@
+pub use Rattle.rmt_history.specs.Copies
+pub use Rattle.rmt_model.specs.Fair
+pub use Rattle.rmt_query.specs.Answers
+pub use Rattle.rmt_query.specs.ReadRows
+pub use Rattle.rmt_statement_model.specs.TableStates
+pub use Rattle.rmt_partset.specs.ActiveParts
+pub use Rattle.rmt_model.specs.Quorum
+pub use Rattle.rmt_statement_model.specs.Reads
+pub use Rattle.rmt_clients.specs.Clients
+pub use Rattle.rmt_clients.specs.ClientReadings
+pub use Rattle.rmt_known.specs.KnownTables
+pub use Rattle.rmt_replica.specs.Replicas
+pub mod Readable
+pub mod QuorumParts
+pub mod Checks
