@@ -14,8 +14,8 @@ use Rattle.rmt_statement_model.specs.Books.{all_clients}
 use Rattle.rmt_statement_model.specs.ActOutcomes.{DropsOr}
 use Rattle.rmt_clients.specs.Clients.{KnowsTable}
 use Rattle.rmt_known.specs.KnownTables.{Known, KeepsCopy, client_of, known_state}
-use Rattle.rmt_workers.specs.SharedTables.{ChangesTable}
-use Rattle.rmt_workers.specs.ClientCalls.{HasTable}
+use Rattle.rmt_shared.specs.SharedTables.{ChangesTable}
+use Rattle.rmt_shared.specs.ClientCalls.{HasTable}
 use Rattle.rmt_pass.specs.Passes.{PassView, SeesAs, IsCurrent, TakesStep, TakesOver, known_in, known_at, client_at, logs_in}
 use Rattle.rmt_pass.proofs.OwnLemmas.{knowing, before-there, after-there, left-there, left-in, entry-more, one-more, learned-clients, learned-keeps, learned-sees, learned-schema, learned-fetching, learned-known}
 use Rattle.rmt_pass.proofs.ChangeSteps.{drops}

@@ -37,9 +37,9 @@ use Rattle.rmt_clients.specs.Clients.{Client, known_table, KnowsTable, AreAccept
 use Rattle.rmt_clients.specs.ClientBlocks.{MeetsLimit}
 use Rattle.rmt_clients.proofs.ClientRests.{knows-itself, steps-now, changes-as}
 use Rattle.rmt_clients.proofs.ClientInserts.{meets-limit, repeated-here, no-quorum-here, no-number-here, no-room-here}
-use Rattle.rmt_workers.specs.SharedTables.{HasBlocks}
+use Rattle.rmt_shared.specs.SharedTables.{HasBlocks}
 use Rattle.rmt_pass.specs.Passes.{PassView, SeesAs, client_at, up_in}
-use Rattle.rmt_pass.specs.InsertSteps.{AreOpen, IsIdOf, IsUnnumbered, Numbers, HoldsNumber, GoesIn}
+use Rattle.rmt_pass.specs.InsertSteps.{HoldsLock, AreOpen, IsIdOf, IsUnnumbered, Numbers, HoldsNumber, GoesIn}
 use Rattle.rmt_pass.specs.declared.numbered.Numbered.{Numbered}
 use Rattle.rmt_pass.proofs.OwnLemmas.{stays}
 
@@ -260,3 +260,12 @@ unnumbered-so Offered p k t a b id allocate.Memory r g s o i n u = subst (λ (x 
 pub of-each : (id : BlockId) (r : Result Numbered AllocError) (P : Block → Numbered → Type 0) → ((b : Block) → IsIdOf b id → IfOk r (P b)) → IfOk r (λ n. (b : Block) → IsIdOf b id → P b n)
 of-each id (Ok n) P f = f
 of-each id (Err e) P f = tt
+
+-- a block that got no number has no lock
+pub none-locked : (tables : List Held) (k : ℕ) (e : AllocateError) (r : Result Numbered AllocError) → IsUnnumbered e r → IfOk r (λ n. HoldsLock n tables k)
+none-locked tables k allocate.NoSession r u = absurd u
+none-locked tables k (allocate.TooFewLive live needed) r u = subst (λ (x : Result Numbered AllocError). IfOk x (λ n. HoldsLock n tables k)) (sym u) tt
+none-locked tables k (allocate.QuorumPending part) r u = subst (λ (x : Result Numbered AllocError). IfOk x (λ n. HoldsLock n tables k)) (sym u) tt
+none-locked tables k (allocate.Duplicate part) r u = subst (λ (x : Result Numbered AllocError). IfOk x (λ n. HoldsLock n tables k)) (sym u) tt
+none-locked tables k (allocate.LimitReached limit value) r u = subst (λ (x : Result Numbered AllocError). IfOk x (λ n. HoldsLock n tables k)) (sym u) tt
+none-locked tables k allocate.Memory r u = subst (λ (x : Result Numbered AllocError). IfOk x (λ n. HoldsLock n tables k)) (sym u) tt

@@ -12,7 +12,9 @@ use Rattle.rmt_entries.specs.declared.entry.Entry.TheVariants.{Get}
 use Rattle.rmt_model.specs.Lawful.{IsPrefix}
 use Rattle.rmt_model.specs.Quorum.{Quorum}
 use Rattle.rmt_model.specs.EntryLimits.{client_count}
-use Rattle.rmt_events.specs.Views.{Block, Table}
+use Rattle.rmt_events.specs.Views.{Block, Table, Lock as TableLock}
+use Rattle.rmt_model.specs.Words.{Has}
+use Rattle.rmt_events.proofs.TableSteps.{lock-new}
 use Rattle.rmt_events.specs.Clusters.{values_of, without_kinds}
 use Rattle.rmt_events.specs.TableCalls.{Allocates}
 use Rattle.rmt_model.specs.BlockNumbers.{next_number}
@@ -29,11 +31,12 @@ use Rattle.rmt_statement_model.specs.Books.{all_clients}
 use Rattle.rmt_statement_model.specs.Inserts.{Asked, asked_at, quorum_refusal}
 use Rattle.rmt_clients.specs.Clients.{Client, KnowsTable, known_table}
 use Rattle.rmt_known.specs.KnownTables.{Known, KeepsCopy, client_of, known_state, seen_of}
-use Rattle.rmt_workers.specs.SharedTables.{ChangesTable, HasBlocks}
-use Rattle.rmt_workers.specs.ClientCalls.{HasTable, GivesNumber, AcceptsBlock}
+use Rattle.rmt_shared.specs.SharedTables.{ChangesTable, HasBlocks}
+use Rattle.rmt_shared.specs.ClientCalls.{HasTable, GivesNumber, AcceptsBlock}
 use Rattle.rmt_pass.specs.Passes.{PassView, SeesAs, IsCurrent, KeepsPass, TakesOver, known_in, known_at, client_at, logs_in}
-use Rattle.rmt_pass.specs.InsertSteps.{AreOpen, CommitsTo, IsIdOf, IsLate, IsUncommitted, HoldsNumber, GoesIn}
+use Rattle.rmt_pass.specs.InsertSteps.{AreOpen, HoldsLock, WasGone, CommitsTo, IsIdOf, IsLate, IsUncommitted, HoldsNumber, GoesIn}
 use Rattle.rmt_pass.specs.declared.committed.Committed.{Committed}
+use Rattle.rmt_pass.specs.declared.numbered.Numbered.TheVariants.{Taken}
 use Rattle.rmt_pass.proofs.SeenLemmas.{clients-kept}
 use Rattle.rmt_pass.proofs.OwnLemmas.{knowing, known-now, keeps-known, before-there, after-there, left-there, left-in, entry-more, one-more, learned-keeps, learned-sees, learned-schema, learned-fetching, learned-known, learned-clients}
 use Rattle.rmt_pass.proofs.InsertLemmas.{takes, goes-in, kept-seen, lacks-room, quorum-few, quorum-waits}
@@ -55,6 +58,22 @@ module _ (p : PassView) (k : ℕ) (old new : List Held) (there : k < length old)
     table = c.after;
     is = left-there old k (λ t u. GivesNumber replica id need lock t u) new c there;
     fact = record { gained = []; is = same-log };
+  }
+
+  -- the lock is there
+  pub number-locked : HoldsLock (Taken lock) new k
+  number-locked = record {
+    table = c.after;
+    is = left-there old k (λ t u. GivesNumber replica id need lock t u) new c there;
+    fact =
+        let same : lock.id ≡ id = ap (λ (x : Lock). x.id) c.change.is in
+        let held : TableLock = record { partition = id.partition; number = lock.number; owner = replica } in
+        record {
+          lock = held;
+          is_in = subst (λ (ls : List TableLock). Has ls held) (sym (ap (λ (t : Table). t.locks) c.change.allocates.change)) (lock-new held (table_at c.table).locks);
+          partition = ap (λ (x : BlockId). x.partition) (sym same);
+          number = refl;
+        };
   }
 
   module _ (here : k < length p.tables) (known : List Known) (o : HasTable new k (λ h. TakesOver p.tables k h known)) where
@@ -230,3 +249,14 @@ uncommitted-so O up a b lock now t (commits.QuorumPending part) r s blocks why u
 uncommitted-so O up a b lock now t (commits.Duplicate part) r s blocks why u = absurd u
 uncommitted-so O up a b lock now t (commits.LimitReached limit value) r s blocks why u = subst (λ (x : Result Committed AllocError). IfOk x (λ c. (before : Client) → HoldsNumber up a b lock before now → CommitsTo O up a b before now c now)) (sym u) (λ before h. lacks-room O up before now t a b lock limit value h s blocks why.1.2)
 uncommitted-so O up a b lock now t commits.Memory r s blocks why u = subst (λ (x : Result Committed AllocError). IfOk x (λ c. (before : Client) → HoldsNumber up a b lock before now → CommitsTo O up a b before now c now)) (sym u) tt
+
+-- ---- a lock that was gone
+
+-- a block that isn't accepted since its lock was gone
+pub was-gone : (tables : List Held) (k : ℕ) (lock : Lock) (need : ℕ) (block : BlockView) (e : CommitError) (r : Result Committed AllocError) → IfSome (commit_cause e) (λ why. HasTable tables k (λ t. NoCommit (table_at t) lock need (values_of t.schema block.rows) why)) → IsUncommitted e r → IfOk r (λ c. WasGone c tables k lock)
+was-gone tables k lock need block (commits.LockGone n) r h is = subst (λ (x : Result Committed AllocError). IfOk x (λ c. WasGone c tables k lock)) (sym is) (record { table = h.table; is = h.is; fact = h.fact.1 })
+was-gone tables k lock need block (commits.TooFewLive live needed) r h is = absurd is
+was-gone tables k lock need block (commits.QuorumPending part) r h is = absurd is
+was-gone tables k lock need block (commits.Duplicate part) r h is = absurd is
+was-gone tables k lock need block (commits.LimitReached limit value) r h is = subst (λ (x : Result Committed AllocError). IfOk x (λ c. WasGone c tables k lock)) (sym is) tt
+was-gone tables k lock need block commits.Memory r h is = subst (λ (x : Result Committed AllocError). IfOk x (λ c. WasGone c tables k lock)) (sym is) tt

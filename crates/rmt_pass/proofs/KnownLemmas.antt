@@ -12,10 +12,9 @@ use Rattle.rmt_table_model.specs.Held.{Held}
 use Rattle.rmt_statement_model.specs.Books.{ArePrefixesOf, GainWork, all_clients}
 use Rattle.rmt_model.specs.EntryLimits.{client_count}
 use Rattle.rmt_known.specs.KnownTables.{Known, KeepsCopy, copy_in}
-use Rattle.rmt_workers.specs.SharedTables.{NamedTable, named, logs_of}
-use Rattle.rmt_workers.specs.Passes.{IsCopyOfNamed, IsShorter, name_at}
-use Rattle.rmt_workers.proofs.NamedLemmas.{map-length, map-get, map-set, set-clients, log-at}
-use Rattle.rmt_pass.specs.Passes.{IsKnownOf, AreKnownOf, logs_in}
+use Rattle.rmt_shared.specs.SharedTables.{NamedTable, named, logs_of, IsCopyOfNamed, name_at}
+use Rattle.rmt_shared.proofs.NamedLemmas.{map-length, map-get, map-set, set-clients, log-at}
+use Rattle.rmt_pass.specs.Passes.{IsShorter, IsKnownOf, AreKnownOf, logs_in}
 
 pub known-length : (replicas : ℕ) (names : List NamedTable) (known : List Known) → AreKnownOf replicas names known → length names ≡ length known
 known-length replicas [] [] a = refl
@@ -124,3 +123,8 @@ if-some (Some x) P Q f h = f x h
 pub on-ok : {T E : Type 0} (r : Result T E) (P : Type 0) → P → OnOk r P
 on-ok (Ok x) P p = p
 on-ok (Err e) P p = tt
+
+-- what two clauses on success say together
+pub on-ok-both : {T E : Type 0} (r : Result T E) (A B C : Type 0) → (A → B → C) → OnOk r A → OnOk r B → OnOk r C
+on-ok-both (Ok x) A B C f a b = f a b
+on-ok-both (Err e) A B C f a b = tt

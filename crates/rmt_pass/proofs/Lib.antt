@@ -6,3 +6,12 @@ pub mod OwnLemmas
 pub mod InsertLemmas
 pub mod DropLemmas
 pub mod InsertSeen
+pub mod ReadLemmas
+pub mod DrainLemmas
+pub mod SwitchLemmas
+pub mod WorkSteps
+pub mod MergeLemmas
+pub mod MergeSeen
+pub mod MutateLemmas
+pub mod MutateSeen
+pub mod CallerLemmas

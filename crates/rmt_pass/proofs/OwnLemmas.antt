@@ -18,8 +18,8 @@ use Rattle.rmt_statement_model.specs.TableStates.{TableState, learned}
 use Rattle.rmt_statement_model.specs.ActOutcomes.{MutatesOr}
 use Rattle.rmt_clients.specs.Clients.{Client, KnowsTable, StepsTo}
 use Rattle.rmt_known.specs.KnownTables.{Known, KeepsCopy, client_of, known_state, new_known, seen_of}
-use Rattle.rmt_workers.specs.SharedTables.{ChangesTable}
-use Rattle.rmt_workers.specs.ClientCalls.{HasTable}
+use Rattle.rmt_shared.specs.SharedTables.{ChangesTable}
+use Rattle.rmt_shared.specs.ClientCalls.{HasTable}
 use Rattle.rmt_pass.specs.Passes.{PassView, KeepsPass, SeesAs, IsCurrent, KeepsOthers, TakesStep, TakesOver, no_schema, known_in, known_at, client_at, logs_in}
 use Rattle.rmt_pass.proofs.TakingLemmas.{one-there}
 use Rattle.rmt_pass.proofs.KnownLemmas.{clients-with}

@@ -10,9 +10,9 @@ use Rattle.rmt_statement_model.specs.Books.{GainsWork, GainWork, all_clients}
 use Rattle.rmt_clients.specs.Clients.{Client}
 use Rattle.rmt_clients.proofs.ClientMeets.{meets, Met}
 use Rattle.rmt_known.specs.KnownTables.{Known, client_of, new_known, seen_of, GoesOnFromKnown}
-use Rattle.rmt_workers.specs.SharedTables.{NamedTable, logs_of}
+use Rattle.rmt_shared.specs.SharedTables.{NamedTable, logs_of}
 use Rattle.rmt_statement_model.proofs.WorkerEntries.{clients-stay}
-use Rattle.rmt_workers.proofs.NamedLemmas.{between, gained-at, log-at, map-length}
+use Rattle.rmt_shared.proofs.NamedLemmas.{between, gained-at, log-at, map-length}
 use Rattle.rmt_pass.specs.Passes.{PassView, AreKnownOf, IsPass, KeepsPass, Sees, no_schema, known_at, client_at, logs_in}
 use Rattle.rmt_pass.proofs.KnownLemmas.{clients-with, log-in}
 

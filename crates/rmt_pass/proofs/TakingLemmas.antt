@@ -4,9 +4,8 @@ use Rattle.rmt_model.specs.Lawful.{IsPrefix}
 use Rattle.rmt_table_model.specs.Held.{Held}
 use Rattle.rmt_table.specs.TableTrees.{IsCopyOf}
 use Rattle.rmt_known.specs.KnownTables.{Known, copy_in, new_known, seen_of, with_copy}
-use Rattle.rmt_workers.specs.SharedTables.{NamedTable, named}
-use Rattle.rmt_workers.specs.Passes.{IsCopyOfNamed, name_at}
-use Rattle.rmt_workers.specs.ClientCalls.{HasTable}
+use Rattle.rmt_shared.specs.SharedTables.{NamedTable, named, IsCopyOfNamed, name_at}
+use Rattle.rmt_shared.specs.ClientCalls.{HasTable}
 use Rattle.rmt_pass.specs.Passes.{AreKnownOf, TakesOver, TakesSome, no_schema, known_in}
 use Rattle.rmt_pass.proofs.KnownLemmas.{known-at, known-set}
 

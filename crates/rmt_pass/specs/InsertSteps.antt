@@ -1,12 +1,14 @@
 -- A client's INSERT of one block, in two steps: the block takes a number under one lock, and goes in under a later one.
 -- ClickHouse documentation, Data Replication: a block takes a number under a lock, and its entry is written later. What a client
 -- knows in between is this program's own.
-use Rattle.std.specs.Prelude.{◌≡◌, ℕ, ◌+◌, Bool, true, length, Result, Ok, Err}
+use Rattle.std.specs.Prelude.{◌≡◌, ℕ, ◌+◌, Bool, true, List, length, Result, Ok, Err}
 use Rattle.std.specs.declared.option.Option.TheVariants.{None}
 use Rattle.rmt_model.specs.Words.{Has}
 use Rattle.rmt_model.specs.BlockNumbers.{next_number, with_next}
 use Rattle.rmt_events.specs.Views.{Block}
+use Rattle.rmt_events.specs.TableCalls.{IsLocked}
 use Rattle.rmt_table_model.specs.Held.{Held}
+use Rattle.rmt_shared.specs.ClientCalls.{HasTable}
 use Rattle.rmt_table.specs.TableTrees.{table_at}
 use Rattle.std.specs.declared.alloc.AllocError.{AllocError}
 use Rattle.rmt_table.specs.declared.commit_error.CommitError.{CommitError}
@@ -49,6 +51,18 @@ pub record HoldsNumber (up : ℕ → Bool) (a : Asked) (b : Block) (lock : Lock)
   pub writer : lock.replica ≡ a.writer
   pub id : IsIdOf b lock.id
   pub is : now ≡ numbered before b
+
+-- the number that a block got is held by its lock in the table at a place
+abbrev pub HoldsLock : Numbered → List Held → ℕ → Type 0
+HoldsLock (Taken lock) tables k = HasTable tables k (λ t. IsLocked (table_at t).locks lock.id.partition lock.number)
+HoldsLock (Duplicate part) tables k = Unit {0}
+HoldsLock (Refused why) tables k = Unit {0}
+
+-- where the answer says that the lock of a block was gone, no lock held its number in the table at a place
+abbrev pub WasGone : Committed → List Held → ℕ → Lock → Type 0
+WasGone (Entry place) tables k lock = Unit {0}
+WasGone (Full limit value) tables k lock = Unit {0}
+WasGone LockGone tables k lock = HasTable tables k (λ t. IsLocked (table_at t).locks lock.id.partition lock.number → ⊥)
 
 -- what became of a block that asks for a number: it got one, its id is kept, or it was refused
 abbrev pub Numbers : (ℕ → Block → Type 0) → PassView → ℕ → Asked → Block → Numbered → PassView → Type 0

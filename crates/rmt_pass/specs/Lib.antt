@@ -2,6 +2,12 @@ pub use Rattle.rmt_statement_model.specs.Books
 pub use Rattle.rmt_statement_model.specs.ActOutcomes
 pub use Rattle.rmt_clients.specs.Clients
 pub use Rattle.rmt_known.specs.KnownTables
-pub use Rattle.rmt_workers.specs.SharedTables
+pub use Rattle.rmt_readings.specs.Readable
+pub use Rattle.rmt_readings.specs.QuorumParts
+pub use Rattle.rmt_shared.specs.SharedTables
 pub mod Passes
 pub mod InsertSteps
+pub mod ReadSteps
+pub mod DrainSteps
+pub mod MergeSteps
+pub mod MutateSteps

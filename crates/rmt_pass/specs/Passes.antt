@@ -11,8 +11,7 @@ use Rattle.rmt_statement_model.specs.TableStates.{TableState}
 use Rattle.rmt_statement_model.specs.Books.{all_clients, GainWork}
 use Rattle.rmt_clients.specs.Clients.{Client, seeing, SeesHere, StepsTo}
 use Rattle.rmt_known.specs.KnownTables.{Known, copy_in, client_of, new_known, seen_of, with_copy, GoesOnFromKnown}
-use Rattle.rmt_workers.specs.SharedTables.{NamedTable, logs_of}
-use Rattle.rmt_workers.specs.Passes.{IsCopyOfNamed, IsShorter}
+use Rattle.rmt_shared.specs.SharedTables.{NamedTable, logs_of, IsCopyOfNamed}
 
 -- a schema without columns, which no table has
 abbrev pub no_schema : Shape
@@ -77,6 +76,11 @@ pub record Meets (p : PassView) (k : ℕ) (tables : List Held) : Type 0 where
   pub table : Held
   pub is : table ≡ slice_index_or tables k table
   pub goes_on : GoesOnFromKnown (known_at p k) table
+
+-- the log of some table is shorter than the copy of it
+pub record IsShorter (copies logs : List (List Entry)) : Type 0 where
+  pub table : ℕ
+  pub shorter : length (slice_index_or logs table []) < length (slice_index_or copies table [])
 
 -- why the client doesn't go on: some log is shorter than its copy, or the table at a place doesn't go on from what is known of it
 abbrev pub IsUnmet : PassView → ℕ → List Held → Type 0

@@ -2,9 +2,13 @@
 #![tactic(auto)]
 
 mod committed;
+mod learned;
+mod lost_part;
+mod mutated;
 mod numbered;
 mod pass;
 
 pub use committed::Committed;
+pub use mutated::Mutated;
 pub use numbered::Numbered;
 pub use pass::Pass;

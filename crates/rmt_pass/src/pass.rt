@@ -1,18 +1,22 @@
 ghost use Rattle.std.specs.Prelude.{◌≡◌, ◌<◌, false, true, length, IfOk, OnOk, OnErr, IsTrue, MatchBool};
 ghost use Rattle.rmt_statement_model.specs.Books.{ArePrefixesOf, all_clients};
-ghost use Rattle.rmt_workers.specs.SharedTables.{logs_of};
-ghost use Rattle.rmt_workers.specs.Passes.{IsShorter, name_at};
+ghost use Rattle.rmt_shared.specs.SharedTables.{logs_of, name_at};
 ghost use Rattle.rmt_model.specs.Lawful.{IsPrefix};
-ghost use Rattle.rmt_workers.specs.ClientCalls.{HasTable};
-ghost use Rattle.rmt_pass.specs.Passes.{AreKnownOf, IsKnownOf, IsUnmet, KeepsPass, Meets, SeesTable, TakesOver, TakesSome, known_at, known_in, logs_in, up_in};
+ghost use Rattle.rmt_shared.specs.ClientCalls.{HasTable};
+ghost use Rattle.rmt_pass.specs.Passes.{AreKnownOf, IsKnownOf, IsShorter, IsUnmet, KeepsPass, Meets, SeesTable, TakesOver, TakesSome, known_at, known_in, logs_in, up_in};
 
 mod alter;
+mod drain;
 mod drop;
 mod insert;
+mod mutate;
+mod optimize;
+mod read;
+mod switch;
 
 use rmt_known::KnownTable;
+use rmt_shared::{ClientEntries, Naming, SharedTables};
 use rmt_values::ReplicaId;
-use rmt_workers::{ClientEntries, Naming, SharedTables};
 use std::alloc::{AllocError, Global};
 use std::marker::Model;
 use std::sync::ledger::Share;

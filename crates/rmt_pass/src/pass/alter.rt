@@ -3,14 +3,14 @@ ghost use Rattle.std.specs.Prelude.{◌≡◌, ◌<◌, length, IfOk, OnErr, OnO
 ghost use Rattle.rmt_values.specs.Commands.{CommandFits};
 ghost use Rattle.rmt_entries.specs.EntryBytes.{CommandInRange};
 ghost use Rattle.rmt_statement_model.specs.ActOutcomes.{MutatesOr};
-ghost use Rattle.rmt_workers.specs.Passes.{name_at};
+ghost use Rattle.rmt_shared.specs.SharedTables.{name_at};
 ghost use Rattle.rmt_pass.specs.Passes.{IsCurrent, KeepsOthers, KeepsPass, TakesStep};
 
 use crate::pass::{Pass, take_over};
 use rmt_reply::Refusal;
+use rmt_shared::{Naming, SharedTables};
 use rmt_table::ChangeError;
 use rmt_values::CheckedMutation;
-use rmt_workers::{Naming, SharedTables};
 use std::alloc::{AllocError, Global};
 
 impl<N: Naming> Pass<N> {

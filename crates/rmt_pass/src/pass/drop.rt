@@ -1,15 +1,15 @@
 //! A client's drops of partitions.
 ghost use Rattle.std.specs.Prelude.{◌≡◌, ◌<◌, length, IfOk, OnErr, OnOk};
 ghost use Rattle.rmt_statement_model.specs.ActOutcomes.{DropsOr};
-ghost use Rattle.rmt_workers.specs.SharedReplicas.{IsNumber};
+ghost use Rattle.rmt_shared.specs.SharedReplicas.{IsNumber};
 ghost use Rattle.rmt_pass.specs.Passes.{IsCurrent, KeepsOthers, KeepsPass, TakesStep};
 
 use crate::pass::{Pass, take_over};
 use rmt_names::PartitionId;
 use rmt_reply::Refusal;
+use rmt_shared::{Naming, SharedTables};
 use rmt_table::ChangeError;
 use rmt_values::ReplicaId;
-use rmt_workers::{Naming, SharedTables};
 use std::alloc::{AllocError, Global};
 
 impl<N: Naming> Pass<N> {

@@ -5,10 +5,10 @@ ghost use Rattle.rmt_events.specs.Views.{Block as BlockOf};
 ghost use Rattle.rmt_events.specs.Clusters.{without_kinds};
 ghost use Rattle.rmt_statement_model.specs.Inserts.{asked_at};
 ghost use Rattle.rmt_clients.specs.Clients.{Client};
-ghost use Rattle.rmt_workers.specs.SharedReplicas.{IsNumber};
-ghost use Rattle.rmt_workers.specs.ClientCalls.{HasTable};
+ghost use Rattle.rmt_shared.specs.SharedReplicas.{IsNumber};
+ghost use Rattle.rmt_shared.specs.ClientCalls.{HasTable};
 ghost use Rattle.rmt_pass.specs.Passes.{IsCurrent, KeepsOthers, KeepsPass, client_at, up_in};
-ghost use Rattle.rmt_pass.specs.InsertSteps.{AreOpen, CommitsTo, HoldsNumber, IsIdOf, IsLate, IsUncommitted, IsUnnumbered, Numbers};
+ghost use Rattle.rmt_pass.specs.InsertSteps.{AreOpen, CommitsTo, HoldsLock, HoldsNumber, IsIdOf, IsLate, IsUncommitted, IsUnnumbered, Numbers, WasGone};
 ghost use Rattle.rmt_table.specs.declared.allocate_error.AllocateError.TheVariants.{NoSession};
 
 use crate::committed::Committed;
@@ -16,9 +16,9 @@ use crate::numbered::Numbered;
 use crate::pass::{Pass, take_over};
 use rmt_block::{Block, BlockId};
 use rmt_reply::Refusal;
+use rmt_shared::{Naming, SharedTables};
 use rmt_table::{AllocateError, CommitError, Lock};
 use rmt_values::ReplicaId;
-use rmt_workers::{Naming, SharedTables};
 use std::alloc::{AllocError, Global};
 
 /// What becomes of a block that got no number, at a replica that has a session. At an error no memory was left.
@@ -75,6 +75,7 @@ impl<N: Naming> Pass<N> {
         requires up { up_in self.old.up replica ≡ true }
         requires open { HasTable tables.old table (AreOpen (up_in self.old.up)) }
         ensures done { IfOk result (λ n. (b : BlockOf) → IsIdOf b id.now → Numbers N.offered self.old table (asked_at replica need) b n self.new) }
+        ensures lock { IfOk result (λ n. HoldsLock n tables.new table) }
         ensures current { OnOk result (IsCurrent self.new table tables.new) }
         ensures others { KeepsOthers tables.old table tables.new }
         ensures err { OnErr result (KeepsPass self.old table self.new) }
@@ -114,6 +115,7 @@ impl<N: Naming> Pass<N> {
         ensures done { IfOk result (λ c. (before : Client)
             → HoldsNumber (up_in self.old.up) (asked_at lock.now.replica need) (without_kinds block.now) lock.now before (client_at self.old table)
             → CommitsTo (N.offered table) (up_in self.old.up) (asked_at lock.now.replica need) (without_kinds block.now) before (client_at self.old table) c (client_at self.new table)) }
+        ensures gone { IfOk result (λ c. WasGone c tables.old table lock.now) }
         ensures keeps { KeepsPass self.old table self.new }
         ensures current { OnOk result (IsCurrent self.new table tables.new) }
         ensures others { KeepsOthers tables.old table tables.new }

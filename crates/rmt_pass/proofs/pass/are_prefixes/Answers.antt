@@ -3,8 +3,8 @@ use Rattle.rmt_entries.specs.declared.entry.Entry.{Entry}
 use Rattle.rmt_history.specs.Copies.{History}
 use Rattle.rmt_table_model.specs.Held.{Held}
 use Rattle.rmt_known.specs.KnownTables.{Known}
-use Rattle.rmt_workers.specs.SharedTables.{logs_of}
-use Rattle.rmt_workers.proofs.NamedLemmas.{map-length, map-get, prefixes-more}
+use Rattle.rmt_shared.specs.SharedTables.{logs_of}
+use Rattle.rmt_shared.proofs.NamedLemmas.{map-length, map-get, prefixes-more}
 use Rattle.rmt_pass.specs.Passes.{logs_in}
 use Rattle.rmt_pass.proofs.KnownLemmas.{copy-named, not-both, shorter-there, tables-for}
 use Rattle.rmt_pass.proofs.pass.are_prefixes.Goals as goal

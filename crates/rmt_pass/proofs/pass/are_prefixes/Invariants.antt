@@ -1,6 +1,6 @@
 use Rattle.std.proofs.Common.{◌≡◌, length, take}
 use Rattle.rmt_statement_model.specs.Books.{ArePrefixesOf}
-use Rattle.rmt_workers.specs.SharedTables.{logs_of}
+use Rattle.rmt_shared.specs.SharedTables.{logs_of}
 use Rattle.rmt_pass.specs.Passes.{logs_in}
 use Rattle.rmt_pass.proofs.pass.are_prefixes.Given as goal
 

@@ -4,13 +4,13 @@ use Rattle.rmt_table.specs.Causes.{allocate_cause}
 use Rattle.rmt_table.specs.TableTrees.{table_at}
 use Rattle.rmt_statement_model.specs.Inserts.{asked_at}
 use Rattle.rmt_known.specs.KnownTables.{client_of}
-use Rattle.rmt_workers.specs.ClientCalls.{HasTable}
+use Rattle.rmt_shared.specs.ClientCalls.{HasTable}
 use Rattle.rmt_pass.specs.Passes.{PassView, IsCurrent, KeepsPass, client_at, known_in, up_in}
 use Rattle.rmt_pass.specs.InsertSteps.{AreOpen, HoldsNumber, Numbers}
 use Rattle.rmt_pass.proofs.KnownLemmas.{if-some}
 use Rattle.rmt_pass.proofs.OwnLemmas.{knowing, of-current, others-stay}
-use Rattle.rmt_pass.proofs.InsertLemmas.{of-each, unnumbered-so}
-use Rattle.rmt_pass.proofs.InsertSeen.{number-goes-on, number-count, number-now, number-keeps, number-taken}
+use Rattle.rmt_pass.proofs.InsertLemmas.{none-locked, of-each, unnumbered-so}
+use Rattle.rmt_pass.proofs.InsertSeen.{number-goes-on, number-count, number-now, number-keeps, number-locked, number-taken}
 use Rattle.rmt_pass.proofs.pass.Pass.allocate.Goals as goal
 
 pub take_over-requires-clause-prefix : goal.take_over-requires-clause-prefix
@@ -68,3 +68,12 @@ returns-in-Err-clause-done g c =
 
 pub returns-in-Err-clause-others : goal.returns-in-Err-clause-others
 returns-in-Err-clause-others g c = others-stay c.args.tables.now c.allocate.new.self c.args.table c.requires.current.table c.in-Err.ensures.err
+
+pub returns-in_ok-take_over-in-Ok-clause-lock : goal.returns-in_ok-take_over-in-Ok-clause-lock
+returns-in_ok-take_over-in-Ok-clause-lock g c =
+    let k = c.args.table in
+    let now = c.requires.current in
+    number-locked c.args.self.now k c.args.tables.now c.allocate.new.self now.there now c.args.replica c.args.need c.args.id.now c.in-Ok.lock c.in-Ok.ensures.ok
+
+pub returns-in-Err-clause-lock : goal.returns-in-Err-clause-lock
+returns-in-Err-clause-lock g c = none-locked c.allocate.new.self c.args.table c.in-Err.error c.unnumbered.result c.unnumbered.ensures

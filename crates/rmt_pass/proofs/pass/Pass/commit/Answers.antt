@@ -8,14 +8,14 @@ use Rattle.rmt_table.specs.Refusals.{NoCommit}
 use Rattle.rmt_statement_model.specs.Inserts.{asked_at}
 use Rattle.rmt_clients.specs.Clients.{Client}
 use Rattle.rmt_known.specs.KnownTables.{Known, new_known}
-use Rattle.rmt_workers.specs.SharedTables.{HasBlocks}
-use Rattle.rmt_workers.specs.ClientCalls.{AcceptsBlock}
+use Rattle.rmt_shared.specs.SharedTables.{HasBlocks}
+use Rattle.rmt_shared.specs.ClientCalls.{AcceptsBlock}
 use Rattle.rmt_pass.specs.Passes.{PassView, IsCurrent, KeepsPass, client_at, known_in, no_schema, up_in}
 use Rattle.rmt_pass.specs.InsertSteps.{AreOpen, CommitsTo, HoldsNumber}
 use Rattle.rmt_pass.proofs.KnownLemmas.{if-some, on-ok, known-at, known-learned, known-there-still}
 use Rattle.rmt_pass.proofs.TakingLemmas.{get-same, one-there}
 use Rattle.rmt_pass.proofs.OwnLemmas.{knowing, of-current, others}
-use Rattle.rmt_pass.proofs.InsertSeen.{block-goes-on, block-keeps, block-now, block-counted, block-done, aborted-now, late, uncommitted-so}
+use Rattle.rmt_pass.proofs.InsertSeen.{block-goes-on, block-keeps, block-now, block-counted, block-done, aborted-now, late, uncommitted-so, was-gone}
 use Rattle.rmt_pass.proofs.pass.Pass.commit.Goals as goal
 
 pub take_over-requires-clause-prefix : goal.take_over-requires-clause-prefix
@@ -122,3 +122,6 @@ returns-in-Err-clause-current g c =
     let k = c.args.table in
     let now : IsCurrent P k c.args.tables.now = subst (λ (p : PassView). IsCurrent p k c.args.tables.now) (sym c.self.view_is) c.requires.current in
     on-ok c.uncommitted.result _ (aborted-now P k c.args.tables.now c.commit_insert.new.self c.args.lock.now c.in-Err.error now.there now c.in-Err.ensures.err)
+
+pub returns-in-Err-clause-gone : goal.returns-in-Err-clause-gone
+returns-in-Err-clause-gone g c = was-gone c.args.tables.now c.args.table c.args.lock.now c.args.need c.args.block.now c.in-Err.error c.uncommitted.result c.in-Err.ensures.refused c.uncommitted.ensures

@@ -6,8 +6,8 @@ use Rattle.rmt_table_model.specs.Held.{Held}
 use Rattle.rmt_table.specs.TableTrees.{table_at}
 use Rattle.rmt_statement_model.specs.ActOutcomes.{DropsOr}
 use Rattle.rmt_known.specs.KnownTables.{Known, new_known}
-use Rattle.rmt_workers.specs.SharedTables.{ChangesTable}
-use Rattle.rmt_workers.specs.ClientCalls.{DropsIn, entries_of}
+use Rattle.rmt_shared.specs.SharedTables.{ChangesTable}
+use Rattle.rmt_shared.specs.ClientCalls.{DropsIn, entries_of}
 use Rattle.rmt_pass.specs.Passes.{PassView, IsCurrent, TakesStep, known_in, no_schema}
 use Rattle.rmt_pass.proofs.KnownLemmas.{known-at, known-learned, known-there-still}
 use Rattle.rmt_pass.proofs.TakingLemmas.{get-same, one-there}

@@ -1,6 +1,6 @@
 use Rattle.std.proofs.Common.{◌<◌, length, sym, subst}
 use Rattle.rmt_known.specs.KnownTables.{Known}
-use Rattle.rmt_workers.specs.Passes.{name_at}
+use Rattle.rmt_shared.specs.SharedTables.{name_at}
 use Rattle.rmt_pass.specs.Passes.{PassView, IsKnownOf}
 use Rattle.rmt_pass.proofs.KnownLemmas.{known-at}
 use Rattle.rmt_pass.proofs.pass.Pass.known.Goals as goal

@@ -3,7 +3,7 @@ use Rattle.rmt_table_model.specs.Held.{Held}
 use Rattle.rmt_statement_model.specs.Books.{ArePrefixesOf, GainWork}
 use Rattle.rmt_statement_model.proofs.WorkerEntries.{books-tell}
 use Rattle.rmt_known.specs.KnownTables.{Known, copy_in, new_known, GoesOnFromKnown}
-use Rattle.rmt_workers.specs.SharedTables.{logs_of}
+use Rattle.rmt_shared.specs.SharedTables.{logs_of}
 use Rattle.rmt_pass.specs.Passes.{PassView, no_schema, logs_in}
 use Rattle.rmt_pass.proofs.KnownLemmas.{copy-named, prefixes-length}
 use Rattle.rmt_pass.proofs.TakingLemmas.{get-same}

@@ -4,8 +4,7 @@ use Rattle.rmt_model.specs.EntryLimits.{worker_count}
 use Rattle.rmt_table_model.specs.Held.{Held}
 use Rattle.rmt_statement_model.specs.Books.{GainsWork}
 use Rattle.rmt_known.specs.KnownTables.{Known, GoesOnFromKnown, seen_of, with_copy}
-use Rattle.rmt_workers.specs.Passes.{name_at}
-use Rattle.rmt_workers.specs.SharedTables.{NamedTable}
+use Rattle.rmt_shared.specs.SharedTables.{name_at, NamedTable}
 use Rattle.rmt_pass.specs.Passes.{PassView, KeepsPass, Meets, Sees, known_at}
 use Rattle.rmt_pass.proofs.KnownLemmas.{gained-length, known-at, on-err}
 use Rattle.rmt_pass.proofs.TakingLemmas.{one-there}
