@@ -1,7 +1,6 @@
-pub use Rattle.rmt_statement_model.specs.Books
-pub use Rattle.rmt_supply.specs.TakenParts
-pub mod SharedTables
-pub mod ClientCalls
-pub mod Passes
-pub mod SharedReplicas
-pub mod ReplicaSupplies
+pub use Rattle.rmt_pass.specs.Passes
+pub use Rattle.rmt_pass.specs.InsertSteps
+pub mod Crews
+pub mod CrewInserts
+pub mod CrewOptimizes
+pub mod CrewWaits

@@ -1,17 +1,12 @@
-//! What threads share: the locks round tables and replicas, and what a client knows of what lies under them.
+//! The crew: what clients and workers do at tables that they share, each step under the locks that it needs.
 #![tactic(auto)]
 
-mod naming;
-mod pass;
-mod shared_replica;
-mod shared_tables;
-mod supply;
+mod crew;
+mod needed;
+mod wanted;
+mod worker;
 
-pub use naming::{ClientEntries, Naming};
-pub use pass::Pass;
-pub use shared_replica::SharedReplica;
-pub use shared_tables::SharedTables;
-pub use supply::{build_supply, send_supply};
+pub use crew::Crew;
 
 #[cfg(test)]
 mod tests;

@@ -1,449 +1,199 @@
-ghost use Rattle.std.specs.Prelude.{◌≡◌, ◌≤◌, ◌<◌, ◌∷◌, [], ⊤, true, length, IfOk, OnOk};
+ghost use Rattle.std.specs.Prelude.{◌≡◌, ◌≢◌, ◌<◌, ◌∷◌, [], ⊤, true, length, IfOk};
 ghost use Rattle.std.specs.List.{All};
 ghost use Rattle.std.specs.Arc.{arc_value};
 ghost use Rattle.rmt_values.specs.Rows.{fits};
-ghost use Rattle.rmt_columns.specs.RowsByColumn.{kinds_in};
-ghost use Rattle.rmt_compact.specs.NewParts.{GetsBlock};
-ghost use Rattle.rmt_block.specs.Blocks.{id_of};
-ghost use Rattle.rmt_model.specs.EntryLimits.{client_count};
 ghost use Rattle.rmt_events.specs.Views.{Block as AnyBlock};
-ghost use Rattle.rmt_workers.specs.SharedTables.{HasBlocks, named};
-ghost use Rattle.rmt_workers.specs.SharedReplicas.{IsNumber};
-ghost use Rattle.rmt_workers.specs.Passes.{IsCopyOfNamed, name_at};
+ghost use Rattle.rmt_shared.specs.SharedTables.{HasBlocks, name_at, named};
+ghost use Rattle.rmt_shared.specs.SharedReplicas.{IsSharedReplica};
 
 use super::*;
-use rmt_block::{Block, id};
+use rmt_block::Block;
 use rmt_columns::Rows;
-use rmt_compact::from_block;
-use rmt_entries::Entry;
-use rmt_history::LogCopy;
-use rmt_jobs::Job;
-use rmt_names::{PartName, block_name};
-use rmt_part::Part;
-use rmt_partset::{PartSet, Snapshot};
-use rmt_replica::{Replica, Supply};
-use rmt_row::{PutError, Row, Seen};
-use rmt_table::{Lock, TableTree};
-use rmt_values::{Column, Kind, Name, Row as ValueRow, Schema, Value};
+use rmt_known::KnownTable;
+use rmt_outside::Open;
+use rmt_pass::Pass;
+use rmt_replica::Replica;
+use rmt_reply::Piece;
+use rmt_shared::{Naming, SharedReplica, SharedTables};
+use rmt_table::TableTree;
+use rmt_values::{Column, Kind, Name, ReplicaId, Row as ValueRow, Schema, Value};
 use std::alloc::{AllocError, Global};
 use std::marker::Brand;
-use std::sync::ledger::{Blank, Share};
+use std::sync::ledger::Blank;
 use std::sync::{Arc, Mutex, Wait};
 use std::test::Fail;
-use std::thread::join;
 
-/// The only column, `c` of UInt64.
-fn columns_of(alloc: Global) -> Result<Vec<Column>, AllocError> {
+/// The only column, `c` of UInt64, which is the key.
+fn column_of(alloc: Global) -> Result<(Vec<Column>, Vec<Name>), AllocError> {
     let name = Name::from_slice(alloc, b"c")?;
+    let key = Name::from_slice(alloc, b"c")?;
     let kind = Kind::UInt64;
     let columns = vec![in alloc; Column { name, kind }]?;
-    Ok(columns)
+    let names = vec![in alloc; key]?;
+    Ok((columns, names))
 }
 
-/// The key, which is that column.
-fn key_of(alloc: Global) -> Result<Vec<Name>, AllocError> {
-    let name = Name::from_slice(alloc, b"c")?;
-    let key = vec![in alloc; name]?;
-    Ok(key)
-}
-
-fn schema_of(alloc: Global) -> Result<Schema, Fail> {
-    let columns = columns_of(alloc)?;
-    let key = key_of(alloc)?;
-    match Schema::new(alloc, columns, key, None, 2, 100) {
-        Ok(schema) => Ok(schema),
-        Err(_) => Err("no schema".into()),
-    }
-}
-
-fn shared_schema(alloc: Global) -> Result<Arc<Schema, Global>, Fail> {
-    let schema = schema_of(alloc)?;
+fn schema_of(alloc: Global) -> Result<Arc<Schema, Global>, Fail> {
+    let (columns, key) = column_of(alloc)?;
+    let Ok(schema) = Schema::new(alloc, columns, key, None, 2, 100) else {
+        return Err("no schema".into());
+    };
     let shared = Arc::new(alloc, schema)?;
     Ok(shared)
 }
 
-/// The row of a number.
-fn values_of(alloc: Global, number: u64) -> Result<Vec<ValueRow>, AllocError>
-    ensures { IfOk result (λ rows. length rows.items ≡ 1) }
-{
-    let values = vec![in alloc; Value::UInt(number)]?;
-    let rows = vec![in alloc; ValueRow::new(values)]?;
-    Ok(rows)
-}
-
-/// That row, held by column.
-fn rows_of(alloc: Global, schema: &Schema, number: u64) -> Result<Rows, Fail>
-    ensures one { IfOk result (λ rows. length rows.rows ≡ 1) }
-    ensures fit { IfOk result (λ rows. All (λ row. fits schema.now.columns row ≡ true) rows.rows) }
-    ensures kinds { IfOk result (λ rows. rows.kinds ≡ kinds_in schema.now.columns) }
-{
-    let values = values_of(alloc, number)?;
-    match Rows::of_rows(alloc, &values, schema)? {
-        Some(rows) => Ok(rows),
-        None => Err("the row is not of the table".into()),
-    }
-}
-
-/// A block of that row.
+/// A block of one row, of a number.
 fn block_of(alloc: Global, schema: &Schema, number: u64) -> Result<Arc<Block, Global>, Fail>
     ensures { IfOk result (λ block. All (λ row. fits schema.now.columns row ≡ true) (arc_value block).rows) }
 {
-    let rows = rows_of(alloc, schema, number)?;
+    let values = vec![in alloc; Value::UInt(number)]?;
+    let rows = vec![in alloc; ValueRow::new(values)]?;
+    let Some(rows) = Rows::of_rows(alloc, &rows, schema)? else {
+        return Err("the row is not of the table".into());
+    };
     let block = Block::new(alloc, rows, schema)?;
     let shared = Arc::new(alloc, block)?;
     Ok(shared)
 }
 
-/// The token of the block's Get, in a row of one cell.
-fn token_of(alloc: Global, block: &Block) -> Result<Seen<Entry>, Fail>
-    ensures { IfOk result (λ token. GetsBlock token.value block.now) }
+/// The locks of a replica of the first table.
+fn replica_of<N: Naming>(
+    alloc: Global,
+    number: ReplicaId,
+    schema: Arc<Schema, Global>,
+) -> Mutex<SharedReplica<N>>
+    requires { IsSharedReplica N.tables N.replicas N.offered (record { table = 0; replica = record { number = number; up = true; fetches = true; schema = arc_value schema; log = []; cells = []; done = []; parts = []; staged = []; noted = [] } }) }
 {
-    let get = Entry::Get {
-        partition: block.partition(),
-        number: 0,
-        digest: block.digest(),
-        source: 1,
-        need: 0,
-    };
-    let get = Arc::new(alloc, get)?;
-    let row = Row::new(alloc, 1)?;
-    match row.set(0, get) {
-        Ok(token) => Ok(token),
-        Err(_) => Err("not set".into()),
+    let replica = Replica::new(alloc, number, schema, true);
+    Mutex::new(SharedReplica::<N>::new(0, replica))
+}
+
+/// The locks of the only table and of its two replicas, and its client.
+fn crew_of<N: Naming>(
+    alloc: Global,
+    table: TableTree,
+    entries: Blank,
+) -> Result<(Crew<N>, Pass<N>), Fail>
+    requires named { named table ∷ [] ≡ N.tables }
+    requires sessions { length table.sessions ≡ N.replicas }
+    requires two { N.replicas ≡ 2 }
+    requires empty { table.log ≡ [] }
+    requires blocks { HasBlocks (N.offered 0) table }
+    requires name { entries.name ≡ N.entries_name }
+    requires parts { entries.parts ≡ N.parts }
+    requires whole { 0 < N.parts }
+{
+    let known = KnownTable::new(alloc, table.schema().clone()?, 2)?;
+    let first = replica_of::<N>(alloc, 1, table.schema().clone()?);
+    let second = replica_of::<N>(alloc, 2, table.schema().clone()?);
+    let locks = vec![in alloc; first, second]?;
+    let replicas = vec![in alloc; locks]?;
+    let up = vec![in alloc; true, true]?;
+    let knowns = vec![in alloc; known]?;
+    let tables = vec![in alloc; table]?;
+    let (tables, all) = SharedTables::<N>::open(tables, entries);
+    let pass = Pass::<N>::new(knowns, up, all);
+    Ok((Crew::new(alloc, tables, replicas), pass))
+}
+
+/// Inserts the block of a number at the first replica, which is to be at so many.
+fn insert<N: Naming>(
+    rt: &impl Wait,
+    alloc: Global,
+    crew: &Crew<N>,
+    pass: &mut Pass<N>,
+    schema: &Schema,
+    number: u64,
+    need: u32,
+) -> Result<Piece, Fail>
+    requires two { N.replicas ≡ 2 }
+    requires schema { schema.now ≡ (name_at N.tables 0).schema }
+    requires offered { (b : AnyBlock) → N.offered 0 b }
+    requires need { need ≢ 1 }
+{
+    let block = block_of(alloc, schema, number)?;
+    if pass.len() == 0 || !pass.is_up(1) {
+        return Err("no table, or no replica".into());
     }
-}
-
-/// The part of the block.
-fn part_of(alloc: Global) -> Result<Arc<Part, Global>, Fail> {
-    let schema = shared_schema(alloc)?;
-    let block = block_of(alloc, &schema, 7)?;
-    let token = token_of(alloc, &block)?;
-    let part = from_block(alloc, block, token, &schema)?;
-    let shared = Arc::new(alloc, part)?;
-    Ok(shared)
-}
-
-/// A snapshot of this part alone.
-fn snapshot_of(alloc: Global, part: Arc<Part, Global>) -> Result<Snapshot, Fail> {
-    let mut parts = PartSet::new(alloc);
-    parts.reserve()?;
-    parts.replace(part);
-    let snapshot = parts.snapshot(alloc)?;
-    Ok(snapshot)
-}
-
-/// The number of the drop that the row's only cell holds, after this one was put there.
-fn put(row: &Row<Entry>, alloc: Global, number: u32) -> Option<u32> {
-    if row.len() == 0 {
-        return None;
-    }
-    let drop = Entry::DropRange {
-        partition: None,
-        number,
+    let Ok(piece) = crew.insert(rt, pass, 0, 1, block, need, &Open)? else {
+        return Err("refused".into());
     };
-    let entry = Arc::new(alloc, drop).ok()?;
-    let seen = match row.set(0, entry) {
-        Ok(seen) => seen,
-        Err(PutError::Taken(seen)) => seen,
-        Err(PutError::Memory(_)) => return None,
-    };
-    match seen.value() {
-        Entry::DropRange {
-            partition: _,
-            number,
-        } => Some(*number),
-        _ => None,
-    }
+    Ok(piece)
 }
 
-/// A table of one replica, without entries.
+/// How many active parts the second replica has once it is up to date.
+fn count_parts<N: Naming>(rt: &impl Wait, crew: &Crew<N>, pass: &mut Pass<N>) -> Result<usize, Fail>
+    requires two { N.replicas ≡ 2 }
+{
+    if pass.len() == 0 {
+        return Err("no table".into());
+    }
+    if crew.sync(rt, pass, 0, 2, &Open)?.is_some() {
+        return Err("a part is lost".into());
+    }
+    if pass.len() == 0 {
+        return Err("no table".into());
+    }
+    let parts = crew.snapshot(rt, pass, 0, 2, &Open)?;
+    Ok(parts.len())
+}
+
+/// Has a worker take so many turns at the first replica.
+fn work<N: Naming>(rt: &impl Wait, crew: &Crew<N>, turns: usize) -> Result<(), Fail> {
+    for _ in 0..turns {
+        crew.work(rt, 0, 1, &Open)?;
+    }
+    Ok(())
+}
+
+/// Two blocks are inserted, the first one twice and the second one at two replicas; then they are merged. Gives how many
+/// parts the second replica had before, and has then.
+fn day<N: Naming>(
+    rt: &impl Wait,
+    alloc: Global,
+    table: TableTree,
+    entries: Blank,
+) -> Result<(usize, usize), Fail>
+    requires named { named table ∷ [] ≡ N.tables }
+    requires sessions { length table.sessions ≡ N.replicas }
+    requires two { N.replicas ≡ 2 }
+    requires empty { table.log ≡ [] }
+    requires blocks { HasBlocks (N.offered 0) table }
+    requires offered { (b : AnyBlock) → N.offered 0 b }
+    requires name { entries.name ≡ N.entries_name }
+    requires parts { entries.parts ≡ N.parts }
+    requires whole { 0 < N.parts }
+{
+    let schema = table.schema().clone()?;
+    let (crew, mut pass) = crew_of::<N>(alloc, table, entries)?;
+    insert(rt, alloc, &crew, &mut pass, &schema, 7, 0)?;
+    let Piece::Duplicate(_) = insert(rt, alloc, &crew, &mut pass, &schema, 7, 0)? else {
+        return Err("written twice".into());
+    };
+    let Piece::Part(_) = insert(rt, alloc, &crew, &mut pass, &schema, 8, 2)? else {
+        return Err("not written".into());
+    };
+    let before = count_parts(rt, &crew, &mut pass)?;
+    work(rt, &crew, 6)?;
+    let after = count_parts(rt, &crew, &mut pass)?;
+    Ok((before, after))
+}
+
+/// A table of two replicas, without entries.
 fn table_of(alloc: Global) -> Result<TableTree, Fail>
-    ensures sessions { IfOk result (λ table. length table.sessions ≡ 1) }
+    ensures sessions { IfOk result (λ table. length table.sessions ≡ 2) }
+    ensures empty { IfOk result (λ table. table.log ≡ []) }
     ensures blocks { IfOk result (λ table. HasBlocks (λ b. ⊤) table) }
 {
-    let schema = shared_schema(alloc)?;
-    let table = TableTree::new(alloc, schema, 1)?;
+    let schema = schema_of(alloc)?;
+    let table = TableTree::new(alloc, schema, 2)?;
     Ok(table)
 }
 
-/// Inserts the block of a number at the first replica of the first table.
-fn insert<N: Naming>(
-    alloc: Global,
-    tables: &mut SharedTables<N>,
-    all: &mut Share<ClientEntries<N>>,
-    number: u64,
-) -> Result<(), Fail>
-    requires here { 1 ≤ N.replicas }
-    requires offered { (b : AnyBlock) → N.offered 0 b }
-    requires part { 0 < all.old.parts }
-    ensures parts { all.new.parts ≡ all.old.parts }
-{
-    let schema = schema_of(alloc)?;
-    let shared = block_of(alloc, &schema, number)?;
-    let block: &Block = &shared;
-    if tables.len() == 0 {
-        return Err("no table".into());
-    }
-    let Ok(lock) = tables.allocate(alloc, 0, 1, &id(block), 0) else {
-        return Err("no number".into());
-    };
-    accept(alloc, tables, all, &lock, block)
-}
-
-/// Accepts the block of a lock of the first table.
-fn accept<N: Naming>(
-    alloc: Global,
-    tables: &mut SharedTables<N>,
-    all: &mut Share<ClientEntries<N>>,
-    lock: &Lock,
-    block: &Block,
-) -> Result<(), Fail>
-    requires here { IsNumber lock.now.replica N.replicas }
-    requires id { lock.now.id ≡ id_of block.now }
-    requires offered { (b : AnyBlock) → N.offered 0 b }
-    requires part { 0 < all.old.parts }
-    ensures parts { all.new.parts ≡ all.old.parts }
-{
-    if tables.len() == 0 || !tables.has_lock(alloc, 0, lock)? {
-        return Err("no table or no lock".into());
-    }
-    match tables.commit_insert(alloc, 0, lock, 0, block, all) {
-        Ok(()) => Ok(()),
-        Err(_) => Err("not accepted".into()),
-    }
-}
-
-/// Starts the session of the first table's first replica.
-fn start<N: Naming>(alloc: Global, tables: &mut SharedTables<N>) -> Result<(), Fail>
-    requires here { 1 ≤ N.replicas }
-{
-    if tables.len() == 0 {
-        return Err("no table".into());
-    }
-    tables.open_session(alloc, 0, 1)?;
-    Ok(())
-}
-
-/// Fills the first table with two blocks.
-fn fill<N: Naming>(
-    alloc: Global,
-    tables: &mut SharedTables<N>,
-    all: &mut Share<ClientEntries<N>>,
-) -> Result<(), Fail>
-    requires here { 1 ≤ N.replicas }
-    requires offered { (b : AnyBlock) → N.offered 0 b }
-    requires part { 0 < all.old.parts }
-    ensures parts { all.new.parts ≡ all.old.parts }
-{
-    start(alloc, tables)?;
-    insert(alloc, tables, all, 7)?;
-    insert(alloc, tables, all, 8)?;
-    Ok(())
-}
-
-/// Drops the only partition of the first table.
-fn empty<N: Naming>(
-    alloc: Global,
-    tables: &mut SharedTables<N>,
-    all: &mut Share<ClientEntries<N>>,
-) -> Result<(), Fail>
-    requires part { 0 < all.old.parts }
-{
-    if tables.len() == 0 {
-        return Err("no table".into());
-    }
-    match tables.drop_partition(alloc, 0, None, all) {
-        Ok(Some(2)) => Ok(()),
-        _ => Err("not dropped".into()),
-    }
-}
-
-/// What comes next at the replica under a lock, and what is done of it under both locks.
-fn decide<N: Naming>(
-    alloc: Global,
-    shared: &mut SharedReplica<N>,
-    tables: &mut SharedTables<N>,
-) -> Result<Job, Fail> {
-    if shared.table() >= tables.len() {
-        return Err("no table".into());
-    }
-    let job = shared.decide(alloc, tables)?;
-    Ok(job)
-}
-
-/// Does the entry at a place of the replica's copy, which needs no part.
-fn install<N: Naming>(shared: &mut SharedReplica<N>, place: u32) -> Result<(), Fail> {
-    let place = place as usize;
-    if shared.replica().copy().len() <= place {
-        return Err("no entry".into());
-    }
-    match shared.install(place, Supply::Nothing) {
-        Ok(_) => Ok(()),
-        Err(_) => Err("not done".into()),
-    }
-}
-
-/// Has a worker do one thing after the other at a table's only replica, and counts them until nothing comes next.
-fn work<N: Naming>(alloc: Global, table: TableTree, entries: Blank) -> Result<usize, Fail>
-    requires named { named table ∷ [] ≡ N.tables }
-    requires sessions { length table.sessions ≡ N.replicas }
-    requires some { 1 ≤ N.replicas }
-    requires blocks { HasBlocks (N.offered 0) table }
-    requires offered { (b : AnyBlock) → N.offered 0 b }
-    requires name { entries.name ≡ N.entries_name }
-    requires parts { entries.parts ≡ N.parts }
-    requires whole { 0 < N.parts }
-{
-    let schema = table.schema().clone()?;
-    let replica = Replica::new(alloc, 1, schema, true);
-    let mut shared = SharedReplica::<N>::new(0, replica);
-    let tables = vec![in alloc; table]?;
-    let (mut tables, mut all) = SharedTables::<N>::open(tables, entries);
-    fill(alloc, &mut tables, &mut all)?;
-    empty(alloc, &mut tables, &mut all)?;
-    for done in 0..10usize {
-        match decide(alloc, &mut shared, &mut tables)? {
-            Job::Idle => return Ok(done),
-            Job::Apply(place) => install(&mut shared, place)?,
-            _ => {}
-        }
-    }
-    Err("there is always more to do".into())
-}
-
-/// Brings a copy of nothing of the only table's log to the log's length, where all parts of the book count its entries.
-fn see<N: Naming>(
-    tables: &mut SharedTables<N>,
-    all: &mut Share<ClientEntries<N>>,
-    copy: &mut LogCopy,
-) -> Result<(), Fail>
-    requires one { length N.tables ≡ 1 }
-    requires whole { all.old.parts ≡ N.parts }
-    requires of { IsCopyOfNamed (name_at N.tables 0) copy.old }
-    requires empty { copy.old.log ≡ [] }
-    ensures of { OnOk result (IsCopyOfNamed (name_at N.tables 0) copy.new) }
-    ensures parts { all.new.parts ≡ all.old.parts }
-    ensures counted { OnOk result (all.new.amount ≡ client_count copy.new.log) }
-{
-    tables.has_named_tables();
-    tables.audit(all);
-    if tables.len() == 0 {
-        return Err("no table".into());
-    }
-    tables.extend_copy(0, copy)?;
-    Ok(())
-}
-
-/// How much of a table's log a client has seen after a merge of its two blocks was asked for.
-fn merge<N: Naming>(alloc: Global, table: TableTree, entries: Blank) -> Result<usize, Fail>
-    requires named { named table ∷ [] ≡ N.tables }
-    requires sessions { length table.sessions ≡ N.replicas }
-    requires some { 1 ≤ N.replicas }
-    requires blocks { HasBlocks (N.offered 0) table }
-    requires offered { (b : AnyBlock) → N.offered 0 b }
-    requires name { entries.name ≡ N.entries_name }
-    requires parts { entries.parts ≡ N.parts }
-    requires whole { 0 < N.parts }
-{
-    let schema = table.schema().clone()?;
-    let mut copy = LogCopy::new(alloc, schema);
-    let tables = vec![in alloc; table]?;
-    let (mut tables, mut all) = SharedTables::<N>::open(tables, entries);
-    fill(alloc, &mut tables, &mut all)?;
-    see(&mut tables, &mut all, &mut copy)?;
-    let copies = vec![in alloc; copy]?;
-    let mut pass = Pass::<N>::new(copies, all);
-    if pass.len() == 0 || tables.len() == 0 {
-        return Err("no table".into());
-    }
-    let names: [PartName; 2] = [block_name(None, 0), block_name(None, 1)];
-    if !tables.assign_merge(alloc, 0, pass.copy(0), &names)? {
-        return Err("not merged".into());
-    }
-    if !pass.extend(&mut tables, 0)? {
-        return Err("the log is shorter".into());
-    }
-    Ok(pass.copy(0).len())
-}
-
-/// How many entries the log of a table has that is under a lock.
-fn log_len(rt: &impl Wait, table: &Mutex<TableTree>) -> u32 {
-    table.lock(rt).log_len()
-}
-
 #[test]
-fn two_threads_set_one_cell(rt: HostRuntime) -> Result<(), Fail> {
-    let alloc = rt.alloc();
-    let row: Row<Entry> = Row::new(alloc, 1)?;
-    let (first, second) = join(&rt, || put(&row, alloc, 1), || put(&row, alloc, 2));
-    assert!(rt; first.is_some() && first == second);
-    Ok(())
-}
-
-#[test]
-fn two_threads_read_a_table_under_its_lock(rt: HostRuntime) -> Result<(), Fail> {
-    let alloc = rt.alloc();
-    let table = Mutex::new(table_of(alloc)?);
-    let (first, second) = join(&rt, || log_len(&rt, &table), || log_len(&rt, &table));
-    assert!(rt; first == 0 && second == 0);
-    Ok(())
-}
-
-#[test]
-fn a_replica_is_handed_to_a_thread(rt: HostRuntime) -> Result<(), Fail> {
-    let alloc = rt.alloc();
-    let replica = Replica::new(alloc, 1, shared_schema(alloc)?, true);
-    let (number, _) = join(&rt, move || replica.number(), || ());
-    assert!(rt; number == 1);
-    Ok(())
-}
-
-#[test]
-fn two_threads_read_a_copy_of_the_log(rt: HostRuntime) -> Result<(), Fail> {
-    let alloc = rt.alloc();
-    let copy = LogCopy::new(alloc, shared_schema(alloc)?);
-    let (first, second) = join(&rt, || copy.len(), || copy.len());
-    assert!(rt; first == 0 && second == 0);
-    Ok(())
-}
-
-#[test]
-fn two_threads_read_a_part(rt: HostRuntime) -> Result<(), Fail> {
-    let part = part_of(rt.alloc())?;
-    let (first, second) = join(&rt, || part.blocks().len(), || part.blocks().len());
-    assert!(rt; first == 1 && second == 1);
-    Ok(())
-}
-
-#[test]
-fn two_threads_read_a_snapshot(rt: HostRuntime) -> Result<(), Fail> {
-    let alloc = rt.alloc();
-    let snapshot = snapshot_of(alloc, part_of(alloc)?)?;
-    let (first, second) = join(&rt, || snapshot.len(), || snapshot.len());
-    assert!(rt; first == 1 && second == 1);
-    Ok(())
-}
-
-#[test]
-fn a_part_is_handed_to_a_thread(rt: HostRuntime) -> Result<(), Fail> {
-    let supply = Supply::Built(part_of(rt.alloc())?);
-    let (is_built, _) = join(&rt, move || matches!(supply, Supply::Built(_)), || ());
-    assert!(rt; is_built);
-    Ok(())
-}
-
-#[test]
-fn a_worker_does_what_the_log_has(rt: HostRuntime) -> Result<(), Fail> {
+fn blocks_reach_another_replica_and_are_merged(rt: HostRuntime) -> Result<(), Fail> {
     let table = table_of(rt.alloc())?;
-    let done = work::<Brand>(rt.alloc(), table, Blank::new(1))?;
-    assert_eq!(rt; done, 4);
-    Ok(())
-}
-
-#[test]
-fn a_client_sees_the_merge_that_was_asked_for(rt: HostRuntime) -> Result<(), Fail> {
-    let table = table_of(rt.alloc())?;
-    let seen = merge::<Brand>(rt.alloc(), table, Blank::new(1))?;
-    assert_eq!(rt; seen, 3);
+    let parts = day::<Brand>(&rt, rt.alloc(), table, Blank::new(1))?;
+    assert!(rt; parts == (2, 1));
     Ok(())
 }

@@ -1,7 +1,0 @@
-use denote.Param.Send.{sendable}
-use Rattle.std.proofs.Crossing.{crosses}
-use Rattle.rmt_workers.proofs.Crosses.{copy_sync}
-use Rattle.rmt_workers.proofs.tests.two_threads_read_a_copy_of_the_log.Goals as goal
-
-pub join-first-requires-send-F : goal.join-first-requires-send-F
-join-first-requires-send-F g c κs = search (sendable, crosses, copy_sync) depth 20

@@ -1,7 +1,0 @@
-use denote.Param.Send.{sendable}
-use Rattle.std.proofs.Crossing.{crosses}
-use Rattle.rmt_workers.proofs.Crosses.{part_send, part_sync}
-use Rattle.rmt_workers.proofs.tests.two_threads_read_a_part.Goals as goal
-
-pub join-first-requires-send-F : goal.join-first-requires-send-F
-join-first-requires-send-F g c κs = search (sendable, crosses, part_send, part_sync) depth 20
