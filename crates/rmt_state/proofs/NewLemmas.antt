@@ -160,4 +160,5 @@ module _ (schema : Shape) (up : List Bool) (first tree : Held) (rs : List Replic
         table = opened ∙ ap (new_table schema) s;
         replicas = subst (λ (l : List ReplicaView). AreNew (table_at tree).sessions (map shown l)) (sym r) (subst (λ (l : List ℕ). AreNew l (map shown (empty_replicas schema 1 up))) s (empty-are-new schema up));
         up_ones = ap (map (λ (x : ReplicaView). x.up)) r ∙ empty-up schema 1 up;
+        empty = r;
       }

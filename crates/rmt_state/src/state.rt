@@ -41,6 +41,24 @@ impl Model for State {
 }
 
 impl State {
+    /// The table and its replicas, put together.
+    pub fn from_parts(tree: TableTree, replicas: Vec<Replica>) -> State
+        requires { IsState (record { tree = tree; replicas = replicas.items }) }
+        ensures { result ≡ record { tree = tree; replicas = replicas.items } }
+    {
+        State { tree, replicas }
+    }
+
+    /// The table and its replicas, apart.
+    pub fn into_parts(self) -> (TableTree, Vec<Replica>)
+        ensures tree { result.0 ≡ self.tree }
+        ensures replicas { result.1.items ≡ self.replicas }
+        ensures state { IsState self }
+    {
+        let State { tree, replicas } = self;
+        (tree, replicas)
+    }
+
     /// The table.
     pub fn tree(&self) -> &TableTree
         ensures { result.now ≡ self.now.tree }
