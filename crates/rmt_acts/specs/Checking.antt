@@ -9,6 +9,10 @@ use Rattle.rmt_model.specs.Fair.{AreFair}
 use Rattle.rmt_partset.specs.Snapshots.{NamedData}
 use Rattle.rmt_statement_model.specs.TableStates.{TableState, data_at, shown_at}
 
+-- the digest of a part
+abbrev pub digest_in : Shape → NamedData → List ℕ
+digest_in schema part = sha256 (part_bytes schema part.rows)
+
 -- names that are fair for the places known at the replica, each with the SHA-256 of the bytes of a part of that name; what they
 -- hold is known there then
 pub record AreDigests (t : TableState) (r : ℕ) (all : List (Name × List ℕ)) (u : TableState) : Type 0 where
@@ -16,9 +20,3 @@ pub record AreDigests (t : TableState) (r : ℕ) (all : List (Name × List ℕ))
   pub fair : AreFair t.log (t.known r) names
   pub are : all ≡ map (λ a. (a, sha256 (part_bytes t.schema (data_at t a)))) names
   pub change : u ≡ shown_at r names t
-
--- ---- what only private functions cite
-
--- the digest of a part
-abbrev pub digest_in : Shape → NamedData → List ℕ
-digest_in schema part = sha256 (part_bytes schema part.rows)

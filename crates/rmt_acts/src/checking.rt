@@ -24,8 +24,8 @@ fn part_digest(alloc: Global, part: &NamedPart, schema: &Schema) -> Result<[u8; 
     Ok(digest_of(&bytes))
 }
 
-/// The names of parts, each with its digest.
-fn digests_of(
+/// The names of parts, each with the SHA-256 of all its bytes, in their order. At an error no memory was left.
+pub fn digests_of(
     alloc: Global,
     parts: &[NamedPart],
     schema: &Schema,

@@ -20,7 +20,7 @@ mod syncing;
 mod waiting;
 
 pub use background::{kill, restart, restart_replica, run_turns};
-pub use checking::part_digests;
+pub use checking::{digests_of, part_digests};
 pub use drop::drop_partition;
 pub use insert::insert_blocks;
 pub use insertion::Insertion;
