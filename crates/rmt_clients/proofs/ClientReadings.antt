@@ -3,7 +3,6 @@ use Rattle.std.proofs.Common.{◌≡◌, ℕ, ◌≤◌, inl, inr, Bool, true, f
 use Rattle.std.specs.List.{filter_map}
 use Rattle.std.specs.declared.option.Option.{Option}
 use Rattle.std.specs.declared.option.Option.TheVariants.{Some}
-use Rattle.rmt_values.specs.declared.checked_query.CheckedQuery.{CheckedQuery}
 use Rattle.rmt_values.specs.Rows.{Shape}
 use Rattle.rmt_values.specs.Order.{SameBag}
 use Rattle.rmt_names.specs.Names.{Name}
@@ -20,8 +19,6 @@ use Rattle.rmt_model.specs.Fair.{MadeAtMark, DroppedAtMark, AreFair, AllMarked}
 use Rattle.rmt_model.specs.CopiedParts.{Copied, IsCopied, names_of}
 use Rattle.rmt_model.proofs.Lists.{Each-at, Each-all, Has-filter}
 use Rattle.rmt_partset.specs.Snapshots.{NamedData, names_in, data_in}
-use Rattle.rmt_query.specs.Answers.{answer_of}
-use Rattle.rmt_query.proofs.BagLaws.{one-answer}
 use Rattle.rmt_query.specs.ReadRows.{row_read, rows_read}
 use Rattle.rmt_reply.specs.declared.refusal.Refusal.{Refusal}
 use Rattle.rmt_reply.specs.declared.refusal.Refusal.TheVariants.{NotInQuorum}
@@ -32,11 +29,11 @@ use Rattle.rmt_events.proofs.Copies.{made-behind, dropped-behind}
 use Rattle.rmt_statement_model.specs.TableStates.{TableState, data_at, plain_rows, shown_at, covered_by}
 use Rattle.rmt_statement_model.specs.BackgroundWork.{IsOfWorker, quorum_after_notes}
 use Rattle.rmt_statement_model.proofs.ReadLaws.{all-mutations-read}
-use Rattle.rmt_statement_model.proofs.WorkerEntries.{not-client, rows-stay}
-use Rattle.rmt_statement_model.specs.Reads.{IsReading, KnowsAll, IsSequentialReading, LacksLast, waiting_part, covers_part, without_part}
-use Rattle.rmt_clients.specs.Clients.{Client, known_table, KnowsTable, AreAccepted, AreClear, Fits, seeing, after_work, ClientsMarked, ChangesInto, RestsAnd, SeesHere}
+use Rattle.rmt_statement_model.proofs.WorkerEntries.{not-client}
+use Rattle.rmt_statement_model.specs.Reads.{IsReading, IsSequentialReading, LacksLast, waiting_part, covers_part, without_part}
+use Rattle.rmt_clients.specs.Clients.{Client, known_table, KnowsTable, AreAccepted, AreClear, Fits, seeing, ClientsMarked, ChangesInto, RestsAnd, SeesHere}
 use Rattle.rmt_clients.specs.ClientReadings.{IsChecked}
-use Rattle.rmt_clients.proofs.ClientRests.{fits-all, fits-as, knows-fits, knows-itself, fits-rested, rests-and}
+use Rattle.rmt_clients.proofs.ClientRests.{fits-all, fits-as, knows-fits, rests-and}
 use Rattle.rmt_clients.proofs.OfferedBlocks.{IsOfferedAs, part-content}
 use Rattle.rmt_clients.proofs.ClientReads.{reads-plain-names}
 
@@ -212,37 +209,20 @@ client-read t k parts l r clients =
     subst (λ (xs : List Row). SameBag xs (plain_rows t)) (sym (read-snapshot t.schema t.log (rows_at t.blocks) parts r.holds))
     (reads-plain-names t.schema t.log l (t.known k) (names_in parts) r.fair clients (rows_at t.blocks))
 
--- so they are in each state that fits
-pub client-reads : (O : Block → Type 0) → AreClear O → (p : Client) (r : ℕ) (x : Replica) → ChecksHere O p r x → ClientsMarked p.log (p.known r) → (t : TableState) → Fits O p t → SameBag (rows_read p.log (map (read_as p.schema) x.parts)) (plain_rows t)
-client-reads O clear p r x h clients t f =
-    fits-all O p (λ (s : TableState). IsReading s r (map (read_as p.schema) x.parts) → SameBag (rows_read p.log (map (read_as p.schema) x.parts)) (plain_rows s))
-    (λ blocks a i. client-read (record (known_table p) { blocks = blocks }) r (map (read_as p.schema) x.parts) h.lawful i clients)
-    t f (checked-reads O clear p r x h t f)
-
 -- ---- where the client knew all that it had seen
 
-marked-all : (log : List Entry) (marked : ℕ → Bool) → AllMarked log marked → ClientsMarked log marked
+-- each entry of a client is known where every entry is
+pub marked-all : (log : List Entry) (marked : ℕ → Bool) → AllMarked log marked → ClientsMarked log marked
 marked-all [] marked a = tt
 marked-all (e ∷ log) marked a = (λ c. a (length log) (omega arith), marked-all log marked (λ i l. a i (omega (arith, l))))
 
 -- entries of workers may be unmarked
-marked-gained : (gained log : List Entry) (marked : ℕ → Bool) → Each IsOfWorker gained → ClientsMarked log marked → ClientsMarked (gained ++ log) marked
+pub marked-gained : (gained log : List Entry) (marked : ℕ → Bool) → Each IsOfWorker gained → ClientsMarked log marked → ClientsMarked (gained ++ log) marked
 marked-gained [] log marked w c = c
 marked-gained (e ∷ gained) log marked w c = ((λ q. no-client (is_client e) (not-client e w.0) q), marked-gained gained log marked w.1 c)
   where
     no-client : {A : Type 0} (b : Bool) → b ≡ false → b ≡ true → A
     no-client b f q = absurd (cc)
-
--- what is answered over the parts of a replica where all was known that the client had seen, whatever workers did since, is what is
--- answered over the plain rows
-pub answered-among : (O : Block → Type 0) → AreClear O → (p : Client) (r : ℕ) (x : Replica) (gained : List Entry) (noted : List ℕ) (query : CheckedQuery) → SeesHere p gained → ChecksHere O (seeing gained noted p) r x → (t : TableState) → Fits O p t → KnowsAll t r → answer_of p.schema query (rows_read (gained ++ p.log) (map (read_as p.schema) x.parts)) ≡ answer_of t.schema query (plain_rows t)
-answered-among O clear p r x gained noted query s h =
-    fits-all O p (λ (t : TableState). KnowsAll t r → answer_of p.schema query (rows_read (gained ++ p.log) (map (read_as p.schema) x.parts)) ≡ answer_of t.schema query (plain_rows t)) (λ blocks a all.
-    let t : TableState = record (known_table p) { blocks = blocks } in
-    let f : Fits O p t = knows-fits O p (known_table p) blocks (knows-itself p) a in
-    one-answer p.schema query (rows_read (gained ++ p.log) (map (read_as p.schema) x.parts)) (plain_rows t)
-    (subst (λ (rows : List Row). SameBag (rows_read (gained ++ p.log) (map (read_as p.schema) x.parts)) rows) (rows-stay gained p.log (rows_at blocks) s.workers)
-    (client-reads O clear (seeing gained noted p) r x h (marked-gained gained p.log (p.known r) s.workers (marked-all p.log (p.known r) all)) (after_work gained noted t) (fits-rested O p gained noted s.workers t f))))
 
 -- ---- the client's own copy is enough
 
@@ -287,7 +267,3 @@ checked-still gained log known names w none c = record {
   kept = Each-all (λ a. DroppedAtMark (gained ++ log) known a → ⊥) names (λ a h d. Each-at (λ b. DroppedAtMark log known b → ⊥) names a c.kept h (dropped-own gained log known a w d));
   answered = λ a m. elim (c.answered a (made-own gained log known a none m)) [ inl k ↦ inl k | inr d ↦ inr (dropped-behind gained log a d) ];
 }
-
--- what is answered with the mutations of the client's own copy
-pub answered-own : (O : Block → Type 0) → AreClear O → (p : Client) (r : ℕ) (x : Replica) (gained : List Entry) (noted : List ℕ) (query : CheckedQuery) → SeesHere p gained → ChecksHere O (seeing gained noted p) r x → (t : TableState) → Fits O p t → KnowsAll t r → answer_of p.schema query (rows_read (filter is_mutation p.log) (map (read_as p.schema) x.parts)) ≡ answer_of t.schema query (plain_rows t)
-answered-own O clear p r x gained noted query s h t f all = ap (answer_of p.schema query) (reads-own gained p.log (map (read_as p.schema) x.parts) s.workers) ∙ answered-among O clear p r x gained noted query s h t f all

@@ -110,6 +110,7 @@ known-learned replicas names known k old new a here at keep =
     let was = known-at replicas names known k old a here in
     known-set replicas names known k new a (record {
       copy = subst (λ (x : History). IsCopyOfNamed (name_at names k) x) (sym (keep.copy ∙ ap copy_in at)) was.copy;
+      few = subst (λ (x : History). length x.log ≤ 65536) (sym (keep.copy ∙ ap copy_in at)) was.few;
       fetching = keep.fetching ∙ (ap (λ (x : Known). length x.fetching) at ∙ was.fetching);
       marks = keep.marks ∙ (ap (λ (x : Known). length x.marks) at ∙ was.marks);
     })

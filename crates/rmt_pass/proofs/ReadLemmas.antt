@@ -22,8 +22,7 @@ use Rattle.rmt_statement_model.specs.ActOutcomes.{ReadsParts, ReadsQuorum}
 use Rattle.rmt_statement_model.specs.Reads.{waiting_part}
 use Rattle.rmt_clients.specs.Clients.{KnowsTable}
 use Rattle.rmt_known.specs.KnownTables.{Known, IsReplicaIn, KeepsCopy, client_of, known_state, new_known}
-use Rattle.rmt_readings.specs.Readable.{AnswersAll}
-use Rattle.rmt_readings.proofs.CallerLemmas.{reads-step, reads-quorum-step, lacks-quorum-step, answers-up-to-date, keys, bytes}
+use Rattle.rmt_readings.proofs.CallerLemmas.{reads-step, reads-quorum-step, lacks-quorum-step, keys, bytes}
 use Rattle.rmt_readings.specs.QuorumParts.{AreInQuorum, LacksCover}
 use Rattle.rmt_sequential.proofs.KeptParts.{is_kept}
 use Rattle.rmt_reply.specs.declared.refusal.Refusal.{Refusal}
@@ -108,10 +107,6 @@ module _ (Offered : ℕ → Block → Type 0) (named : NamedTable) (p : PassView
 
   pub kept-bytes : (kept : List NamedData) → AreInQuorum (client_at p k).quorum parts kept → All (λ (part : NamedData). HasPartBytes named.schema part.rows) kept
   kept-bytes kept z = subst (All (λ (part : NamedData). HasPartBytes named.schema part.rows)) (sym z.left) (All-filter (is_kept (waiting_part (client_at p k).quorum)) (λ (part : NamedData). HasPartBytes named.schema part.rows) parts bytes-here)
-
-  -- what is answered over them where each entry is known
-  pub answers-here : AnswersAll (Offered k) (client_at p k) r.number parts
-  answers-here = answers-up-to-date (Offered k) (client_at p k) r parts h.lawful h.schema h.offered h.readable h.few
 
 -- what follows from what was found follows wherever something was
 pub where-found : {A E : Type 0} (U : Type 0) (P Q : A → Type 0) → ((x : A) → P x → Q x) → (read : Result (Option A) E) → IfOk read (λ o. MatchOption o U P) → IfOk read (λ o. IfSome o Q)

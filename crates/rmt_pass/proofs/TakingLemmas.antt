@@ -1,8 +1,9 @@
 -- What is known of the tables once a client has taken over what lies in one of them.
-use Rattle.std.proofs.Common.{◌≡◌, ℕ, ◌<◌, zero, suc, List, [], ◌∷◌, length, set, get_or, refl, sym, ap, subst, arith, ◌∙◌}
+use Rattle.std.proofs.Common.{◌≡◌, ℕ, ◌<◌, ◌≤◌, zero, suc, List, [], ◌∷◌, length, set, get_or, refl, sym, ap, subst, arith, ◌∙◌}
 use Rattle.rmt_model.specs.Lawful.{IsPrefix}
 use Rattle.rmt_table_model.specs.Held.{Held}
 use Rattle.rmt_table.specs.TableTrees.{IsCopyOf}
+use Rattle.rmt_table.proofs.PrefixLemmas.{prefix-length}
 use Rattle.rmt_known.specs.KnownTables.{Known, copy_in, new_known, seen_of, with_copy}
 use Rattle.rmt_shared.specs.SharedTables.{NamedTable, named, IsCopyOfNamed, name_at}
 use Rattle.rmt_shared.specs.ClientCalls.{HasTable}
@@ -35,11 +36,13 @@ module _ (replicas : ℕ) (names : List NamedTable) (known : List Known) (k : �
   }
 
   -- and what is known is of the named tables still
-  pub known-now : (new : Known) → IsCopyOf tree (copy_in new) → length new.fetching ≡ length old.fetching → length new.marks ≡ length old.marks → AreKnownOf replicas names (set known k new)
-  known-now new c f m =
+  pub known-now : (new : Known) → length tree.log ≤ 65536 → IsCopyOf tree (copy_in new) → length new.fetching ≡ length old.fetching → length new.marks ≡ length old.marks → AreKnownOf replicas names (set known k new)
+  known-now new few c f m =
       let was = known-at replicas names known k old a here in
+      let within = prefix-length new.log tree.log c.prefix in
       known-set replicas names known k new a (record {
         copy = subst (λ (n : NamedTable). IsCopyOfNamed n (copy_in new)) is (record { schema = c.schema; row = c.cells });
+        few = omega (arith, within, few);
         fetching = f ∙ (ap (λ (x : Known). length x.fetching) at ∙ was.fetching);
         marks = m ∙ (ap (λ (x : Known). length x.marks) at ∙ was.marks);
       })

@@ -1,6 +1,6 @@
 -- What a client knows of the tables, and its steps.
 -- No public source: that a client goes on from what it has seen is this program's own.
-use Rattle.std.specs.Prelude.{◌≡◌, ◌⊎◌, ◌<◌, ℕ, zero, suc, Bool, false, List, [], ◌∷◌, length, map, slice_set, slice_index_or}
+use Rattle.std.specs.Prelude.{◌≡◌, ◌⊎◌, ◌<◌, ◌≤◌, ℕ, zero, suc, Bool, false, List, [], ◌∷◌, length, map, slice_set, slice_index_or}
 use Rattle.std.specs.declared.option.Option.TheVariants.{None}
 use Rattle.rmt_values.specs.Rows.{Shape}
 use Rattle.rmt_entries.specs.declared.entry.Entry.{Entry}
@@ -19,9 +19,10 @@ no_schema = record { columns = []; key = []; partition = None; granularity = 0; 
 
 -- ---- what a client knows
 
--- what is known is of this table, which has so many replicas
+-- what is known is of this table, which has so many replicas, and whose log is within its limit
 pub record IsKnownOf (replicas : ℕ) (name : NamedTable) (known : Known) : Type 0 where
   pub copy : IsCopyOfNamed name (copy_in known)
+  pub few : length known.log ≤ 65536
   pub fetching : length known.fetching ≡ replicas
   pub marks : length known.marks ≡ replicas
 

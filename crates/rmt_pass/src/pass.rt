@@ -79,6 +79,7 @@ pub(crate) fn take_over<N: Naming>(
 {
     tables.has_named_tables();
     let tree = tables.table(table);
+    tree.no_limit_is_passed();
     known[table].see(alloc, tree)?;
     Ok(())
 }
@@ -101,9 +102,12 @@ impl<N: Naming> Pass<N> {
         }
     }
 
-    /// How many tables it knows.
+    /// How many tables it knows: as many as the types name, each at as many replicas as they say.
     pub fn len(&self) -> usize
-        ensures { result ≡ length self.now.tables }
+        ensures len { result ≡ length self.now.tables }
+        ensures named { length N.tables ≡ length self.now.tables }
+        ensures ups { length self.now.up ≡ N.replicas }
+        ensures known { AreKnownOf N.replicas N.tables self.now.tables }
     {
         self.tables.len()
     }
@@ -129,6 +133,24 @@ impl<N: Naming> Pass<N> {
             return false;
         }
         self.up[place]
+    }
+
+    /// Whether the client gave up: an entry of its own is in a log, and no memory was left to note it.
+    pub fn gave_up(&self) -> bool
+        ensures { result ≡ self.now.gave_up }
+    {
+        self.gave_up
+    }
+
+    /// What the client knows of each table, and which replicas are up, the first one first. Its share of the book is gone.
+    pub fn into_known(self) -> (Vec<KnownTable>, Vec<bool>)
+        ensures known { result.0.items ≡ self.tables }
+        ensures up { result.1.items ≡ self.up }
+        ensures of { AreKnownOf N.replicas N.tables self.tables }
+        ensures ups { length self.up ≡ N.replicas }
+    {
+        let Pass { tables, up, .. } = self;
+        (tables, up)
     }
 
     /// Whether the client, which didn't give up, goes on: no log is shorter than its copy, so that each goes on by background work alone, and the table at

@@ -36,13 +36,13 @@ use Rattle.rmt_clients.specs.Clients.{Client, KnowsTable, StepsTo, known_table}
 use Rattle.rmt_clients.specs.ClientReadings.{IsChecked}
 use Rattle.rmt_clients.proofs.ClientRests.{steps-now}
 use Rattle.rmt_clients.proofs.OfferedBlocks.{IsOfferedAs}
-use Rattle.rmt_clients.proofs.ClientReadings.{ChecksHere, read_as, read-names, read-here, parts_without, checked-in-quorum, lacks-last, shown-here, answered-own}
+use Rattle.rmt_clients.proofs.ClientReadings.{ChecksHere, read_as, read-names, read-here, parts_without, checked-in-quorum, lacks-last, shown-here}
 use Rattle.rmt_replica.specs.Parts.{IsMadeIn}
 use Rattle.rmt_replica.specs.Replicas.{ReplicaView}
 use Rattle.rmt_replica.specs.SeenReplica as seen
 use Rattle.rmt_replica.proofs.StateViews.{names-shown, Each-mapped, standing-seen}
 use Rattle.rmt_sequential.proofs.KeptParts.{names-kept}
-use Rattle.rmt_readings.specs.Readable.{AnswersAll, IsReadable}
+use Rattle.rmt_readings.specs.Readable.{IsReadable}
 use Rattle.rmt_readings.specs.QuorumParts.{AreInQuorum, LacksCover}
 
 -- ---- the replica as events see it
@@ -148,13 +148,6 @@ module _ (O : Block → Type 0) (p : Client) (r : ReplicaView) (parts : List Nam
     };
     fits = f;
   })
-
-  -- ---- what is answered over them
-
-  pub answers-up-to-date : worker_count p.log ≤ 32768 → AnswersAll O p r.number parts
-  answers-up-to-date few clear t f all query =
-      ap (λ (ps : List NamedData). answer_of p.schema query (rows_read (filter is_mutation p.log) ps)) as-read
-      ∙ answered-own O clear p r.number (seen.shown r) [] [] query (record { workers = tt; few = few; lawful = lawful }) checks t f all
 
   -- ---- their keys
 

@@ -11,8 +11,7 @@ use Rattle.rmt_query.specs.Answers.{answer_of}
 use Rattle.rmt_query.specs.ReadRows.{rows_read}
 use Rattle.rmt_events.specs.Views.{Block}
 use Rattle.rmt_statement_model.specs.TableStates.{TableState, plain_rows}
-use Rattle.rmt_statement_model.specs.Reads.{KnowsAll}
-use Rattle.rmt_clients.specs.Clients.{Client, AreClear, Fits}
+use Rattle.rmt_clients.specs.Clients.{Client, AreClear, ClientsMarked, Fits}
 use Rattle.rmt_clients.specs.ClientReadings.{IsChecked}
 use Rattle.rmt_replica.specs.Replicas.{ReplicaView, IsStandingReplica}
 
@@ -33,7 +32,7 @@ pub record IsReadable (p : Client) (r : ReplicaView) (parts : List NamedData) : 
 abbrev pub IsUnread : Client → List Entry → ReplicaView → Type 0
 IsUnread p log r = (r.up ≡ false) ⊎ ((length log < length r.log) ⊎ (HasKnown p r → ⊥))
 
--- where no two offered blocks of one id differ: whatever state fits what the client knows, and each entry of which is known at the
--- replica, each query answers over these parts, with the mutations of the client's log, what it answers over the plain rows
+-- where no two offered blocks of one id differ: whatever state fits what the client knows, and each client's entry of which is known at
+-- the replica, each query answers over these parts, with the mutations of the client's log, what it answers over the plain rows
 abbrev pub AnswersAll : (Block → Type 0) → Client → ℕ → List NamedData → Type 0
-AnswersAll Offered p r parts = AreClear Offered → (t : TableState) → Fits Offered p t → KnowsAll t r → (query : CheckedQuery) → answer_of p.schema query (rows_read (filter is_mutation p.log) parts) ≡ answer_of t.schema query (plain_rows t)
+AnswersAll Offered p r parts = AreClear Offered → (t : TableState) → Fits Offered p t → ClientsMarked t.log (t.known r) → (query : CheckedQuery) → answer_of p.schema query (rows_read (filter is_mutation p.log) parts) ≡ answer_of t.schema query (plain_rows t)

@@ -25,7 +25,7 @@ see-requires g c =
 
 pub returns-in_err-see-clause-known : goal.returns-in_err-see-clause-known
 returns-in_err-see-clause-known g c =
-    known-now g.N.Naming.replicas g.N.Naming.tables c.args.known.now.items c.args.table c.index_mut.result.now c.table-tree.result.now c.requires.known c.requires.table c.index_mut.ensures.value c.table-tree.ensures.named c.see.new.self c.see.ensures.of
+    known-now g.N.Naming.replicas g.N.Naming.tables c.args.known.now.items c.args.table c.index_mut.result.now c.table-tree.result.now c.requires.known c.requires.table c.index_mut.ensures.value c.table-tree.ensures.named c.see.new.self c.no_limit_is_passed.ensures.entries c.see.ensures.of
     (ap (λ (k : Known). length k.fetching) c.in_err-see.ensures.err) (ap (λ (k : Known). length k.marks) c.in_err-see.ensures.err)
 
 pub returns-in_err-see-clause-err : goal.returns-in_err-see-clause-err
@@ -35,7 +35,7 @@ returns-in_err-see-clause-err g c = on-err c.from_residual.result _
 
 pub returns-clause-known : goal.returns-clause-known
 returns-clause-known g c =
-    known-now g.N.Naming.replicas g.N.Naming.tables c.args.known.now.items c.args.table c.index_mut.result.now c.table-tree.result.now c.requires.known c.requires.table c.index_mut.ensures.value c.table-tree.ensures.named c.see.new.self c.see.ensures.of
+    known-now g.N.Naming.replicas g.N.Naming.tables c.args.known.now.items c.args.table c.index_mut.result.now c.table-tree.result.now c.requires.known c.requires.table c.index_mut.ensures.value c.table-tree.ensures.named c.see.new.self c.no_limit_is_passed.ensures.entries c.see.ensures.of
     (ap (λ (k : Known). length k.fetching) c.in_ok-see.ensures.ok) (ap (λ (k : Known). length k.marks) c.in_ok-see.ensures.ok)
 
 pub returns-clause-ok : goal.returns-clause-ok
