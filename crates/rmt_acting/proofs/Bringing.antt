@@ -19,7 +19,7 @@ use Rattle.rmt_acts.specs.Syncing.{SyncsReplica}
 use Rattle.rmt_acts.specs.Waiting.{WaitsTo}
 use Rattle.rmt_acting.specs.Stepped.{seen_of}
 use Rattle.rmt_events.specs.ClusterChanges.{KeepsTable}
-use Rattle.rmt_acting.specs.Acting.{KeepsShape, GoesOn, TurnsReplica, Brings}
+use Rattle.rmt_acting.specs.Acting.{KeepsShape, GoesOn, TurnsReplica, Brings, Stays}
 use Rattle.rmt_statement_model.specs.ActOutcomes.{SyncsOr, MutatesOr, DropsOr, WaitsOr, ReadsParts, ReadsQuorum}
 
 -- without workers nothing rests
@@ -73,6 +73,11 @@ pub quorum-ok : {E : Type 0} (s : Cluster) (r : ℕ) (read : Result (Result (Lis
 quorum-ok s r (Ok found) f k e = reads-quorum s r found f k e
 quorum-ok s r (Err e) f k q = tt
 
+-- what is shown stays shown where nothing changed
+pub stays-ok : {A E : Type 0} (result : Result A E) (s : Cluster) → OnOk result (Stays (seen_of s) (seen_of s))
+stays-ok (Ok a) s = λ t h. h
+stays-ok (Err e) s = tt
+
 -- ---- what stays
 
 -- an act that was done has left no insert under way, and the same replicas up
@@ -96,4 +101,4 @@ turns (Err e) s u r is_up f k = tt
 
 -- a cluster keeps its shape where its table keeps its own
 pub keeps : (s u : Cluster) → KeepsTable s u → KeepsShape (seen_of s) (seen_of u)
-keeps s u k = record { shape = k.schema; count = k.replicas }
+keeps s u k = record { shape = k.schema; count = k.replicas; place = refl; others = λ n d. refl }

@@ -1,14 +1,17 @@
 -- What is seen of a table in which acts are done, in the words of its states alone: a table that rests first, where workers run, and then changes.
 -- No public source: this program's own. The rows that are cited have theirs.
-use Rattle.std.specs.Prelude.{◌≡◌, ℕ, Bool, true, false, cond, nat_eq}
+use Rattle.std.specs.Prelude.{◌≡◌, ◌≢◌, ℕ, Bool, true, false, cond, nat_eq}
+use Rattle.std.specs.declared.option.Option.{Option}
 use Rattle.rmt_values.specs.Rows.{Shape}
 use Rattle.rmt_model.specs.Lawful.{mutation_count}
 use Rattle.rmt_events.specs.Clusters.{Cluster}
 use Rattle.rmt_statement_model.specs.TableStates.{TableState}
 use Rattle.rmt_statement_model.specs.Rests.{Rests}
+use Rattle.rmt_clients.specs.Clients.{Client}
 
 -- what is seen of a table: the states that it shows; its schema; how many replicas it has, which of them are up, and which may
--- fetch; how many mutations were made; that no insert is under way; and, where no workers run, the cluster that the events have made
+-- fetch; how many mutations were made; that no insert is under way; where no workers run, the cluster that the events have made; and
+-- where they run, the table's place, and what its client knows of the tables at other places
 pub record Sight (workers : Bool) : Type 1 where
   pub shows : TableState → Type 0
   pub shape : Shape
@@ -18,6 +21,8 @@ pub record Sight (workers : Bool) : Type 1 where
   pub mutations : ℕ
   pub free : Type 0
   pub cluster : Cluster
+  pub place : ℕ
+  pub others : ℕ → Option Client
   pub schema-shown : (t : TableState) → shows t → t.schema ≡ shape
   pub fetching-shown : (t : TableState) → shows t → t.fetching ≡ fetching
   pub mutations-shown : (t : TableState) → shows t → mutation_count t.log ≡ mutations
@@ -28,10 +33,12 @@ pub record MayAct {workers : Bool} (s : Sight workers) (r : ℕ) : Type 0 where
   pub up : s.ups r ≡ true
   pub free : s.free
 
--- the schema stays, and no replica comes or goes
+-- the schema stays, no replica comes or goes, and nothing else is known of another table
 pub record KeepsShape {workers : Bool} (s u : Sight workers) : Type 0 where
   pub shape : u.shape ≡ s.shape
   pub count : u.count ≡ s.count
+  pub place : u.place ≡ s.place
+  pub others : (k : ℕ) → k ≢ s.place → u.others k ≡ s.others k
 
 -- no insert is under way, and the same replicas are up
 pub record GoesOn {workers : Bool} (s u : Sight workers) : Type 0 where

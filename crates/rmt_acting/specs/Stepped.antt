@@ -1,6 +1,7 @@
 -- What is seen of a cluster: the states that it shows, and itself.
 -- No public source: this program's own.
 use Rattle.std.specs.Prelude.{false, length, List}
+use Rattle.std.specs.declared.option.Option.TheVariants.{None}
 use Rattle.std.proofs.Common.{ap, refl}
 use Rattle.rmt_entries.specs.declared.entry.Entry.{Entry}
 use Rattle.rmt_model.specs.Lawful.{mutation_count}
@@ -19,6 +20,8 @@ seen_of s = record {
   mutations = mutation_count s.table.log;
   free = HoldsNone s;
   cluster = s;
+  place = 0;
+  others = λ k. None;
   schema-shown = λ t h. h.table.schema;
   fetching-shown = λ t h. h.table.fetching;
   mutations-shown = λ t h. ap (λ (l : List Entry). mutation_count l) h.table.log;

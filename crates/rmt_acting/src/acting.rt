@@ -22,6 +22,7 @@ ghost use Rattle.rmt_entries.specs.EntryBytes.{CommandInRange};
 ghost use Rattle.rmt_format.specs.PartBytes.{HasPartBytes};
 ghost use Rattle.rmt_model.specs.Lawful.{mutation_count};
 ghost use Rattle.rmt_query.specs.Answers.{answer_of};
+ghost use Rattle.rmt_events.specs.Views.{Block as AnyBlock};
 ghost use Rattle.rmt_events.specs.Clusters.{Cluster, without_kinds};
 ghost use Rattle.rmt_events.specs.declared.event.Event.TheVariants as ev;
 ghost use Rattle.rmt_state.specs.States.{IsNumber};
@@ -59,6 +60,9 @@ pub trait Acting {
     /// Whether workers run beside it.
     ghost workers: { Bool };
 
+    /// Which blocks may be inserted into a table of a schema.
+    ghost offers: { Shape → AnyBlock → Type 0 };
+
     /// What is seen of the table.
     ghost seen: { Self → Sight workers };
 
@@ -88,6 +92,7 @@ pub trait Acting {
         requires idle { MayAct (seen self.old) replica }
         requires need { need ≢ 1 }
         requires fit { All (λ b. All (λ row. fits (seen self.old).shape.columns row ≡ true) b.rows) blocks.items }
+        requires offered { All (λ b. offers (seen self.old).shape (without_kinds b)) blocks.items }
         ensures inserts { IfOk result (λ i. Brings (seen self.old)
             (λ t. InsertsAll workers (seen self.old).ups t (asked_at replica need)
             (map without_kinds blocks.items) i.pieces i.refused) (seen self.new)) }
@@ -246,7 +251,7 @@ pub trait Acting {
         ensures leaves { Leaves (seen self.old) (seen self.new) }
         ensures keeps { KeepsShape (seen self.old) (seen self.new) };
 
-    /// What a query answers at a replica where every place of the log is known.
+    /// What a query answers at a replica where every place of the log is known. Workers may go on meanwhile.
     fn answer_up_to_date(
         &mut self,
         alloc: Global,
@@ -257,7 +262,7 @@ pub trait Acting {
         requires up { (seen self.old).ups replica ≡ true }
         ensures answers { IfOk result (λ tuples. (t : TableState) → (seen self.old).shows t → KnowsAll t replica
             → tuples.items ≡ answer_of t.schema query.now (plain_rows t)) }
-        ensures shown { Stays (seen self.old) (seen self.new) }
+        ensures shown { OnOk result (Stays (seen self.old) (seen self.new)) }
         ensures leaves { Leaves (seen self.old) (seen self.new) }
         ensures keeps { KeepsShape (seen self.old) (seen self.new) };
 

@@ -11,10 +11,12 @@ use rmt_values::{CheckedMutation, CheckedQuery, ReplicaId, Schema};
 use std::alloc::{AllocError, Global};
 
 impl Acting for Cluster {
-    ghost use Rattle.std.specs.Prelude.{false};
+    ghost use Rattle.std.specs.Prelude.{⊤, false};
     ghost use Rattle.rmt_acting.specs.Stepped.{seen_of};
 
     ghost workers = { false };
+
+    ghost offers = { λ schema b. ⊤ };
 
     ghost seen = { seen_of };
 

@@ -9,4 +9,4 @@ pub returns-clause-leaves : goal.returns-clause-leaves
 returns-clause-leaves c = record { free = λ f. f; ups = refl; events = λ n. refl }
 
 pub returns-clause-keeps : goal.returns-clause-keeps
-returns-clause-keeps c = record { shape = refl; count = refl }
+returns-clause-keeps c = record { shape = refl; count = refl; place = refl; others = λ k n. refl }
