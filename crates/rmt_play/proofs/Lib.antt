@@ -8,6 +8,7 @@ pub mod TurnLemmas
 pub mod CreateLemmas
 pub mod ActLemmas
 pub mod SightLemmas
+pub mod OfferLemmas
 pub mod CommandLemmas
 pub mod SequentialLemmas
 pub mod RefusedActs

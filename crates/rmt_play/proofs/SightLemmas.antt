@@ -68,10 +68,15 @@ pub goes-then : {w : Bool} (s m u : Sight w) → GoesOn s m → Leaves m u → G
 goes-then s m u g l = record { free = l.free g.free; ups = l.ups ∙ g.ups }
 
 pub keeps-then : {w : Bool} (s m u : Sight w) → KeepsShape s m → KeepsShape m u → KeepsShape s u
-keeps-then s m u k l = record { shape = l.shape ∙ k.shape; count = l.count ∙ k.count }
+keeps-then s m u k l = record {
+  shape = l.shape ∙ k.shape;
+  count = l.count ∙ k.count;
+  place = l.place ∙ k.place;
+  others = λ i n. l.others i (λ q. n (q ∙ k.place)) ∙ k.others i n;
+}
 
 pub keeps-same : {w : Bool} (s : Sight w) → KeepsShape s s
-keeps-same s = record { shape = refl; count = refl }
+keeps-same s = record { shape = refl; count = refl; place = refl; others = λ i n. refl }
 
 -- what is left goes on, where no insert was under way
 pub leaves-on : {w : Bool} (s u : Sight w) → s.free → Leaves s u → GoesOn s u

@@ -27,6 +27,7 @@ pub mod RunStatement
 pub mod Acts
 pub mod ActEvents
 pub mod Plays
+pub mod Offered
 pub mod Shown
 pub mod Runs
 pub mod QueryAnswers

@@ -1,5 +1,5 @@
 -- What a player has, and what the steps of a statement do. No public clause cites this module.
-use Rattle.std.specs.Prelude.{◌≡◌, ◌⊎◌, ℕ, zero, suc, ◌<◌, ◌≤◌, ◌-◌, ◌&&◌, nat_lt, Bool, true, false, List, [], ◌∷◌, ◌++◌, length, map, replicate, slice_get, slice_index_or, slice_set, MatchOption, IsErr}
+use Rattle.std.specs.Prelude.{◌≡◌, ◌⊎◌, ⊤, ℕ, zero, suc, ◌<◌, ◌≤◌, ◌-◌, ◌&&◌, nat_lt, Bool, true, false, List, [], ◌∷◌, ◌++◌, length, map, replicate, slice_get, slice_index_or, slice_set, MatchOption, IsErr}
 use Rattle.std.specs.List.{All}
 use Rattle.std.specs.Str.{bytes_eq}
 use Rattle.std.specs.declared.option.Option.{Option}
@@ -13,6 +13,7 @@ use Rattle.rmt_values.specs.Rows.{Shape, fits}
 use Rattle.rmt_model.specs.Words.{Each}
 use Rattle.rmt_state.specs.States.{IsNumber}
 use Rattle.rmt_model.specs.Content.{Row}
+use Rattle.rmt_events.specs.Views.{Block}
 use Rattle.rmt_events.specs.Clusters.{Cluster}
 use Rattle.rmt_statement_model.specs.TableStates.{TableState, empty_table}
 use Rattle.rmt_statement_model.specs.Shows.{Shows, HoldsNone, ups}
@@ -45,15 +46,17 @@ use Rattle.rmt_play.specs.Plays.{Creates, PerformsSent, session_event, Turns, Ru
 
 -- ---- what a player has
 
--- what is seen of tables: their type, whether workers run beside them, and what is seen of each
+-- what is seen of tables: their type, whether workers run beside them, which blocks may come to a table of a schema, and what is
+-- seen of each
 pub record Sights : Type 1 where
   pub Table : Type 0
   pub workers : Bool
+  pub offers : Shape → Block → Type 0
   pub seen : Table → Sight workers
 
 -- clusters, beside which no workers run
 abbrev pub clusters_seen : Sights
-clusters_seen = record { Table = Cluster; workers = false; seen = seen_of }
+clusters_seen = record { Table = Cluster; workers = false; offers = λ schema b. ⊤; seen = seen_of }
 
 -- a table with its name
 pub record NamedTable (e : Sights) : Type 0 where

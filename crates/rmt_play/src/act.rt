@@ -4,6 +4,7 @@ ghost use Rattle.rmt_sql_acts.specs.Acts.{HasSmallCommand};
 ghost use Rattle.rmt_state.specs.States.{IsNumber};
 ghost use Rattle.rmt_acting.specs.Acting.{MayAct, GoesOn, KeepsShape};
 ghost use Rattle.rmt_play.specs.ActSteps.{ExecutesIn, ExecutesThere, MayFetchFor};
+ghost use Rattle.rmt_play.specs.Offered.{OffersAct};
 
 use crate::insert::insert_in;
 use crate::mutation::alter_in;
@@ -30,6 +31,7 @@ fn act_in<E: Acting>(
     requires idle { MayAct (E.seen engine.old) replica }
     requires fetches { MayFetchFor (E.seen engine.old) replica act.now }
     requires small { HasSmallCommand act.now }
+    requires offered { OffersAct E.offers act.now }
     ensures executes { IfOk result (λ line.
         ExecutesIn (E.seen engine.old) replica act.now line (E.seen engine.new)) }
     ensures goes_on { OnOk result (GoesOn (E.seen engine.old) (E.seen engine.new)) }
@@ -68,6 +70,7 @@ pub(crate) fn act_at<E: Acting>(
     requires up { (E.seen engine.old).ups replica ≡ is_up }
     requires free { (E.seen engine.old).free }
     requires small { HasSmallCommand act.now }
+    requires offered { OffersAct E.offers act.now }
     ensures executes { IfOk result (λ line.
         ExecutesThere (E.seen engine.old) replica act.now line (E.seen engine.new)) }
     ensures goes_on { OnOk result (GoesOn (E.seen engine.old) (E.seen engine.new)) }

@@ -174,6 +174,8 @@ impl Engine for Clusters {
         turn_each(alloc, &mut self.all, replica, is_up)
     }
 
+    fn answered(&mut self) {}
+
     fn clear(&mut self) {
         self.all.clear();
     }

@@ -5,6 +5,7 @@ ghost use Rattle.rmt_model.specs.Words.{Each};
 ghost use Rattle.rmt_state.specs.States.{IsNumber};
 ghost use Rattle.rmt_sql_acts.specs.Acts.{HasSmallCommand};
 ghost use Rattle.rmt_play.specs.ActSteps.{ExecutesThere, RunsTable};
+ghost use Rattle.rmt_play.specs.Offered.{OffersAct};
 ghost use Rattle.rmt_play.specs.PlayerSteps.{Sights, IsReady, IsFreeThere, ChangesAt, TurnsEach};
 
 use rmt_reply::Line;
@@ -33,6 +34,7 @@ pub(crate) trait Engine {
         requires place { place < length (tables self.old) }
         requires ready { IsReady sights (tables self.old) place replica is_up }
         requires small { HasSmallCommand act.now }
+        requires offered { OffersAct sights.offers act.now }
         ensures { IfOk result (λ line. ChangesAt sights (tables self.old) place
             (λ s u. ExecutesThere s replica act.now line u) (tables self.new)) };
 
@@ -54,6 +56,10 @@ pub(crate) trait Engine {
     fn turn(&mut self, alloc: Global, replica: ReplicaId, is_up: bool) -> Result<(), AllocError>
         requires { Each (λ t. IsNumber replica (sights.seen t).count) (tables self.old) }
         ensures { OnOk result (TurnsEach sights replica is_up (tables self.old) (tables self.new)) };
+
+    /// Passes the point after the reply of the next statement was written.
+    fn answered(&mut self)
+        ensures { tables self.new ≡ tables self.old };
 
     /// Forgets the tables.
     fn clear(&mut self)

@@ -11,6 +11,7 @@ ghost use Rattle.rmt_columns.specs.RowsByColumn.{kinds_in};
 ghost use Rattle.rmt_statements.specs.declared.act.Act.TheVariants as acts;
 ghost use Rattle.rmt_play.specs.ActEvents.{InsertsBy};
 ghost use Rattle.rmt_play.specs.InsertStatement.{InsertsRows, need_of};
+ghost use Rattle.rmt_play.specs.Offered.{OffersAct, OffersRows};
 ghost use Rattle.rmt_play.specs.PlayerSteps.{HasRows, RefusesRows};
 ghost use Rattle.rmt_play.specs.ActSteps.{ExecutesIn};
 
@@ -95,6 +96,7 @@ fn insert_rows<E: Acting>(
     requires need { need ≢ 1 }
     requires fit { All (λ row. fits (E.seen engine.old).shape.columns row ≡ true) rows.rows }
     requires kinds { rows.kinds ≡ kinds_in (E.seen engine.old).shape.columns }
+    requires offered { OffersRows E.offers (E.seen engine.old).shape rows.rows }
     ensures inserts { IfOk result (λ line. Brings (E.seen engine.old)
         (λ t. InsertsRows E.workers (E.seen engine.old).ups t (asked_at replica need) rows.rows line)
         (E.seen engine.new)) }
@@ -118,6 +120,7 @@ pub(crate) fn insert_in<E: Acting>(
 ) -> Result<Line, AllocError>
     requires here { IsNumber replica (E.seen engine.old).count }
     requires idle { MayAct (E.seen engine.old) replica }
+    requires offered { OffersAct E.offers (acts.Insert insert.now) }
     ensures executes { IfOk result (λ line.
         ExecutesIn (E.seen engine.old) replica (acts.Insert insert.now) line (E.seen engine.new)) }
     ensures goes_on { OnOk result (GoesOn (E.seen engine.old) (E.seen engine.new)) }

@@ -16,6 +16,7 @@ ghost use Rattle.rmt_play.specs.Checks.{
 };
 ghost use Rattle.rmt_play.specs.Plays.{Counts, Creates};
 ghost use Rattle.rmt_play.specs.Shown.{Agrees, HasReplicas};
+ghost use Rattle.rmt_play.specs.Offered.{OffersAct, OffersStatement};
 ghost use Rattle.rmt_play.specs.PlayerSteps.{
   ActsAt,
   Answers,
@@ -319,6 +320,7 @@ impl<E: Engine> Player<E> {
         requires place { place < length (view_of E.sights E.tables self.old).tables }
         requires replica { IsNumber replica self.old.replicas }
         requires small { HasSmallCommand act.now }
+        requires offered { OffersAct E.sights.offers act.now }
         ensures sound { IsSound E.sights E.tables self.new }
         ensures acts { IfOk result (λ line.
             ActsAt (view_of E.sights E.tables self.old) place replica act.now line
@@ -394,6 +396,7 @@ impl<E: Engine> Player<E> {
     fn send(&mut self, alloc: Global, sent: &Sent) -> Result<Line, AllocError>
         requires sound { IsSound E.sights E.tables self.old }
         requires small { HasSmallCommand sent.now.act }
+        requires offered { OffersAct E.sights.offers sent.now.act }
         ensures sound { IsSound E.sights E.tables self.new }
         ensures moves { IfOk result (λ line. Moves (view_of E.sights E.tables self.old)
             (ExecutesSent E.sights.workers sent.now line) (view_of E.sights E.tables self.new)) }
@@ -435,6 +438,7 @@ impl<E: Engine> Player<E> {
         requires sound { IsSound E.sights E.tables self.old }
         requires played { statement_test (length (view_of E.sights E.tables self.old).tables) statement ≡ true }
         requires limits { KeepsLimits statement }
+        requires offered { OffersStatement E.sights.offers statement }
         ensures sound { IsSound E.sights E.tables self.new }
         ensures answers { IfOk result (λ a. Answers (view_of E.sights E.tables self.old)
             (ExecutesPlayed E.sights.workers statement) a (view_of E.sights E.tables self.new)) }
@@ -460,6 +464,15 @@ impl<E: Engine> Player<E> {
         }
     }
 
+    /// Passes the point after the reply of a statement.
+    pub(crate) fn answered(&mut self)
+        requires sound { IsSound E.sights E.tables self.old }
+        ensures sound { IsSound E.sights E.tables self.new }
+        ensures unchanged { view_of E.sights E.tables self.new ≡ view_of E.sights E.tables self.old }
+    {
+        self.engine.answered();
+    }
+
     /// Plays a statement that begins at this place of its script, but for a CREATE that meets no refusal.
     pub(crate) fn play(
         &mut self,
@@ -469,6 +482,7 @@ impl<E: Engine> Player<E> {
     ) -> Result<Answer, AllocError>
         requires sound { IsSound E.sights E.tables self.old }
         requires limits { KeepsLimits statement }
+        requires offered { OffersStatement E.sights.offers statement }
         ensures sound { IsSound E.sights E.tables self.new }
         ensures answers { IfOk result (λ a. Answers (view_of E.sights E.tables self.old)
             (Executes E.sights.workers statement start) a (view_of E.sights E.tables self.new)) }

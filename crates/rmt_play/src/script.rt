@@ -15,6 +15,7 @@ ghost use Rattle.std.specs.Prelude.{
 ghost use Rattle.rmt_sql.specs.declared.parsed.Parsed.TheVariants as parsed;
 ghost use Rattle.rmt_sql.specs.Script.{ReadsAt};
 ghost use Rattle.rmt_play.specs.Plays.{is_refused};
+ghost use Rattle.rmt_play.specs.Offered.{OffersScript};
 ghost use Rattle.rmt_play.specs.PlayerSteps.{Answers, StepsTo, IsSound, IsSoundIn, clusters_in, view_of};
 ghost use Rattle.rmt_reply.specs.Printed.{printed};
 ghost use Rattle.rmt_play.specs.declared.progress.Progress.TheVariants as progress;
@@ -82,6 +83,7 @@ fn next_answer<E: Engine>(
 ) -> Result<Option<(Answer, usize)>, AllocError>
     requires within { at ≤ length script.now }
     requires sound { IsSound E.sights E.tables player.old }
+    requires offered { OffersScript E.sights.offers script.now }
     ensures step { IfOk result (λ next. MatchOption next
         (ReadsAt script.now at parsed.End × (player.new ≡ player.old))
         (λ x. Answers (view_of E.sights E.tables player.old)
@@ -128,6 +130,29 @@ fn write_reply<K: Sink>(alloc: Global, line: &Line, end: usize, sink: &mut K) ->
     }
 }
 
+/// Writes the reply of a statement, after which the script goes on at a place, and passes the point after it.
+fn reply_with<E: Engine, K: Sink>(
+    alloc: Global,
+    player: &mut Player<E>,
+    line: &Line,
+    end: usize,
+    sink: &mut K,
+) -> Progress
+    requires sound { IsSound E.sights E.tables player.old }
+    ensures sound { IsSound E.sights E.tables player.new }
+    ensures unchanged { view_of E.sights E.tables player.new ≡ view_of E.sights E.tables player.old }
+    ensures reply { IsReply line.now end (K.written sink.old) (K.written sink.new) result }
+    ensures cause { result ≡ progress.WriteFault → Rose (K.faults sink.old) (K.faults sink.new) }
+    ensures quiet { result ≢ progress.WriteFault → K.faults sink.new ≡ K.faults sink.old }
+    ensures later { K.faults sink.old ≤ K.faults sink.new }
+{
+    let written = write_reply(alloc, line, end, sink);
+    if matches!(written, Progress::On { .. }) {
+        player.answered();
+    }
+    written
+}
+
 /// Plays the next statement, but for a CREATE that meets no refusal, and writes its reply.
 fn play_next<E: Engine, K: Sink>(
     alloc: Global,
@@ -138,6 +163,7 @@ fn play_next<E: Engine, K: Sink>(
 ) -> Progress
     requires sound { IsSound E.sights E.tables player.old }
     requires within { at ≤ length script.now }
+    requires offered { OffersScript E.sights.offers script.now }
     ensures sound { IsSound E.sights E.tables player.new }
     ensures progress { IsProgress script.now at (view_of E.sights E.tables player.old)
         (view_of E.sights E.tables player.new)
@@ -148,7 +174,7 @@ fn play_next<E: Engine, K: Sink>(
 {
     match next_answer(alloc, player, script, at) {
         Ok(Some((answer, end))) => match answer {
-            Answer::Reply(line) => write_reply(alloc, &line, end, sink),
+            Answer::Reply(line) => reply_with(alloc, player, &line, end, sink),
             Answer::Creates { table, schema } => Progress::Creates { table, schema, end },
         },
         Ok(None) => Progress::AtEnd,
@@ -169,6 +195,7 @@ fn play_round<E: Engine, K: Sink>(
     requires sound { IsSound E.sights E.tables player.old }
     requires within { from ≤ length script.now }
     requires few { count ≤ from }
+    requires offered { OffersScript E.sights.offers script.now }
     ensures sound { IsSound E.sights E.tables player.new }
     ensures round { IsRound script.now from count (view_of E.sights E.tables player.old)
         (view_of E.sights E.tables player.new)

@@ -6,6 +6,7 @@ use Rattle.rmt_statements.specs.declared.mode.Mode.TheVariants as modes
 use Rattle.rmt_sql_acts.specs.Acts.{HasSmallCommand}
 use Rattle.rmt_play.specs.ActRefusals.{syncs_first}
 use Rattle.rmt_play.specs.ActSteps.{ExecutesIn}
+use Rattle.rmt_play.specs.Offered.{OffersAct}
 use Rattle.rmt_play.proofs.CommandLemmas.{on-line}
 use Rattle.rmt_play.proofs.act.act_in.Goals as goal
 
@@ -106,6 +107,9 @@ returns-in-StartFetches-clause-executes g c =
     let u = g.E.Acting.seen c.switch_in-in-StartFetches.new.engine in
     subst (λ (a : Act). IfOk c.switch_in-in-StartFetches.result (λ line. ExecutesIn s c.args.replica a line u)) (sym c.in-StartFetches.is)
     (on-line c.switch_in-in-StartFetches.result _ _ (λ line f. f c.in-StartFetches.table) c.switch_in-in-StartFetches.ensures.executes)
+
+pub insert_in-requires-clause-offered : goal.insert_in-requires-clause-offered
+insert_in-requires-clause-offered g c = subst (λ (a : Act). OffersAct g.E.Acting.offers a) c.in-Insert.is c.requires.offered
 
 pub alter_in-requires-clause-small : goal.alter_in-requires-clause-small
 alter_in-requires-clause-small g c = subst HasSmallCommand c.in-Mutate.is c.requires.small

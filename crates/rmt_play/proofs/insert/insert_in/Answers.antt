@@ -4,12 +4,19 @@ use Rattle.rmt_columns.specs.RowsByColumn.{kinds_in}
 use Rattle.rmt_play.proofs.ActLemmas.{found-rows, inserts-all-in, rows-refused}
 use Rattle.rmt_play.specs.PlayerSteps.{RefusesRows}
 use Rattle.rmt_play.proofs.CommandLemmas.{found-holds, found-fails}
+use Rattle.rmt_play.proofs.OfferLemmas.{offers-rows}
 use Rattle.rmt_play.proofs.insert.insert_in.Goals as goal
 
 pub insert_rows-requires-clause-kinds : goal.insert_rows-requires-clause-kinds
 insert_rows-requires-clause-kinds g c =
     found-holds c.in_ok-rows.field-0 c.in-Ok.rows (λ rows. rows.kinds ≡ kinds_in c.schema.result.now.columns) c.in-Ok.is c.in_ok-rows.ensures.kinds
     ∙ ap (λ (s : Shape). kinds_in s.columns) c.schema.ensures
+
+pub insert_rows-requires-clause-offered : goal.insert_rows-requires-clause-offered
+insert_rows-requires-clause-offered g c =
+    let s = g.E.Acting.seen c.args.engine.now in
+    offers-rows g.E.Acting.offers s.shape c.args.insert.now c.in-Ok.rows.rows c.requires.offered
+    (found-rows c.in_ok-rows.field-0 (λ rows. rows.rows) c.in-Ok.rows c.schema.result.now s.shape c.args.insert.now c.schema.ensures c.in-Ok.is c.in_ok-rows.ensures.ok).read
 
 pub returns-in-Ok-clause-executes : goal.returns-in-Ok-clause-executes
 returns-in-Ok-clause-executes g c =

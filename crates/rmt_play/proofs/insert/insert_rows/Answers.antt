@@ -10,6 +10,10 @@ insert_blocks-requires-clause-fit g c =
     let s = g.E.Acting.seen c.args.engine.now in
     split-fits s.shape c.args.rows.rows c.in_ok-blocks.blocks.items (subst (λ (x : Shape). IsSplit x c.args.rows.rows c.in_ok-blocks.blocks.items) c.schema.ensures c.in_ok-blocks.ensures.split) c.requires.fit
 
+pub insert_blocks-requires-clause-offered : goal.insert_blocks-requires-clause-offered
+insert_blocks-requires-clause-offered g c =
+    c.requires.offered c.in_ok-blocks.blocks.items (subst (λ (x : Shape). IsSplit x c.args.rows.rows c.in_ok-blocks.blocks.items) c.schema.ensures c.in_ok-blocks.ensures.split)
+
 pub returns-clause-inserts : goal.returns-clause-inserts
 returns-clause-inserts g c =
     let s = g.E.Acting.seen c.args.engine.now in

@@ -7,6 +7,10 @@ use Rattle.rmt_play.specs.PlayerSteps.{StepsTo, view_of}
 use Rattle.rmt_play.proofs.TableLemmas.{stays}
 use Rattle.rmt_play.proofs.script.next_answer.Goals as goal
 
+pub play-requires-clause-offered : goal.play-requires-clause-offered
+play-requires-clause-offered g c =
+    c.requires.offered c.args.at c.in-Statement.statement c.in-Statement.start c.in-Statement.end (subst (ReadsAt c.args.script.now c.args.at) c.in-Statement.is c.in_ok-next_statement.ensures.reads)
+
 pub returns-in-Syntax-clause-step : goal.returns-in-Syntax-clause-step
 returns-in-Syntax-clause-step g c =
     let e = g.E.Engine.sights in

@@ -1,10 +1,10 @@
-use Rattle.std.proofs.Common.{◌≡◌, ◌≤◌, ◌<◌, ℕ, length, subst, refl}
+use Rattle.std.proofs.Common.{◌≡◌, ◌≤◌, ◌<◌, ℕ, length, subst, sym, refl}
 use Rattle.std.specs.Prelude.{MatchOption, IfSome}
 use Rattle.std.specs.declared.option.Option.{Option}
 use Rattle.rmt_sql.specs.declared.parsed.Parsed.TheVariants as parsed
 use Rattle.rmt_sql.specs.Script.{ReadsAt}
 use Rattle.rmt_play.specs.declared.answer.Answer.{Answer}
-use Rattle.rmt_play.specs.PlayerSteps.{view_of, Answers, StepsTo}
+use Rattle.rmt_play.specs.PlayerSteps.{PlayerView, view_of, Answers, Moves, StepsTo}
 use Rattle.rmt_play.proofs.ScriptLemmas.{reply-progress}
 use Rattle.rmt_play.proofs.script.play_next.Goals as goal
 
@@ -13,7 +13,8 @@ returns-in-Reply-clause-progress g c =
     let step = subst (λ (o : Option (Answer × ℕ)). MatchOption o (ReadsAt c.args.script.now c.args.at parsed.End × (c.next_answer.new.player ≡ c.args.player.now)) (λ x. Answers (view_of g.E.Engine.sights g.E.Engine.tables c.args.player.now) (StepsTo g.E.Engine.sights.workers c.args.script.now c.args.at x.1) x.0 (view_of g.E.Engine.sights g.E.Engine.tables c.next_answer.new.player))) c.in-Ok-Some.field-0-is c.in-Ok-Some.ensures.step in
     let further = subst (λ (o : Option (Answer × ℕ)). IfSome o (λ x. (c.args.at < x.1) × (x.1 ≤ length c.args.script.now))) c.in-Ok-Some.field-0-is c.in-Ok-Some.ensures.further in
     let told = subst (λ (a : Answer). Answers (view_of g.E.Engine.sights g.E.Engine.tables c.args.player.now) (StepsTo g.E.Engine.sights.workers c.args.script.now c.args.at c.in-Ok-Some.end) a (view_of g.E.Engine.sights g.E.Engine.tables c.next_answer.new.player)) c.in-Reply.is step in
-    reply-progress c.args.script.now c.args.at c.in-Ok-Some.end c.in-Reply.line (view_of g.E.Engine.sights g.E.Engine.tables c.args.player.now) (view_of g.E.Engine.sights g.E.Engine.tables c.next_answer.new.player) _ _ c.write_reply.result c.write_reply.ensures.reply told further.0 further.1
+    let moved = subst (λ (v : PlayerView g.E.Engine.sights). Moves (view_of g.E.Engine.sights g.E.Engine.tables c.args.player.now) (StepsTo g.E.Engine.sights.workers c.args.script.now c.args.at c.in-Ok-Some.end c.in-Reply.line) v) (sym c.reply_with.ensures.unchanged) told in
+    reply-progress c.args.script.now c.args.at c.in-Ok-Some.end c.in-Reply.line (view_of g.E.Engine.sights g.E.Engine.tables c.args.player.now) (view_of g.E.Engine.sights g.E.Engine.tables c.reply_with.new.player) _ _ c.reply_with.result c.reply_with.ensures.reply moved further.0 further.1
 
 pub returns-in-Creates-clause-progress : goal.returns-in-Creates-clause-progress
 returns-in-Creates-clause-progress g c =

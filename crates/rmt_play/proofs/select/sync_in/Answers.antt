@@ -25,7 +25,7 @@ returns-in_ok-tuples-in-Ok-clause-executes g c =
     (found-checked c.in_ok-query.field-0 c.in-Ok.query c.schema.result.now s.shape c.args.query.now c.schema.ensures c.in-Ok.is c.in_ok-query.ensures.ok)
     (subst (λ (o : Option Refusal). Brings s (SyncsOr s.ups c.args.replica o) m) none c.in_ok-refusal-in-Ok.ensures.syncs)
     (λ n. subst (λ (o : Option Refusal). SyncEvents s.cluster c.args.replica o m.cluster) none (c.in_ok-refusal-in-Ok.ensures.events n))
-    c.answer_up_to_date.ensures.shown c.answer_up_to_date.ensures.leaves.events (λ t h k. c.new.ensures ∙ c.in_ok-tuples-in-Ok.ensures.answers t h k)
+    c.in_ok-tuples-in-Ok.ensures.shown c.answer_up_to_date.ensures.leaves.events (λ t h k. c.new.ensures ∙ c.in_ok-tuples-in-Ok.ensures.answers t h k)
 
 pub returns-in-Some-clause-executes : goal.returns-in-Some-clause-executes
 returns-in-Some-clause-executes g c =

@@ -3,6 +3,7 @@ use Rattle.std.specs.Prelude.{IfOk}
 use Rattle.rmt_sql.specs.Script.{KeepsLimits}
 use Rattle.rmt_play.specs.PlayerSteps.{Answers, Moves, ExecutesPlayed, view_of}
 use Rattle.rmt_statements.specs.declared.statement.Statement.{Statement}
+use Rattle.rmt_play.specs.Offered.{OffersStatement}
 use Rattle.rmt_play.specs.Checks.{rule_given, granularity_of, window_of, schema_refused, schema_made}
 use Rattle.rmt_play.proofs.CreateLemmas.{create-played, replied-answers}
 use Rattle.rmt_play.proofs.SchemaLemmas.{create-refusable}
@@ -16,6 +17,9 @@ create-requires-clause-refused g c =
 
 pub send-requires-clause-small : goal.send-requires-clause-small
 send-requires-clause-small g c = subst KeepsLimits c.in-At.is c.requires.limits
+
+pub send-requires-clause-offered : goal.send-requires-clause-offered
+send-requires-clause-offered g c = subst (λ (s : Statement). OffersStatement g.E.Engine.sights.offers s) c.in-At.is c.requires.offered
 
 pub returns-in-Kill-clause-answers : goal.returns-in-Kill-clause-answers
 returns-in-Kill-clause-answers g c = replied-answers (view_of g.E.Engine.sights g.E.Engine.tables c.args.self.now) (view_of g.E.Engine.sights g.E.Engine.tables c.kill.new.self) (ExecutesPlayed g.E.Engine.sights.workers c.args.statement) c.kill.result c.replied.result c.replied.ensures
