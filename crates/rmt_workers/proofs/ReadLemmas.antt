@@ -3,11 +3,8 @@ use Rattle.std.proofs.Common.{◌≡◌, inl, inr, ℕ, Bool, true, false, List,
 use Rattle.rmt_values.specs.Rows.{Shape}
 use Rattle.rmt_values.specs.declared.checked_query.CheckedQuery.{CheckedQuery}
 use Rattle.rmt_entries.specs.declared.entry.Entry.{Entry}
-use Rattle.rmt_model.specs.Words.{Each}
 use Rattle.rmt_model.specs.Content.{Row}
 use Rattle.rmt_model.specs.Lawful.{Lawful, is_mutation}
-use Rattle.rmt_model.specs.EntryLimits.{is_client}
-use Rattle.rmt_model.specs.Fair.{AllMarked}
 use Rattle.rmt_partset.specs.Snapshots.{NamedData, names_in}
 use Rattle.rmt_query.specs.Answers.{answer_of}
 use Rattle.rmt_query.specs.ReadRows.{rows_read}
@@ -19,14 +16,13 @@ use Rattle.rmt_events.proofs.Copies.{lawful-behind}
 use Rattle.rmt_table_model.specs.Held.{Held}
 use Rattle.rmt_replica.specs.Replicas.{ReplicaView}
 use Rattle.rmt_statement_model.specs.TableStates.{TableState, plain_rows, shown_at}
-use Rattle.rmt_statement_model.specs.BackgroundWork.{IsOfWorker}
 use Rattle.rmt_statement_model.specs.Rests.{Rests}
-use Rattle.rmt_statement_model.specs.Reads.{IsReading, KnowsAll}
+use Rattle.rmt_statement_model.specs.Reads.{IsReading}
 use Rattle.rmt_statement_model.specs.ActOutcomes.{ReadsParts}
-use Rattle.rmt_statement_model.proofs.ReadLaws.{all-mutations-read, plain-read}
-use Rattle.rmt_statement_model.proofs.WorkerEntries.{not-client, rows-stay}
+use Rattle.rmt_statement_model.proofs.ReadLaws.{all-mutations-read}
+use Rattle.rmt_statement_model.proofs.WorkerEntries.{rows-stay}
 use Rattle.rmt_clients.specs.Clients.{Client, ClientsMarked, KnowsTable, RestsAnd, StepsTo, after_work, known_table}
-use Rattle.rmt_clients.proofs.ClientReadings.{client-read, reads-own}
+use Rattle.rmt_clients.proofs.ClientReadings.{client-read, marked-gained, reads-own}
 use Rattle.rmt_readings.specs.Readable.{AnswersAll}
 use Rattle.rmt_readings.proofs.CallerLemmas.{reads-step}
 use Rattle.rmt_shared.specs.SharedTables.{NamedTable}
@@ -37,36 +33,27 @@ use Rattle.rmt_workers.proofs.StepLemmas.{Looked, sees-then-steps}
 
 -- ---- what is answered
 
--- where each place was known, each entry of a client is, whatever workers appended since
-known-among : (gained log : List Entry) (marked : ℕ → Bool) → Each IsOfWorker gained → AllMarked log marked → ClientsMarked (gained ++ log) marked
-known-among [] [] marked w all = tt
-known-among [] (e ∷ log) marked w all = (λ c. all (length log) (omega arith), known-among [] log marked tt (λ i l. all i (omega (arith, l))))
-known-among (e ∷ gained) log marked w all = ((λ q. no-client (is_client e) (not-client e w.0) q), known-among gained log marked w.1 all)
-  where
-    no-client : {A : Type 0} (b : Bool) → b ≡ false → b ≡ true → A
-    no-client b f q = absurd (cc)
-
 -- parts that are read after a rest answer what is answered over the plain rows of before
-read-still : (t at : TableState) (r : ℕ) (parts : List NamedData) (query : CheckedQuery) → Lawful t.schema t.log → KnowsAll t r → Rests true t at → IsReading at r parts → answer_of t.schema query (rows_read (filter is_mutation t.log) parts) ≡ answer_of t.schema query (plain_rows t)
-read-still t at r parts query l all (inl e) i =
+read-still : (t at : TableState) (r : ℕ) (parts : List NamedData) (query : CheckedQuery) → Lawful t.schema t.log → ClientsMarked t.log (t.known r) → Rests true t at → IsReading at r parts → answer_of t.schema query (rows_read (filter is_mutation t.log) parts) ≡ answer_of t.schema query (plain_rows t)
+read-still t at r parts query l clients (inl e) i =
     ap (answer_of t.schema query) (all-mutations-read t.log parts)
-    ∙ one-answer t.schema query (rows_read t.log parts) (plain_rows t) (plain-read t r parts l (subst (λ (s : TableState). IsReading s r parts) e i) all)
-read-still t at r parts query l all (inr h) i =
+    ∙ one-answer t.schema query (rows_read t.log parts) (plain_rows t) (client-read t r parts l (subst (λ (s : TableState). IsReading s r parts) e i) clients)
+read-still t at r parts query l clients (inr h) i =
     let gained = h.works.gained in
     let later = after_work gained h.works.noted t in
     ap (answer_of t.schema query) (reads-own gained t.log parts h.works.workers)
     ∙ one-answer t.schema query (rows_read (gained ++ t.log) parts) (plain_rows t)
     (subst (λ (rows : List Row). SameBag (rows_read (gained ++ t.log) parts) rows) (rows-stay gained t.log (rows_at t.blocks) h.works.workers)
-    (client-read later r parts h.works.lawful (subst (λ (s : TableState). IsReading s r parts) h.works.change i) (known-among gained t.log (t.known r) h.works.workers all)))
+    (client-read later r parts h.works.lawful (subst (λ (s : TableState). IsReading s r parts) h.works.change i) (marked-gained gained t.log (t.known r) h.works.workers clients)))
 
--- what can be read answers what is answered over the plain rows, where each place was known
+-- what can be read answers what is answered over the plain rows, where each entry of a client was known
 pub read-answers : (O : Block → Type 0) (p : Client) (r : ℕ) (parts : List NamedData) → Lawful p.schema p.log → MayRead O p r parts → AnswersAll O p r parts
-read-answers O p r parts l m clear t f all query =
+read-answers O p r parts l m clear t f clients query =
     let s : RestsAnd O m.noting (ReadsParts r parts) t = m.steps clear t f in
     let lawful : Lawful t.schema t.log = subst (λ (x : Shape). Lawful x t.log) f.knows.schema (subst (λ (x : List Entry). Lawful p.schema x) f.knows.log l) in
     ap (λ (x : Shape). answer_of x query (rows_read (filter is_mutation p.log) parts)) f.knows.schema
     ∙ (ap (λ (x : List Entry). answer_of t.schema query (rows_read (filter is_mutation x) parts)) f.knows.log
-    ∙ read-still t s.at r parts query lawful all s.rests s.comes.change.reading)
+    ∙ read-still t s.at r parts query lawful clients s.rests s.comes.change.reading)
 
 -- ---- what can be read
 

@@ -4,3 +4,5 @@ pub mod Crews
 pub mod CrewInserts
 pub mod CrewOptimizes
 pub mod CrewWaits
+pub mod Closing
+pub mod Settled

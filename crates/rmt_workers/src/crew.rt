@@ -4,7 +4,9 @@ ghost use Rattle.rmt_pass.specs.Passes.{KeepsPass, SeesTable};
 ghost use Rattle.rmt_pass.specs.Passes.{client_at, up_in};
 ghost use Rattle.rmt_workers.specs.Crews.{IsReplicaAt, IsSetAsKnown};
 
+mod begin;
 mod changes;
+mod close;
 mod copies;
 mod drain;
 mod entries;
@@ -25,7 +27,7 @@ use std::sync::atomic::AtomicBool;
 use std::sync::{Mutex, MutexGuard, Wait};
 
 /// Takes a replica of the table at a place up or down, and allows or stops its fetches, as the client has it.
-fn set_as_known<N: Naming>(pass: &Pass<N>, table: usize, here: &mut SharedReplica<N>)
+pub(crate) fn set_as_known<N: Naming>(pass: &Pass<N>, table: usize, here: &mut SharedReplica<N>)
     requires { table < length pass.now.tables }
     ensures is { IsSetAsKnown pass.now table here.old here.new }
 {
@@ -57,20 +59,6 @@ pub struct Crew<N: Naming> {
 }
 
 impl<N: Naming> Crew<N> {
-    /// The locks round these tables and their replicas: those of the first table first, and of each table the first one first.
-    pub fn new(
-        alloc: Global,
-        tables: SharedTables<N>,
-        replicas: Vec<Vec<Mutex<SharedReplica<N>>>>,
-    ) -> Crew<N> {
-        Crew {
-            tables: Mutex::new(tables),
-            replicas,
-            stopped: AtomicBool::new(false),
-            alloc,
-        }
-    }
-
     /// Locks the tables once the client goes on from what it knows of the one at a place, and takes over what lies there.
     ///
     /// At an error no memory was left, now or before.

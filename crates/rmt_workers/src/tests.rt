@@ -1,10 +1,10 @@
-ghost use Rattle.std.specs.Prelude.{◌≡◌, ◌≢◌, ◌<◌, ◌∷◌, [], ⊤, true, length, IfOk};
+ghost use Rattle.std.specs.Prelude.{◌≡◌, ◌≢◌, ◌<◌, ⊤, true, length, map, IfOk};
 ghost use Rattle.std.specs.List.{All};
 ghost use Rattle.std.specs.Arc.{arc_value};
 ghost use Rattle.rmt_values.specs.Rows.{fits};
 ghost use Rattle.rmt_events.specs.Views.{Block as AnyBlock};
-ghost use Rattle.rmt_shared.specs.SharedTables.{HasBlocks, name_at, named};
-ghost use Rattle.rmt_shared.specs.SharedReplicas.{IsSharedReplica};
+ghost use Rattle.rmt_shared.specs.SharedTables.{name_at, named};
+ghost use Rattle.rmt_workers.specs.Closing.{AreAtRest};
 
 use super::*;
 use rmt_block::Block;
@@ -12,15 +12,14 @@ use rmt_columns::Rows;
 use rmt_known::KnownTable;
 use rmt_outside::Open;
 use rmt_pass::Pass;
-use rmt_replica::Replica;
 use rmt_reply::Piece;
-use rmt_shared::{Naming, SharedReplica, SharedTables};
-use rmt_table::TableTree;
-use rmt_values::{Column, Kind, Name, ReplicaId, Row as ValueRow, Schema, Value};
+use rmt_shared::Naming;
+use rmt_state::State;
+use rmt_values::{Column, Kind, Name, Row as ValueRow, Schema, Value};
 use std::alloc::{AllocError, Global};
 use std::marker::Brand;
 use std::sync::ledger::Blank;
-use std::sync::{Arc, Mutex, Wait};
+use std::sync::{Arc, Wait};
 use std::test::Fail;
 
 /// The only column, `c` of UInt64, which is the key.
@@ -56,44 +55,21 @@ fn block_of(alloc: Global, schema: &Schema, number: u64) -> Result<Arc<Block, Gl
     Ok(shared)
 }
 
-/// The locks of a replica of the first table.
-fn replica_of<N: Naming>(
-    alloc: Global,
-    number: ReplicaId,
-    schema: Arc<Schema, Global>,
-) -> Mutex<SharedReplica<N>>
-    requires { IsSharedReplica N.tables N.replicas N.offered (record { table = 0; replica = record { number = number; up = true; fetches = true; schema = arc_value schema; log = []; cells = []; done = []; parts = []; staged = []; noted = [] } }) }
+/// A table of two replicas without entries, and what a client knows of it.
+fn carried_of(alloc: Global, schema: &Arc<Schema, Global>) -> Result<Carried, Fail>
+    ensures rest { IfOk result (λ c. AreAtRest (λ k b. ⊤) c.up.items c.known.items c.states.items) }
+    ensures two { IfOk result (λ c. length c.up.items ≡ 2) }
+    ensures one { IfOk result (λ c. length c.states.items ≡ 1) }
+    ensures schema { IfOk result (λ c. (name_at (map (λ s. named s.tree) c.states.items) 0).schema ≡ arc_value schema.now) }
 {
-    let replica = Replica::new(alloc, number, schema, true);
-    Mutex::new(SharedReplica::<N>::new(0, replica))
-}
-
-/// The locks of the only table and of its two replicas, and its client.
-fn crew_of<N: Naming>(
-    alloc: Global,
-    table: TableTree,
-    entries: Blank,
-) -> Result<(Crew<N>, Pass<N>), Fail>
-    requires named { named table ∷ [] ≡ N.tables }
-    requires sessions { length table.sessions ≡ N.replicas }
-    requires two { N.replicas ≡ 2 }
-    requires empty { table.log ≡ [] }
-    requires blocks { HasBlocks (N.offered 0) table }
-    requires name { entries.name ≡ N.entries_name }
-    requires parts { entries.parts ≡ N.parts }
-    requires whole { 0 < N.parts }
-{
-    let known = KnownTable::new(alloc, table.schema().clone()?, 2)?;
-    let first = replica_of::<N>(alloc, 1, table.schema().clone()?);
-    let second = replica_of::<N>(alloc, 2, table.schema().clone()?);
-    let locks = vec![in alloc; first, second]?;
-    let replicas = vec![in alloc; locks]?;
+    let shared = Arc::try_clone(schema)?;
+    let own = KnownTable::new(alloc, shared, 2)?;
+    let same = Arc::try_clone(schema)?;
+    let state = State::new(alloc, same, &[true, true])?;
     let up = vec![in alloc; true, true]?;
-    let knowns = vec![in alloc; known]?;
-    let tables = vec![in alloc; table]?;
-    let (tables, all) = SharedTables::<N>::open(tables, entries);
-    let pass = Pass::<N>::new(knowns, up, all);
-    Ok((Crew::new(alloc, tables, replicas), pass))
+    let known = vec![in alloc; own]?;
+    let states = vec![in alloc; state]?;
+    Ok(Carried { states, known, up })
 }
 
 /// Inserts the block of a number at the first replica, which is to be at so many.
@@ -147,53 +123,45 @@ fn work<N: Naming>(rt: &impl Wait, crew: &Crew<N>, turns: usize) -> Result<(), F
 }
 
 /// Two blocks are inserted, the first one twice and the second one at two replicas; then they are merged. Gives how many
-/// parts the second replica had before, and has then.
+/// parts the second replica had before, and has then, and how many tables are handed back.
 fn day<N: Naming>(
     rt: &impl Wait,
     alloc: Global,
-    table: TableTree,
+    schema: &Schema,
+    carried: Carried,
     entries: Blank,
-) -> Result<(usize, usize), Fail>
-    requires named { named table ∷ [] ≡ N.tables }
-    requires sessions { length table.sessions ≡ N.replicas }
+) -> Result<(usize, usize, usize), Fail>
+    requires named { map (λ s. named s.tree) carried.states.items ≡ N.tables }
+    requires rest { AreAtRest N.offered carried.up.items carried.known.items carried.states.items }
+    requires ups { length carried.up.items ≡ N.replicas }
+    requires one { length carried.states.items ≡ 1 }
     requires two { N.replicas ≡ 2 }
-    requires empty { table.log ≡ [] }
-    requires blocks { HasBlocks (N.offered 0) table }
+    requires schema { schema.now ≡ (name_at N.tables 0).schema }
     requires offered { (b : AnyBlock) → N.offered 0 b }
     requires name { entries.name ≡ N.entries_name }
     requires parts { entries.parts ≡ N.parts }
     requires whole { 0 < N.parts }
 {
-    let schema = table.schema().clone()?;
-    let (crew, mut pass) = crew_of::<N>(alloc, table, entries)?;
-    insert(rt, alloc, &crew, &mut pass, &schema, 7, 0)?;
-    let Piece::Duplicate(_) = insert(rt, alloc, &crew, &mut pass, &schema, 7, 0)? else {
+    let (crew, mut pass) = Crew::<N>::new(alloc, carried, entries)?;
+    insert(rt, alloc, &crew, &mut pass, schema, 7, 0)?;
+    let Piece::Duplicate(_) = insert(rt, alloc, &crew, &mut pass, schema, 7, 0)? else {
         return Err("written twice".into());
     };
-    let Piece::Part(_) = insert(rt, alloc, &crew, &mut pass, &schema, 8, 2)? else {
+    let Piece::Part(_) = insert(rt, alloc, &crew, &mut pass, schema, 8, 2)? else {
         return Err("not written".into());
     };
     let before = count_parts(rt, &crew, &mut pass)?;
     work(rt, &crew, 6)?;
     let after = count_parts(rt, &crew, &mut pass)?;
-    Ok((before, after))
-}
-
-/// A table of two replicas, without entries.
-fn table_of(alloc: Global) -> Result<TableTree, Fail>
-    ensures sessions { IfOk result (λ table. length table.sessions ≡ 2) }
-    ensures empty { IfOk result (λ table. table.log ≡ []) }
-    ensures blocks { IfOk result (λ table. HasBlocks (λ b. ⊤) table) }
-{
-    let schema = schema_of(alloc)?;
-    let table = TableTree::new(alloc, schema, 2)?;
-    Ok(table)
+    let carried = crew.close(rt, pass)?;
+    Ok((before, after, carried.states.len()))
 }
 
 #[test]
 fn blocks_reach_another_replica_and_are_merged(rt: HostRuntime) -> Result<(), Fail> {
-    let table = table_of(rt.alloc())?;
-    let parts = day::<Brand>(&rt, rt.alloc(), table, Blank::new(1))?;
-    assert!(rt; parts == (2, 1));
+    let schema = schema_of(rt.alloc())?;
+    let carried = carried_of(rt.alloc(), &schema)?;
+    let parts = day::<Brand>(&rt, rt.alloc(), &schema, carried, Blank::new(1))?;
+    assert!(rt; parts == (2, 1, 1));
     Ok(())
 }

@@ -91,6 +91,8 @@ impl<N: Naming> Crew<N> {
             (λ found. TakesStep N.offered pass.old table (ReadsQuorum replica found) pass.new)) }
         ensures keys { IfOk result (λ read. IfSome read (λ found. IfOk found
             (All (λ part. part.rows.key ≡ (name_at N.tables table).schema.key)))) }
+        ensures bytes { IfOk result (λ read. IfSome read (λ found. IfOk found
+            (All (λ part. HasPartBytes (name_at N.tables table).schema part.rows)))) }
         ensures err { OnErr result (KeepsPass pass.old table pass.new) }
     {
         let guard = self.lock_known(rt, pass, table, replica);
@@ -116,6 +118,7 @@ impl<N: Naming> Crew<N> {
         requires table { table < length pass.old.tables }
         ensures reads { IfOk result (λ found. TakesStep N.offered pass.old table (ReadsQuorum replica found) pass.new) }
         ensures keys { IfOk result (λ found. IfOk found (All (λ part. part.rows.key ≡ (name_at N.tables table).schema.key))) }
+        ensures bytes { IfOk result (λ found. IfOk found (All (λ part. HasPartBytes (name_at N.tables table).schema part.rows))) }
         ensures err { OnErr result (KeepsPass pass.old table pass.new) }
     {
         'tries: for _ in rt.forever() {
