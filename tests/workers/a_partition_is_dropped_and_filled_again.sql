@@ -1,0 +1,8 @@
+-- DROP PARTITION: its blocks and their ids are gone, and its numbers go on.
+CREATE TABLE t (c UInt64) ENGINE = ReplicatedMergeTree PARTITION BY c ORDER BY c;
+INSERT INTO t VALUES (1), (2);
+ALTER TABLE t DROP PARTITION 1;
+@r2 SELECT c FROM t SYNC;
+INSERT INTO t VALUES (1);
+ALTER TABLE t DROP PARTITION 3;
+@r2 SELECT c FROM t SYNC;

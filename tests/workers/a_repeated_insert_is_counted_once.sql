@@ -1,0 +1,20 @@
+-- INSERT: a block that is repeated, at another replica and after others too, is known.
+CREATE TABLE t (c UInt64, s String) ENGINE = ReplicatedMergeTree ORDER BY c;
+@r1 INSERT INTO t VALUES (0, 'x');
+@r2 INSERT INTO t VALUES (1, 'x');
+@r1 INSERT INTO t VALUES (2, 'x');
+@r2 INSERT INTO t VALUES (3, 'x');
+@r1 INSERT INTO t VALUES (4, 'x');
+@r2 INSERT INTO t VALUES (5, 'x');
+@r1 INSERT INTO t VALUES (6, 'x');
+@r2 INSERT INTO t VALUES (7, 'x');
+@r2 INSERT INTO t VALUES (0, 'x');
+@r1 INSERT INTO t VALUES (1, 'x');
+@r2 INSERT INTO t VALUES (2, 'x');
+@r1 INSERT INTO t VALUES (3, 'x');
+@r2 INSERT INTO t VALUES (4, 'x');
+@r1 INSERT INTO t VALUES (5, 'x');
+@r2 INSERT INTO t VALUES (6, 'x');
+@r1 INSERT INTO t VALUES (7, 'x');
+SELECT count(), sum(c) FROM t SYNC;
+@r2 SELECT count(), sum(c) FROM t SYNC;

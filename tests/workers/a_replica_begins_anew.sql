@@ -1,0 +1,8 @@
+-- SYSTEM RESTART REPLICA: the replica keeps its parts.
+CREATE TABLE t (c UInt64, s String) ENGINE = ReplicatedMergeTree ORDER BY c;
+INSERT INTO t VALUES (1, 'a');
+SYSTEM RESTART REPLICA t;
+SELECT c FROM t;
+INSERT INTO t VALUES (1, 'a');
+@r2 SYSTEM RESTART REPLICA t;
+@r2 SELECT c FROM t SYNC;

@@ -1,0 +1,1 @@
+-- Workers with nothing to do: an empty script.
