@@ -1,0 +1,4 @@
+pub mod RestedTables
+pub mod ThreadedLemmas
+pub mod InsertLemmas
+pub mod ReadLemmas
