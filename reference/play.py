@@ -694,6 +694,19 @@ class World:
     def __init__(self):
         self.replicas, self.down, self.tables, self.lines, self.refused = 2, set(), {}, [], 0
 
+    def take(self, statement):
+        """Plays a statement, or says why it isn't played."""
+        try:
+            if isinstance(statement, Refusal):
+                raise statement
+            self.play(statement)
+        except Refusal as refusal:
+            self.lines.append(refusal.line)
+            self.refused += 1
+
+    def code(self):
+        return 2 if self.refused else 0
+
     def play(self, statement):
         """A statement and what it says; an act is sent to a replica."""
         if statement[0] == "replicas":
@@ -720,8 +733,11 @@ class World:
             raise Refusal(18, "LimitReached", "tables", 4)
         if len(columns) > 64:
             raise Refusal(18, "LimitReached", "columns", 64)
-        self.tables[name] = cluster.Table(columns, rule, key, granularity, window, self.replicas, self.down)
+        self.tables[name] = self.new_table(columns, rule, key, granularity, window, self.replicas, self.down)
         self.lines.append(b"ok")
+
+    def new_table(self, *said):
+        return cluster.Table(*said)
 
     def table(self, name):
         if name not in self.tables:
@@ -803,10 +819,11 @@ class World:
 
     def check(self, table, at):
         self.check_up(at)
-        for name, part in table.read(at):
+        parts = table.read(at)
+        for name, part in parts:
             digest = hashlib.sha256(table.part_bytes(part.rows)).hexdigest()
             self.lines.append(b"check %s %s" % (cluster.text(name), digest.encode()))
-        if not table.read(at):
+        if not parts:
             self.lines.append(b"nothing")
 
     def alter(self, table, at, sets, filter):
@@ -896,32 +913,35 @@ class World:
         self.lines.append(b"ran %d" % turns)
 
 
-def played(script):
-    """What is written, and the code."""
-    world, at, statements = World(), 0, FIRST_WHOLE
+def statements_in(script):
+    """The statements of a script, each with the place of its first token, and in place of one that isn't played its
+    refusal."""
+    at, statements = 0, FIRST_WHOLE
     while True:
         text = Text(script)
         first = text.token(at)
         if first.kind == "end":
-            break
+            return
         if first.kind == "symbol" and first.value == ";":
             at, statements = first.end, LATER_WHOLE
             continue
         ways = statements(text, at)
         statements = LATER_WHOLE
-        try:
-            if not ways:
-                end = script.find(b";", text.furthest)
-                at = len(script) if end < 0 else end + 1
-                raise Refusal(1, "Syntax", text.furthest)
+        if ways:
             at, (statement, _) = max(ways, key=lambda way: way[0])
-            if statement[0] == "unbuilt":
-                raise Refusal(1, "Syntax", first.start)
-            world.play(statement)
-        except Refusal as refusal:
-            world.lines.append(refusal.line)
-            world.refused += 1
-    return b"".join(line + b"\n" for line in world.lines), 2 if world.refused else 0
+            yield first.start, Refusal(1, "Syntax", first.start) if statement[0] == "unbuilt" else statement
+        else:
+            end = script.find(b";", text.furthest)
+            at = len(script) if end < 0 else end + 1
+            yield first.start, Refusal(1, "Syntax", text.furthest)
+
+
+def played(script):
+    """What is written, and the code."""
+    world = World()
+    for _, statement in statements_in(script):
+        world.take(statement)
+    return b"".join(line + b"\n" for line in world.lines), world.code()
 
 
 if __name__ == "__main__":
