@@ -38,7 +38,7 @@ def calls():
         ["play", "--workers", "x"],
         ["play", "--workers", "+1"],
         ["play", "--workers", "-1"],
-        ["play", "--workers", "01"],
+        ["play", "--workers", "00000000001"],
         ["play", "--workers", ""],
         ["play", "--workers=0"],
         ["play", "--workers="],

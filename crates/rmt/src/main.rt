@@ -1,4 +1,5 @@
-//! The command: `rmt play` plays a script from standard input, and writes its replies to standard output.
+//! The command: `rmt play` plays a script from standard input, and writes its replies to standard output; `rmt play --workers K` does
+//! so among workers.
 #![tactic(auto)]
 
 use rmt_outside::{Open, StdSink, StdSource};
@@ -25,6 +26,6 @@ fn main(rt: HostRuntime) -> ExitCode {
     }
     let mut source = StdSource::new(rt.stdin());
     let mut sink = StdSink::new(rt.stdout());
-    let (status, _) = run(rt.alloc(), &words, &mut source, &mut sink, &Open);
+    let (status, _) = run(&rt, rt.alloc(), &words, &mut source, &mut sink, &Open);
     ExitCode::from(status.code)
 }

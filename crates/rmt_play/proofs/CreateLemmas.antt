@@ -182,14 +182,14 @@ all-fetch (x ∷ xs) f k = go (nat_eq x.number k) x.fetches (f x (inl refl)) (al
 -- ---- which replicas of a new cluster are up
 
 -- one below all
-none-below : (xs : List Replica) (k j : ℕ) → AreCounted k xs → j < k → up_at xs j ≡ false
+pub none-below : (xs : List Replica) (k j : ℕ) → AreCounted k xs → j < k → up_at xs j ≡ false
 none-below [] k j n l = refl
 none-below (x ∷ xs) k j n l =
     let e = n.0 in
     let q : nat_eq x.number j ≡ false = grind (arith, nat_tests) in
     rw q (none-below xs (k + 1) j n.1 (omega (arith, l)))
 
-counted-up : (xs : List Replica) (k i : ℕ) → AreCounted k xs → up_at xs (k + i) ≡ slice_index_or (map (λ r. r.up) xs) i false
+pub counted-up : (xs : List Replica) (k i : ℕ) → AreCounted k xs → up_at xs (k + i) ≡ slice_index_or (map (λ r. r.up) xs) i false
 counted-up [] k i n = refl
 counted-up (x ∷ xs) k zero n = let e = n.0 in let q : nat_eq x.number (k + 0) ≡ true = grind (arith, nat_tests) in rw q refl
 counted-up (x ∷ xs) k (suc i) n =
@@ -198,7 +198,7 @@ counted-up (x ∷ xs) k (suc i) n =
     let m : k + suc i ≡ k + 1 + i = omega arith in
     rw q (ap (λ j. up_at xs j) m ∙ counted-up xs (k + 1) i n.1)
 
-index-take : (n : ℕ) (bs : List Bool) (i : ℕ) → slice_index_or (take n bs) i false ≡ (nat_lt i n && slice_index_or bs i false)
+pub index-take : (n : ℕ) (bs : List Bool) (i : ℕ) → slice_index_or (take n bs) i false ≡ (nat_lt i n && slice_index_or bs i false)
 index-take zero bs i = let q : nat_lt i 0 ≡ false = grind (arith, nat_tests) in rw q refl
 index-take (suc n) [] i = none (nat_lt i (suc n))
   where

@@ -14,3 +14,11 @@ pub mod SequentialLemmas
 pub mod RefusedActs
 pub mod ScriptLemmas
 pub mod SteppedLaws
+pub mod SeatLemmas
+pub mod AtRestLemmas
+pub mod AgreeLemmas
+pub mod GroundLemmas
+pub mod MakingLemmas
+pub mod ThreadLemmas
+pub mod RunLemmas
+pub mod Crosses

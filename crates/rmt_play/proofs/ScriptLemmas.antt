@@ -1,5 +1,5 @@
 -- What the playing of a script keeps from statement to statement.
-use Rattle.std.proofs.Common.{◌≡◌, ◌∙◌, ℕ, ◌+◌, ◌<◌, ◌≤◌, List, [], ◌∷◌, ◌++◌, length, refl, ap, sym, subst, Bool, cond, Option, Some, None, arith, append_assoc, zero, suc, ◌&&◌, true, false, nat_lt, append-nil}
+use Rattle.std.proofs.Common.{◌≡◌, ◌∙◌, ℕ, ◌+◌, ◌<◌, ◌≤◌, List, [], ◌∷◌, ◌++◌, length, refl, ap, sym, subst, Bool, cond, Option, arith, append_assoc, zero, suc, ◌&&◌, true, false, nat_lt, append-nil}
 use Rattle.std.proofs.Math.Path.{fun_ext}
 use Rattle.std.proofs.lemmas.Bool.Decides.{nat_tests}
 use Rattle.std.specs.Prelude.{count_by, if◌then◌else◌, nat_le, replicate, slice_index_or}
@@ -12,7 +12,7 @@ use Rattle.rmt_reply.specs.declared.line.Line.{Line}
 use Rattle.rmt_reply.specs.Printed.{printed}
 use Rattle.rmt_play.specs.World.{World, all_up, start}
 use Rattle.rmt_play.specs.Plays.{Creates, Step, Played, PlayedFrom, is_refused}
-use Rattle.rmt_play.specs.Runs.{output, GivesScript, PlayedWhole, PlayedInPart, CutShort}
+use Rattle.rmt_play.specs.Runs.{output, PlayedWhole, PlayedInPart, CutShort}
 use Rattle.rmt_play.specs.declared.outcome.Outcome.{Outcome}
 use Rattle.rmt_play.specs.declared.script_end.ScriptEnd.{ScriptEnd}
 use Rattle.rmt_play.specs.declared.script_end.ScriptEnd.TheVariants as ends
@@ -127,14 +127,6 @@ ends-whole script at player before now after refused (ends.Whole count clusters)
     subst (λ n. PlayedWhole false script before after n clusters) (sym e.0) (so_far_whole script at player before now after refused clusters so ended keeps e.1)
 ends-whole script at player before now after refused ends.WriteFault so ended keeps e = absurd e
 ends-whole script at player before now after refused ends.Memory so ended keeps e = so_far_in_part script at player before now after refused so keeps
-
-gives_some : (left : Option (List ℕ)) (P : List ℕ → Type 0) → ((script : List ℕ) → P script) → GivesScript left P
-gives_some None P holds = record { script = []; given = tt; holds = holds [] }
-gives_some (Some bytes) P holds = record { script = bytes; given = refl; holds = holds bytes }
-
--- nothing of the script was played
-pub none_played : (left written : Option (List ℕ)) → GivesScript left (PlayedInPart false written written)
-none_played left written = gives_some left (PlayedInPart false written written) (λ script. record { lines = []; at = 0; world = start; played = (refl, refl); written = Appends-nil written })
 
 -- the reply of a statement that was played makes the progress
 pub reply-progress : {e : Sights} (script : List ℕ) (at end : ℕ) (line : Line) (old new : PlayerView e) (before after : Option (List ℕ)) (p : Progress)

@@ -30,8 +30,12 @@ pub mod Plays
 pub mod Offered
 pub mod Shown
 pub mod Runs
+pub mod Threads
 pub mod QueryAnswers
 pub mod PlayerSteps
 pub mod ActSteps
 pub mod ScriptEnds
+pub mod Seats
+pub mod ThreadedRounds
+pub mod Forms
 pub mod CommandWords

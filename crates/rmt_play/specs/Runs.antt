@@ -1,7 +1,6 @@
 -- A whole run: the words, the script, and what is written.
-use Rattle.std.specs.Prelude.{◌≡◌, ◌⊎◌, ℕ, ◌≤◌, List, [], ◌∷◌, ◌++◌, length, count_by, codes, Bool, false, MatchOption}
+use Rattle.std.specs.Prelude.{◌≡◌, ◌⊎◌, ℕ, ◌≤◌, List, [], ◌∷◌, ◌++◌, length, count_by, Bool, MatchOption}
 use Rattle.std.specs.declared.option.Option.{Option}
-use Rattle.std.specs.Str.{bytes_eq}
 use Rattle.std.specs.Io.KnownBytes.{Appends}
 use Rattle.rmt_outside.specs.StreamBytes.{AppendsPrefix}
 use Rattle.rmt_sql.specs.declared.parsed.Parsed.TheVariants as parsed
@@ -15,11 +14,6 @@ use Rattle.rmt_play.specs.WorldRests.{RestsAll}
 use Rattle.rmt_play.specs.Plays.{Played, is_refused}
 use Rattle.rmt_play.specs.Shown.{AreShown, HasReplicas, Agrees, HandsBack}
 use Rattle.rmt_play.specs.declared.end.End.{End}
-
--- the words are exactly `play`
-abbrev pub has_form : List (List ℕ) → Bool
-has_form (word ∷ []) = bytes_eq word (codes "play")
-has_form _ = false
 
 -- the replies that are given the newest first, printed in their order
 abbrev pub output : List Line → List ℕ

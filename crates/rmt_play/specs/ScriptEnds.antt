@@ -146,4 +146,5 @@ IsStatusOf ends.Memory x = (x.0.code ≡ 6) × (x.0.refused ≡ 0)
 -- clusters are handed back exactly where a script was played to its end
 abbrev pub IsHandedBack : ℕ → List Cluster → End → Type 0
 IsHandedBack code clusters (handed.Stepped given) = ((code ≡ 0) ⊎ (code ≡ 2)) × (given ≡ clusters)
+IsHandedBack code clusters (handed.Threaded states) = ⊥
 IsHandedBack code clusters handed.Nothing = (code ≢ 0) × (code ≢ 2)

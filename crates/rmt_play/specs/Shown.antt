@@ -44,4 +44,5 @@ Agrees s = AgreesOn s.replicas (accepted s)
 -- these clusters are handed back
 abbrev pub HandsBack : End → List Cluster → Type 0
 HandsBack (ends.Stepped given) clusters = given ≡ clusters
+HandsBack (ends.Threaded states) clusters = ⊥
 HandsBack ends.Nothing clusters = ⊥

@@ -58,7 +58,7 @@ use rmt_values::{Column, Limit, Name, ReplicaId, Schema, SchemaError};
 use std::alloc::{AllocError, Global};
 
 /// The most tables of a script.
-const MOST_TABLES: usize = 4;
+pub(crate) const MOST_TABLES: usize = 4;
 
 /// The most replicas.
 const MOST_REPLICAS: u8 = 8;
@@ -141,6 +141,31 @@ impl Player<Clusters> {
 }
 
 impl<E: Engine> Player<E> {
+    /// One of these replicas and tables.
+    pub(crate) fn from_parts(replicas: u8, up: [bool; 8], names: Vec<Name>, engine: E) -> Player<E>
+        ensures { result ≡ record { replicas = replicas; up = up; names = names; engine = engine } }
+    {
+        Player {
+            replicas,
+            up,
+            names,
+            engine,
+        }
+    }
+
+    /// Its replicas and tables.
+    pub(crate) fn into_parts(self) -> (u8, [bool; 8], Vec<Name>, E)
+        ensures { self ≡ record { replicas = result.0; up = result.1; names = result.2; engine = result.3 } }
+    {
+        let Player {
+            replicas,
+            up,
+            names,
+            engine,
+        } = self;
+        (replicas, up, names, engine)
+    }
+
     /// Sets how many replicas there are, all of them up. There is no table yet.
     fn count(&mut self, count: u8) -> Line
         requires sound { IsSound E.sights E.tables self.old }

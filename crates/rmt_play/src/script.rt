@@ -111,7 +111,7 @@ fn next_answer<E: Engine>(
 }
 
 /// Writes the reply of a statement, after which the script goes on at a place.
-fn write_reply<K: Sink>(alloc: Global, line: &Line, end: usize, sink: &mut K) -> Progress
+pub(crate) fn write_reply<K: Sink>(alloc: Global, line: &Line, end: usize, sink: &mut K) -> Progress
     ensures reply { IsReply line.now end (K.written sink.old) (K.written sink.new) result }
     ensures cause { result ≡ progress.WriteFault → Rose (K.faults sink.old) (K.faults sink.new) }
     ensures quiet { result ≢ progress.WriteFault → K.faults sink.new ≡ K.faults sink.old }
@@ -184,7 +184,7 @@ fn play_next<E: Engine, K: Sink>(
 
 /// Plays statements from a place on, each reply written before the next one begins, up to the first CREATE that meets no refusal.
 /// So many were refused before.
-fn play_round<E: Engine, K: Sink>(
+pub(crate) fn play_round<E: Engine, K: Sink>(
     alloc: Global,
     player: &mut Player<E>,
     script: &[u8],

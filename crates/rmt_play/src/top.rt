@@ -1,14 +1,14 @@
-ghost use Rattle.std.specs.Prelude.{◌≡◌, ◌≢◌, ◌⊎◌, ◌≤◌, ◌<◌, ◌+◌, ◌↔◌, length, map, false};
+ghost use Rattle.std.specs.Prelude.{◌≡◌, ◌≢◌, ◌⊎◌, ◌≤◌, ◌<◌, ◌+◌, ◌↔◌, length, map, Some, None, true, false};
 ghost use Rattle.std.specs.String.{string_bytes};
 ghost use Rattle.std.specs.Io.KnownBytes.{IsAtEnd};
 ghost use Rattle.rmt_outside.specs.Faults.{Rose};
 ghost use Rattle.rmt_outside.specs.StreamBytes.{ConsumesUpTo, ConsumesExactly};
+ghost use Rattle.rmt_play.specs.Forms.{IsPlayable, form_in};
+ghost use Rattle.rmt_play.specs.Threads.{AreClearIn, PlayedAmong, PlaysCut, PlaysInPart, PlaysToEnd};
 ghost use Rattle.rmt_play.specs.Runs.{
-  has_form as form_test,
   GivesScript,
   GivesScriptWithin,
   PlayedWhole,
-  PlayedToEnd,
   PlayedInPart,
   CutShort,
   IsCode,
@@ -16,17 +16,24 @@ ghost use Rattle.rmt_play.specs.Runs.{
 };
 ghost use Rattle.rmt_play.specs.declared.end.End.TheVariants as ends;
 ghost use Rattle.rmt_play.specs.ScriptEnds.{IsStatusOf, IsHandedBack};
+ghost use Rattle.rmt_play.specs.ThreadedRounds.{IsHandedAmong, IsThreadedStatus};
 
 use crate::end::End;
+use crate::form::Form;
 use crate::printing::Printing;
 use crate::script::play;
 use crate::script_end::ScriptEnd;
 use crate::status::Status;
-use crate::words::{has_form, read_words};
+use crate::threaded;
+use crate::threaded::ThreadedEnd;
+use crate::words::{form_of, read_words};
 use rmt_cluster::Cluster;
 use rmt_list::List;
 use rmt_outside::{Gate, ReadError, Sink, Source, read_all};
+use rmt_state::State;
 use std::alloc::Global;
+use std::sync::Wait;
+use std::thread::Threads;
 
 /// The longest script, in bytes.
 pub const LONGEST: usize = 67_108_864;
@@ -38,13 +45,20 @@ fn ended(code: u8) -> Status
     Status { code, refused: 0 }
 }
 
+/// The code of a script that was played to its end, with so many statements refused.
+fn code_of(refused: u64) -> u8
+    ensures { ((result ≡ 0) × (refused ≡ 0)) ⊎ ((result ≡ 2) × (0 < refused)) }
+{
+    if refused == 0 { 0 } else { 2 }
+}
+
 /// The status of a script that was played, and its clusters; none where it wasn't played to its end.
 fn status_of(alloc: Global, end: ScriptEnd) -> (Status, List<Cluster>)
     ensures { IsStatusOf end result }
 {
     match end {
         ScriptEnd::Whole { refused, clusters } => {
-            let code = if refused == 0 { 0 } else { 2 };
+            let code = code_of(refused);
             (Status { code, refused }, clusters)
         }
         ScriptEnd::WriteFault => (ended(5), List::new(Vec::new(alloc))),
@@ -86,6 +100,60 @@ pub fn play_stepped<K: Sink>(
     status_of(alloc, end)
 }
 
+/// The status of a script that was played among workers, and its tables; none where it wasn't played to its end.
+fn threaded_status(alloc: Global, end: ThreadedEnd) -> (Status, List<State>)
+    ensures { IsThreadedStatus end result }
+{
+    match end {
+        ThreadedEnd::Whole { refused, states } => {
+            let code = code_of(refused);
+            (Status { code, refused }, states)
+        }
+        ThreadedEnd::WriteFault => (ended(5), List::new(Vec::new(alloc))),
+        ThreadedEnd::Memory => (ended(6), List::new(Vec::new(alloc))),
+    }
+}
+
+/// Plays a script among so many workers, 1 to 8, that merge, mutate and fetch while its statements go on, and writes the replies to
+/// `sink`. The script has at most the longest length. What is said of the replies asks that no two blocks of one id that the script
+/// brings differ. At code 0 and 2 the tables are handed back, each with its replicas, in the order in which they were created; at code 5
+/// and 6 there are none. It returns once no thread is left. A thread that can't be started is left out.
+pub fn play_threaded<R: Threads + Wait + Sync, K: Sink, G: Gate + Sync>(
+    rt: &R,
+    alloc: Global,
+    script: &[u8],
+    _printing: Printing,
+    workers: u8,
+    sink: &mut K,
+    gate: &G,
+) -> (Status, List<State>)
+    requires length { length script.now ≤ LONGEST }
+    requires some { 0 < workers }
+    requires most { workers ≤ 8 }
+
+    // The script was played to its end; none of its statements were refused, or some.
+    ensures accepted { result.0.code ≡ 0 → AreClearIn script.now
+        → PlayedAmong script.now (K.written sink.old) (K.written sink.new) 0 result.1 }
+    ensures refused { result.0.code ≡ 2 → AreClearIn script.now
+        → PlayedAmong script.now (K.written sink.old) (K.written sink.new) result.0.refused result.1 }
+    ensures some_refused { result.0.code ≡ 2 → 0 < result.0.refused }
+    ensures none_refused { result.0.code ≢ 2 → result.0.refused ≡ 0 }
+
+    // A write fault, or out of memory: a prefix of an allowed output was written.
+    ensures cut_short { result.0.code ≡ 5 → AreClearIn script.now
+        → CutShort true (K.written sink.old) (K.written sink.new) script.now }
+    ensures memory { result.0.code ≡ 6 → AreClearIn script.now
+        → PlayedInPart true (K.written sink.old) (K.written sink.new) script.now }
+
+    ensures write_fault { result.0.code ≡ 5 → Rose (K.faults sink.old) (K.faults sink.new) }
+    ensures no_write_fault { result.0.code ≢ 5 → K.faults sink.new ≡ K.faults sink.old }
+    ensures codes { IsPlayCode result.0.code }
+    ensures sink_faults { K.faults sink.old ≤ K.faults sink.new }
+{
+    let end = threaded::play(rt, alloc, script, workers, sink, gate);
+    threaded_status(alloc, end)
+}
+
 /// What is handed back of a script that was played.
 fn handed_back(status: &Status, clusters: List<Cluster>) -> End
     ensures { IsHandedBack status.now.code clusters result }
@@ -96,28 +164,86 @@ fn handed_back(status: &Status, clusters: List<Cluster>) -> End
     }
 }
 
+/// What is handed back of one that was played among workers.
+fn handed_among(status: &Status, states: List<State>) -> End
+    ensures { IsHandedAmong status.now.code states result }
+{
+    match status.code {
+        0 | 2 => End::Threaded(states),
+        _ => End::Nothing,
+    }
+}
+
+/// Plays a script in a form, and what is handed back.
+fn play_in<R: Threads + Wait + Sync, K: Sink, G: Gate + Sync>(
+    rt: &R,
+    alloc: Global,
+    form: Form,
+    script: &[u8],
+    sink: &mut K,
+    gate: &G,
+) -> (Status, End)
+    requires length { length script.now ≤ LONGEST }
+    requires workers { IsPlayable form }
+    ensures accepted { result.0.code ≡ 0
+        → PlaysToEnd (Some form) (K.written sink.old) (K.written sink.new) 0 result.1 script.now }
+    ensures refused { result.0.code ≡ 2
+        → PlaysToEnd (Some form) (K.written sink.old) (K.written sink.new) result.0.refused result.1 script.now }
+    ensures some_refused { result.0.code ≡ 2 → 0 < result.0.refused }
+    ensures none_refused { result.0.code ≢ 2 → result.0.refused ≡ 0 }
+    ensures nothing { result.0.code ≢ 0 → result.0.code ≢ 2 → result.1 ≡ ends.Nothing }
+    ensures cut_short { result.0.code ≡ 5 → PlaysCut (Some form) (K.written sink.old) (K.written sink.new) script.now }
+    ensures memory { result.0.code ≡ 6 → PlaysInPart (Some form) (K.written sink.old) (K.written sink.new) script.now }
+    ensures write_fault { result.0.code ≡ 5 → Rose (K.faults sink.old) (K.faults sink.new) }
+    ensures no_write_fault { result.0.code ≢ 5 → K.faults sink.new ≡ K.faults sink.old }
+    ensures codes { IsPlayCode result.0.code }
+    ensures sink_faults { K.faults sink.old ≤ K.faults sink.new }
+{
+    match form {
+        Form::Stepped => {
+            let (status, clusters) = play_stepped(alloc, script, Printing::Full, sink);
+            let end = handed_back(&status, clusters);
+            (status, end)
+        }
+        Form::Among(workers) => {
+            let (status, states) = play_threaded(
+                rt,
+                alloc,
+                script,
+                Printing::Full,
+                workers,
+                sink,
+                gate,
+            );
+            let end = handed_among(&status, states);
+            (status, end)
+        }
+    }
+}
+
 /// Runs the command: plays the script that `source` gives, and writes the replies to `sink`. `words` are the words
-/// after the program's name, read with `clap`; only `play` has a form. The source is read to its end before the first
-/// statement is played. No gate is passed yet.
-#[tactic(auto, using(crate::proofs::ScriptLemmas::none_played))]
-pub fn run<S: Source, K: Sink, G: Gate + Sync>(
+/// after the program's name, read with `clap`: `play`, and with `--workers K` among so many workers, 1 to 8. The source is read to its
+/// end before the first statement is played. Without workers no gate is passed, and nobody waits.
+#[tactic(auto, using(crate::proofs::RunLemmas::none_played))]
+pub fn run<R: Threads + Wait + Sync, S: Source, K: Sink, G: Gate + Sync>(
+    rt: &R,
     alloc: Global,
     words: &[String],
     source: &mut S,
     sink: &mut K,
-    _gate: &G,
+    gate: &G,
 ) -> (Status, End)
     // The script was played to its end; none of its statements were refused, or some.
     ensures accepted { result.0.code ≡ 0 → GivesScriptWithin LONGEST (S.left source.old)
-        (λ script. PlayedToEnd false script (K.written sink.old) (K.written sink.new) 0 result.1) }
+        (PlaysToEnd (form_in (map string_bytes words.now)) (K.written sink.old) (K.written sink.new) 0 result.1) }
     ensures refused { result.0.code ≡ 2 → GivesScriptWithin LONGEST (S.left source.old)
-        (λ script. PlayedToEnd false script (K.written sink.old) (K.written sink.new) result.0.refused result.1) }
+        (PlaysToEnd (form_in (map string_bytes words.now)) (K.written sink.old) (K.written sink.new) result.0.refused result.1) }
     ensures some_refused { result.0.code ≡ 2 → 0 < result.0.refused }
     ensures none_refused { result.0.code ≢ 2 → result.0.refused ≡ 0 }
     ensures nothing { result.0.code ≢ 0 → result.0.code ≢ 2 → result.1 ≡ ends.Nothing }
 
     // The words have no form: nothing is read.
-    ensures words { (result.0.code ≡ 3) ↔ (form_test (map string_bytes words.now) ≡ false) }
+    ensures words { (result.0.code ≡ 3) ↔ (form_in (map string_bytes words.now) ≡ None) }
     ensures unread { result.0.code ≡ 3 → source.new ≡ source.old }
 
     // A read fault. No other code hides one.
@@ -138,7 +264,7 @@ pub fn run<S: Source, K: Sink, G: Gate + Sync>(
     ensures write_fault { result.0.code ≡ 5 → Rose (K.faults sink.old) (K.faults sink.new) }
     ensures no_write_fault { result.0.code ≢ 5 → K.faults sink.new ≡ K.faults sink.old }
     ensures cut_short { result.0.code ≡ 5 → GivesScriptWithin LONGEST (S.left source.old)
-        (CutShort false (K.written sink.old) (K.written sink.new)) }
+        (PlaysCut (form_in (map string_bytes words.now)) (K.written sink.old) (K.written sink.new)) }
 
     // The script was read to its end before any of it was played.
     ensures read { (result.0.code ≡ 0) ⊎ (result.0.code ≡ 2) ⊎ (result.0.code ≡ 5)
@@ -146,7 +272,7 @@ pub fn run<S: Source, K: Sink, G: Gate + Sync>(
 
     // Out of memory: whole replies were written, none before the script was read to its end.
     ensures memory { result.0.code ≡ 6 → GivesScript (S.left source.old)
-        (PlayedInPart false (K.written sink.old) (K.written sink.new)) }
+        (PlaysInPart (form_in (map string_bytes words.now)) (K.written sink.old) (K.written sink.new)) }
     ensures memory_unread { result.0.code ≡ 6
         → (IsAtEnd (S.left source.new)) ⊎ (sink.new ≡ sink.old) }
 
@@ -154,9 +280,9 @@ pub fn run<S: Source, K: Sink, G: Gate + Sync>(
     ensures source_faults { S.faults source.old ≤ S.faults source.new }
     ensures sink_faults { K.faults sink.old ≤ K.faults sink.new }
 {
-    if !has_form(words) {
+    let Some(form) = form_of(words) else {
         return (ended(3), End::Nothing);
-    }
+    };
     if read_words(alloc, words).is_err() {
         return (ended(6), End::Nothing);
     }
@@ -166,7 +292,5 @@ pub fn run<S: Source, K: Sink, G: Gate + Sync>(
         Err(ReadError::TooLong) => return (ended(7), End::Nothing),
         Err(ReadError::Memory) => return (ended(6), End::Nothing),
     };
-    let (status, clusters) = play_stepped(alloc, &script, Printing::Full, sink);
-    let end = handed_back(&status, clusters);
-    (status, end)
+    play_in(rt, alloc, form, &script, sink, gate)
 }

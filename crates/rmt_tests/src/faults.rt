@@ -18,7 +18,7 @@ const WRITES: &[(u64, u8, &str)] = &[
 /// The second read fails, which would have told the script's end.
 #[test]
 fn a_read_that_fails_writes_nothing(rt: HostRuntime) -> Result<(), Fail> {
-    let (status, page) = played(rt.alloc(), SCRIPT, &[1], &[])?;
+    let (status, page) = played(&rt, rt.alloc(), SCRIPT, &[1], &[])?;
     let (code, refused) = (4, 0);
     assert_eq!(rt; status, Status { code, refused });
     assert_eq!(rt; page.written().len(), 0);
@@ -28,7 +28,7 @@ fn a_read_that_fails_writes_nothing(rt: HostRuntime) -> Result<(), Fail> {
 #[test]
 fn a_write_that_fails_leaves_the_replies_before_it(rt: HostRuntime) -> Result<(), Fail> {
     for (write, code, written) in WRITES {
-        let (status, page) = played(rt.alloc(), SCRIPT, &[], &[*write])?;
+        let (status, page) = played(&rt, rt.alloc(), SCRIPT, &[], &[*write])?;
         let (code, refused) = (*code, 0);
         assert_eq!(rt; status, Status { code, refused });
         assert_eq!(rt; page.written(), written.as_bytes());

@@ -7,7 +7,9 @@ use rmt_query::Tuple;
 use rmt_reply::{Line, Piece, print_line};
 use rmt_values::{Cell, Checked, CheckedMutation, CheckedRight, Cmp, Row, Value};
 use std::alloc::{AllocError, Global};
+use std::sync::Wait;
 use std::test::Fail;
+use std::thread::Threads;
 
 /// Rows as the numbers in their columns.
 type Numbers = &'static [&'static [u64]];
@@ -526,9 +528,13 @@ fn text_of(alloc: Global, script: &[Step]) -> Result<String, AllocError> {
 }
 
 /// Whether a script writes what is worked out from the plain table.
-fn answers_alike(alloc: Global, script: &[Step]) -> Result<bool, AllocError> {
+fn answers_alike<R: Threads + Wait + Sync>(
+    rt: &R,
+    alloc: Global,
+    script: &[Step],
+) -> Result<bool, AllocError> {
     let text = text_of(alloc, script)?;
-    let (_, page) = played(alloc, text.as_str(), &[], &[])?;
+    let (_, page) = played(rt, alloc, text.as_str(), &[], &[])?;
     let expected = written_by(alloc, script)?;
     Ok(page.written() == expected.as_slice())
 }
@@ -536,7 +542,7 @@ fn answers_alike(alloc: Global, script: &[Step]) -> Result<bool, AllocError> {
 #[test]
 fn a_table_on_plain_lists_answers_alike(rt: HostRuntime) -> Result<(), Fail> {
     'scripts: for (place, script) in SCRIPTS.iter().enumerate() {
-        assert!(rt; answers_alike(rt.alloc(), script)?, "script {place}");
+        assert!(rt; answers_alike(&rt, rt.alloc(), script)?, "script {place}");
     }
     Ok(())
 }

@@ -1,0 +1,103 @@
+-- A run among workers: what it asks of the blocks that its script offers, and what it hands back.
+-- ClickHouse documentation, Data Replication: replicas copy the log and do it in the background. That a block's id is its partition and
+-- the SHA-256 of its rows is this program's own.
+use Rattle.std.specs.Prelude.{◌≡◌, ℕ, Bool, true, false, List, [], ◌∷◌, length, map, count_by}
+use Rattle.std.specs.declared.option.Option.{Option}
+use Rattle.std.specs.declared.option.Option.TheVariants.{Some, None}
+use Rattle.std.specs.Io.KnownBytes.{Appends}
+use Rattle.rmt_values.specs.Rows.{Shape}
+use Rattle.rmt_model.specs.Words.{Each}
+use Rattle.rmt_partset.specs.ActiveParts.{part_names}
+use Rattle.rmt_replica.specs.Replicas.{ReplicaView}
+use Rattle.rmt_replica.specs.SeenReplica.{shown}
+use Rattle.rmt_state.specs.States.{StateView}
+use Rattle.rmt_statement_model.specs.TableStates.{TableState}
+use Rattle.rmt_clients.specs.Clients.{AreClear}
+use Rattle.rmt_clients.specs.ClientReadings.{IsChecked}
+use Rattle.rmt_sql.specs.declared.parsed.Parsed.TheVariants as parsed
+use Rattle.rmt_sql.specs.Script.{ReadsAt}
+use Rattle.rmt_reply.specs.declared.line.Line.{Line}
+use Rattle.rmt_play.specs.World.{Table, World}
+use Rattle.rmt_play.specs.WorldRests.{RestsAll}
+use Rattle.rmt_play.specs.Shown.{AgreesOn}
+use Rattle.rmt_play.specs.Plays.{Played, is_refused}
+use Rattle.rmt_play.specs.Offered.{IsOfferedBy}
+use Rattle.rmt_play.specs.Runs.{output, CutShort, PlayedInPart, PlayedToEnd}
+use Rattle.rmt_play.specs.declared.end.End.{End}
+use Rattle.rmt_play.specs.declared.end.End.TheVariants as ends
+use Rattle.rmt_play.specs.declared.form.Form.{Form}
+use Rattle.rmt_play.specs.declared.form.Form.TheVariants.{Stepped, Among}
+
+-- no two blocks that the script brings to tables of one schema have one id and differ
+abbrev pub AreClearIn : List ℕ → Type 0
+AreClearIn script = (schema : Shape) → AreClear (IsOfferedBy script schema)
+
+-- ---- what is handed back
+
+-- the replica may fetch as the state has it; and what is known at it is covered by an active part there, or dropped in the log
+pub record ShowsReplica (t : TableState) (r : ReplicaView) : Type 0 where
+  pub fetching : r.fetches ≡ t.fetching r.number
+  pub checked : IsChecked t.log (t.known r.number) (part_names r.parts)
+
+-- the table with its replicas is in this state, and the replicas agree on the blocks that were accepted: those that are drained to one
+-- length of the log have equal parts, and what is read of a drained one is the plain rows
+pub record ShowsState (s : StateView) (t : TableState) : Type 0 where
+  pub schema : t.schema ≡ s.tree.schema
+  pub log : t.log ≡ s.tree.log
+  pub next : t.next ≡ s.tree.next
+  pub quorum : t.quorum ≡ s.tree.quorum
+  pub replicas : Each (ShowsReplica t) s.replicas
+  pub agree : AgreesOn (map shown s.replicas) t.blocks
+
+-- so it is with each table, in their order
+abbrev pub AreShownBy : List StateView → List Table → Type 0
+AreShownBy [] [] = Unit {0}
+AreShownBy (s ∷ states) (t ∷ tables) = ShowsState s t.state × AreShownBy states tables
+AreShownBy states tables = ⊥
+
+-- the table has so many replicas, of which these are up
+pub record HasReplicasUp (count : ℕ) (up : ℕ → Bool) (s : StateView) : Type 0 where
+  pub counted : length s.replicas ≡ count
+  pub are_up : Each (λ r. r.up ≡ up r.number) s.replicas
+
+-- The whole script was played among workers, its replies were written, so many of its statements were refused, and these tables with
+-- their replicas are in the states that it left: in each the replicas are up and down as the script left them. Workers may have gone
+-- on after the last statement.
+pub record PlayedAmong (script : List ℕ) (before after : Option (List ℕ)) (refused : ℕ) (states : List StateView) : Type 0 where
+  pub lines : List Line
+  pub at : ℕ
+  pub last : World
+  pub played : Played true script lines at last
+  pub ended : ReadsAt script at parsed.End
+  pub written : Appends before after (output lines)
+  pub counted : refused ≡ count_by is_refused lines
+  pub world : World
+  pub rests : RestsAll true last world
+  pub shown : AreShownBy states world.tables
+  pub replicas : Each (HasReplicasUp world.replicas world.up) states
+
+-- ---- each form of a play
+
+-- these tables are handed back
+pub record AmongToEnd (script : List ℕ) (before after : Option (List ℕ)) (refused : ℕ) (end : End) : Type 0 where
+  pub states : List StateView
+  pub handed_back : end ≡ ends.Threaded states
+  pub played : PlayedAmong script before after refused states
+
+-- the whole script was played in this form, so many statements were refused, and this is handed back
+abbrev pub PlaysToEnd : Option Form → Option (List ℕ) → Option (List ℕ) → ℕ → End → List ℕ → Type 0
+PlaysToEnd None before after refused end script = ⊥
+PlaysToEnd (Some Stepped) before after refused end script = PlayedToEnd false script before after refused end
+PlaysToEnd (Some (Among count)) before after refused end script = AreClearIn script → AmongToEnd script before after refused end
+
+-- some first statements were played in this form, and their replies were written
+abbrev pub PlaysInPart : Option Form → Option (List ℕ) → Option (List ℕ) → List ℕ → Type 0
+PlaysInPart None before after script = ⊥
+PlaysInPart (Some Stepped) before after script = PlayedInPart false before after script
+PlaysInPart (Some (Among count)) before after script = AreClearIn script → PlayedInPart true before after script
+
+-- or a prefix of what they reply
+abbrev pub PlaysCut : Option Form → Option (List ℕ) → Option (List ℕ) → List ℕ → Type 0
+PlaysCut None before after script = ⊥
+PlaysCut (Some Stepped) before after script = CutShort false before after script
+PlaysCut (Some (Among count)) before after script = AreClearIn script → CutShort true before after script
