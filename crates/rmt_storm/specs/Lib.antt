@@ -1,0 +1,2 @@
+pub mod Storms
+pub mod Steps
