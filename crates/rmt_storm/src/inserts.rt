@@ -1,6 +1,6 @@
 //! INSERT statements that are drawn.
 ghost use Rattle.std.specs.Prelude.{◌≡◌, ◌++◌, ◌≤◌, ◌<◌, OnOk, IfOk};
-ghost use Rattle.rmt_storm.specs.Storms.{after, further as further_rows, insert as inserted, row_text};
+ghost use Rattle.rmt_storm.specs.Storms.{drawn_insert, more_rows, row_text, state_after};
 
 use crate::draws::Draws;
 use crate::texts::{push_both, push_number, push_text};
@@ -16,7 +16,7 @@ fn push_row(
 ) -> Result<(), AllocError>
     requires { partition < 4 }
     ensures text { OnOk result (out.new.items ≡ out.old.items ++ row_text partition draws.old.state) }
-    ensures state { OnOk result (draws.new.state ≡ after 2 draws.old.state) }
+    ensures state { OnOk result (draws.new.state ≡ state_after 2 draws.old.state) }
 {
     let key = 1000 * partition + draws.next() % 1000;
     let value = draws.next();
@@ -35,8 +35,8 @@ fn push_further(
     count: u32,
 ) -> Result<(), AllocError>
     requires { partition < 4 }
-    ensures text { OnOk result (out.new.items ≡ out.old.items ++ (further_rows count partition draws.old.state).text) }
-    ensures state { OnOk result (draws.new.state ≡ (further_rows count partition draws.old.state).state) }
+    ensures text { OnOk result (out.new.items ≡ out.old.items ++ (more_rows count partition draws.old.state).text) }
+    ensures state { OnOk result (draws.new.state ≡ (more_rows count partition draws.old.state).state) }
 {
     'rows: for _ in 0..count {
         push_text(out, b",")?;
@@ -47,8 +47,8 @@ fn push_further(
 
 /// An INSERT. At an error no memory was left.
 pub(crate) fn insert(alloc: Global, draws: &mut Draws) -> Result<Vec<u8>, AllocError>
-    ensures text { IfOk result (λ statement. statement.items ≡ (inserted draws.old.state).text) }
-    ensures state { OnOk result (draws.new.state ≡ (inserted draws.old.state).state) }
+    ensures text { IfOk result (λ statement. statement.items ≡ (drawn_insert draws.old.state).text) }
+    ensures state { OnOk result (draws.new.state ≡ (drawn_insert draws.old.state).state) }
 {
     let partition = draws.next() % 4;
     let further = draws.next() % 8;

@@ -1,5 +1,5 @@
 ghost use Rattle.std.specs.Prelude.{◌≡◌, IfOk};
-ghost use Rattle.rmt_storm.specs.Storms.{storm as storm_of};
+ghost use Rattle.rmt_storm.specs.Storms.{storm_text};
 
 use crate::draws::Draws;
 use crate::storm::Storm;
@@ -17,7 +17,7 @@ const LAST_LINES: &[u8] =
 /// The script of a workload: so many turns, which a generator draws from a seed, on a table at three replicas. At an error no memory was
 /// left.
 pub fn script(alloc: Global, seed: u32, turns: u32) -> Result<Vec<u8>, AllocError>
-    ensures { IfOk result (λ text. text.items ≡ storm_of seed turns) }
+    ensures { IfOk result (λ text. text.items ≡ storm_text seed turns) }
 {
     let mut out = Vec::new(alloc);
     push_text(&mut out, FIRST_LINES)?;

@@ -1,6 +1,6 @@
 //! Turns of a storm.
 ghost use Rattle.std.specs.Prelude.{◌≡◌, ◌++◌, ◌≤◌, ◌<◌, OnOk};
-ghost use Rattle.rmt_storm.specs.Storms.{alters_or_counts, deletes, inserts, others as other_turn, repeated, sent, settles, turn as turn_of, updates};
+ghost use Rattle.rmt_storm.specs.Storms.{alter_or_count_turn, delete_turn, insert_turn, last_or_parts, optimize_lines, replica_line, turn_after, update_turn, upkeep_turn};
 ghost use Rattle.rmt_storm.specs.Steps.{seen, Makes};
 
 use crate::draws::Draws;
@@ -24,7 +24,7 @@ pub(crate) struct Storm {
 impl Storm {
     /// Adds an INSERT. At an error no memory was left.
     fn add_insert(&mut self, out: &mut Vec<u8>, replica: u32) -> Result<(), AllocError>
-        ensures { OnOk result (Makes (inserts replica (seen self.old)) out.old.items out.new.items self.new) }
+        ensures { OnOk result (Makes (insert_turn replica (seen self.old)) out.old.items out.new.items self.new) }
     {
         let statement = insert(self.alloc, &mut self.draws)?;
         push_sent(self.alloc, out, replica, &statement)?;
@@ -33,10 +33,10 @@ impl Storm {
     }
 
     /// Adds an UPDATE. At an error no memory was left.
-    #[tactic(auto, unfolding(crate::specs::Storms::updates))]
+    #[tactic(auto, unfolding(crate::specs::Storms::update_turn))]
     fn add_update(&mut self, out: &mut Vec<u8>, replica: u32) -> Result<(), AllocError>
         requires { self.old.alters < 1000 }
-        ensures { OnOk result (Makes (updates replica (seen self.old)) out.old.items out.new.items self.new) }
+        ensures { OnOk result (Makes (update_turn replica (seen self.old)) out.old.items out.new.items self.new) }
     {
         let more = self.draws.next() % 100;
         let key = self.draws.next() % 4000;
@@ -54,10 +54,10 @@ impl Storm {
     }
 
     /// Adds a DELETE. At an error no memory was left.
-    #[tactic(auto, unfolding(crate::specs::Storms::deletes))]
+    #[tactic(auto, unfolding(crate::specs::Storms::delete_turn))]
     fn add_delete(&mut self, out: &mut Vec<u8>, replica: u32) -> Result<(), AllocError>
         requires { self.old.alters < 1000 }
-        ensures { OnOk result (Makes (deletes replica (seen self.old)) out.old.items out.new.items self.new) }
+        ensures { OnOk result (Makes (delete_turn replica (seen self.old)) out.old.items out.new.items self.new) }
     {
         let value = self.draws.next() % 1000;
         let mut statement = Vec::new(self.alloc);
@@ -74,7 +74,7 @@ impl Storm {
 
     /// Adds an ALTER, or a count. At an error no memory was left.
     fn add_alter(&mut self, out: &mut Vec<u8>, replica: u32) -> Result<(), AllocError>
-        ensures { OnOk result (Makes (alters_or_counts replica (seen self.old)) out.old.items out.new.items self.new) }
+        ensures { OnOk result (Makes (alter_or_count_turn replica (seen self.old)) out.old.items out.new.items self.new) }
     {
         let kind = self.draws.next() % 8;
         if self.alters < MOST_ALTERS && kind == 0 {
@@ -87,8 +87,8 @@ impl Storm {
     }
 
     /// Adds the last INSERT again, or SHOW PARTS. At an error no memory was left.
-    fn add_again(&mut self, out: &mut Vec<u8>, replica: u32) -> Result<(), AllocError>
-        ensures lines { OnOk result (out.new.items ≡ out.old.items ++ sent replica (repeated self.old.last.items)) }
+    fn add_last(&mut self, out: &mut Vec<u8>, replica: u32) -> Result<(), AllocError>
+        ensures lines { OnOk result (out.new.items ≡ out.old.items ++ replica_line replica (last_or_parts self.old.last.items)) }
         ensures same { seen self.new ≡ seen self.old }
     {
         if self.last.is_empty() {
@@ -98,8 +98,8 @@ impl Storm {
     }
 
     /// Adds the wait for the last ALTER, and an OPTIMIZE. At an error no memory was left.
-    fn add_settling(&mut self, out: &mut Vec<u8>, replica: u32) -> Result<(), AllocError>
-        ensures lines { OnOk result (out.new.items ≡ out.old.items ++ settles replica self.old.alters) }
+    fn add_optimize(&mut self, out: &mut Vec<u8>, replica: u32) -> Result<(), AllocError>
+        ensures lines { OnOk result (out.new.items ≡ out.old.items ++ optimize_lines replica self.old.alters) }
         ensures same { seen self.new ≡ seen self.old }
     {
         if self.alters == 0 {
@@ -117,8 +117,8 @@ impl Storm {
     }
 
     /// Adds a drop, a restart, a RUN or a sync. At an error no memory was left.
-    fn add_other(&mut self, out: &mut Vec<u8>, replica: u32) -> Result<(), AllocError>
-        ensures { OnOk result (Makes (other_turn replica (seen self.old)) out.old.items out.new.items self.new) }
+    fn add_upkeep(&mut self, out: &mut Vec<u8>, replica: u32) -> Result<(), AllocError>
+        ensures { OnOk result (Makes (upkeep_turn replica (seen self.old)) out.old.items out.new.items self.new) }
     {
         let mut statement = Vec::new(self.alloc);
         let kind = self.draws.next() % 4;
@@ -145,7 +145,7 @@ impl Storm {
 
     /// Adds the lines of a turn. At an error no memory was left.
     pub(crate) fn turn(&mut self, out: &mut Vec<u8>) -> Result<(), AllocError>
-        ensures { OnOk result (Makes (turn_of (seen self.old)) out.old.items out.new.items self.new) }
+        ensures { OnOk result (Makes (turn_after (seen self.old)) out.old.items out.new.items self.new) }
     {
         let kind = self.draws.next() % 16;
         let replica = 1 + self.draws.next() % 3;
@@ -164,11 +164,11 @@ impl Storm {
             );
         }
         if kind < 14 {
-            return self.add_again(out, replica);
+            return self.add_last(out, replica);
         }
         if kind < 15 {
-            return self.add_settling(out, replica);
+            return self.add_optimize(out, replica);
         }
-        self.add_other(out, replica)
+        self.add_upkeep(out, replica)
     }
 }

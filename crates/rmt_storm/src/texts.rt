@@ -1,7 +1,7 @@
 //! What statements are made of: bytes and numbers.
 ghost use Rattle.std.specs.Prelude.{◌≡◌, ◌++◌, OnOk};
 ghost use Rattle.std.specs.Fmt.{decimal};
-ghost use Rattle.rmt_storm.specs.Storms.{sent, line as line_of};
+ghost use Rattle.rmt_storm.specs.Storms.{replica_line, statement_line};
 
 use std::alloc::{AllocError, Global};
 
@@ -37,9 +37,9 @@ pub(crate) fn push_both(
 }
 
 /// Adds a statement, on a line of its own. At an error no memory was left.
-#[tactic(auto, unfolding(crate::specs::Storms::line))]
+#[tactic(auto, unfolding(crate::specs::Storms::statement_line))]
 pub(crate) fn push_line(out: &mut Vec<u8>, statement: &[u8]) -> Result<(), AllocError>
-    ensures { OnOk result (out.new.items ≡ out.old.items ++ line_of statement.now) }
+    ensures { OnOk result (out.new.items ≡ out.old.items ++ statement_line statement.now) }
 {
     push_text(out, statement)?;
     push_text(out, b";\n")?;
@@ -47,14 +47,14 @@ pub(crate) fn push_line(out: &mut Vec<u8>, statement: &[u8]) -> Result<(), Alloc
 }
 
 /// Adds a statement that is sent to a replica, on a line of its own. At an error no memory was left.
-#[tactic(auto, unfolding(crate::specs::Storms::sent))]
+#[tactic(auto, unfolding(crate::specs::Storms::replica_line))]
 pub(crate) fn push_sent(
     alloc: Global,
     out: &mut Vec<u8>,
     replica: u32,
     statement: &[u8],
 ) -> Result<(), AllocError>
-    ensures { OnOk result (out.new.items ≡ out.old.items ++ sent replica statement.now) }
+    ensures { OnOk result (out.new.items ≡ out.old.items ++ replica_line replica statement.now) }
 {
     let mut line = Vec::new(alloc);
     push_both(alloc, &mut line, b"@r", replica)?;
