@@ -1,8 +1,8 @@
 """Whether an output is one that a script may have among workers: threads that merge, mutate and fetch in the background
-while its statements go on, one after the other (`unfair`). The statements are played as in play.py, by tables of which
-only that is kept which the clients determine: the log without merges and mutations of parts, the next numbers, which
-replicas are up, which fetch. Where a reply depends on workers it is read from the output, and tested against what is
-known by then:
+while its statements go on, one after the other, and those of lanes so too (`unfair`). The statements are played as in
+play.py, by tables of which only that is kept which the clients determine: the log without merges and mutations of
+parts, the next numbers, which replicas are up, which fetch. Where a reply depends on workers it is read from the
+output, and tested against what is known by then:
 
 - of each table the names of parts that merges and mutations of parts have made, as far as replies tell of them;
 - of each replica what a part that it reads has to cover, which drops it has done, and which blocks it may have;
@@ -466,10 +466,14 @@ class Judge(play.World):
 
     def judge(self, statement, following):
         self.lines, self.is_followed = [], is_check(following)
-        for table in self.tables.values():
-            table.rest()
         self.take(statement)
         self.at = self.end_of_lines()
+
+    def take(self, statement):
+        """Plays a statement, of a lane too: before it workers may have done whatever they may."""
+        for table in self.tables.values():
+            table.rest()
+        super().take(statement)
 
     def end_of_lines(self):
         """The place in the output after the lines of the statement so far, which have to stand there."""

@@ -232,11 +232,7 @@ def FILTER(text, at):
     return disjunction(text, at, 64, 0)
 
 
-# ---- statements; a form that nothing plays says ("unbuilt",)
-
-
-def unbuilt(*rules):
-    return says(sequence(*rules), lambda said: ("unbuilt",))
+# ---- statements
 
 
 TUPLE = in_parentheses()
@@ -406,13 +402,18 @@ REPLICA = maybe(only(sequence(symbol("@"), WORD), 1))
 RUN = says(
     sequence(keyword("run"), WORD, NUMBER, keyword("seed"), NUMBER), lambda said: ("run", said[1], said[2], said[4])
 )
-LANE = sequence(keyword("lane"), END, times(sequence(REPLICA, choice(INSERT, SELECT, ALTER), END)))
-LATER = choice(
-    CREATE,
-    says(sequence(REPLICA, ACT), lambda said: ("at",) + said),
-    over_replica("kill", "kill"), over_replica("start", "restart"), RUN,
-    unbuilt(keyword("lanes"), END, LANE, times(LANE, 7), keyword("end")),
-)  # fmt: skip
+
+
+def sent(act):
+    """An act that is sent to a replica."""
+    return says(sequence(REPLICA, act), lambda said: ("at",) + said)
+
+
+LANE = only(sequence(keyword("lane"), END, times(only(sequence(sent(choice(INSERT, SELECT, ALTER)), END), 0))), 2)
+LANES = says(
+    sequence(keyword("lanes"), END, LANE, times(LANE, 7), keyword("end")), lambda said: ("lanes", [said[2]] + said[3])
+)
+LATER = choice(CREATE, sent(ACT), over_replica("kill", "kill"), over_replica("start", "restart"), RUN, LANES)
 REPLICAS = says(sequence(keyword("replicas"), number_of(1, 8)), lambda said: ("replicas", said[1]))
 
 # whole statements with their ends; for the `;` of REPLICAS the script's end doesn't stand
@@ -912,10 +913,20 @@ class World:
             pass
         self.lines.append(b"ran %d" % turns)
 
+    # ---- lanes
+
+    def lanes(self, lanes):
+        """The statements of each lane, one lane after the other. One that is refused is refused by itself."""
+        for number, statements in enumerate(lanes, 1):
+            self.lines.append(b"lane %d" % number)
+            for statement in statements:
+                self.take(statement)
+        self.lines.append(b"end")
+
 
 def statements_in(script):
-    """The statements of a script, each with the place of its first token, and in place of one that isn't played its
-    refusal."""
+    """The statements of a script, each with the place of its first token, and in place of one of no form its refusal.
+    LANES is one of them."""
     at, statements = 0, FIRST_WHOLE
     while True:
         text = Text(script)
@@ -929,7 +940,7 @@ def statements_in(script):
         statements = LATER_WHOLE
         if ways:
             at, (statement, _) = max(ways, key=lambda way: way[0])
-            yield first.start, Refusal(1, "Syntax", first.start) if statement[0] == "unbuilt" else statement
+            yield first.start, statement
         else:
             end = script.find(b";", text.furthest)
             at = len(script) if end < 0 else end + 1

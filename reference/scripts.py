@@ -3,7 +3,9 @@ out of place. A quarter of them are INSERTs for the most part, among them some t
 EXPLAINs. The others, the busy ones, change what was inserted, by commands, drops, merges and background work at all
 replicas. Sometimes a replica goes down, and mostly it comes up again a few statements later. In more than half of the
 scripts there are quorum inserts and sequential SELECTs. In these, and in some of the others, replicas stop fetches,
-meet statements that want them, and mostly start them again."""
+meet statements that want them, and mostly start them again. In half of all there are LANES, in which the same comes
+about as outside: blocks that are sent again, mutations, drops, and replicas that are down, fetch nothing or meet a
+quorum."""
 import random
 
 COLUMNS = ["a", "b", "c", "d", "k", "day", "page"]
@@ -25,10 +27,11 @@ NO_PARTITIONS += ["ID '1 '", f"ID '{2**64}'", f"ID '{10**30}'"]
 BUSY = {
     "insert": 26, "many": 1, "reload": 5, "update": 9, "delete": 3, "drop": 4, "optimize": 8, "wait": 8, "work": 12,
     "show": 8, "system": 5, "select": 14, "explain": 4, "create": 2, "other": 2, "check": 6, "kill": 3, "lost": 2,
+    "lanes": 9,
 }  # fmt: skip
 # the same, where replicas stop fetches, and where there are quorums
-SWITCHES = {**BUSY, "switch": 8, "halted": 14, "system": 8}
-QUORUMS = {**BUSY, "switch": 14, "unmet": 20, "met": 12, "lacking": 6, "lost": 4, "system": 8}
+SWITCHES = {**BUSY, "switch": 8, "halted": 14, "system": 8, "lanes": 14}
+QUORUMS = {**BUSY, "switch": 14, "unmet": 20, "met": 12, "lacking": 6, "lost": 4, "system": 8, "lanes": 22}
 NO_QUORUMS = ["4294967295", "4294967296", str(2**64), str(2**128 - 1)]
 NO_CONSISTENCIES = ["2", "4294967295", "4294967296", str(2**128 - 1)]
 NOISE = (
@@ -53,6 +56,7 @@ class Scripts:
         self.is_wild = False  # whether a statement may have values that are none of their column
         self.has_quorums, self.has_switches = False, False
         self.stopped = {}  # of each table the replicas that have fetches stopped
+        self.is_in_lane = False  # whether what is made comes into a lane, where no statement has settings
 
     def chance(self, share):
         return self.random.random() < share
@@ -162,7 +166,7 @@ class Scripts:
 
     def quorum(self):
         """The setting of an INSERT, or nothing: mostly a quorum that can be met if the other replicas fetch."""
-        if not self.has_quorums:
+        if self.is_in_lane or not self.has_quorums:
             return ["SETTINGS", "insert_quorum", "=", "2"] if self.chance(0.01) else []
         if self.chance(0.5):
             return []
@@ -285,8 +289,8 @@ class Scripts:
             return [self.one(same)]
         return [self.one(same), self.one("+-"), self.one(NUMBERS if self.chance(0.85) else WIDE)]
 
-    def delete(self):
-        return self.command(self.table(), [self.keyword("DELETE")])
+    def delete(self, table=None):
+        return self.command(self.table() if table is None else table, [self.keyword("DELETE")])
 
     def partition(self, table):
         rule, number = self.rules.get(table), int(self.one(NUMBERS))
@@ -393,7 +397,7 @@ class Scripts:
             lambda: self.want(table, number), lambda: self.want(table, number), lambda: self.want(table, number),
             lambda: self.want(table, other), lambda: self.work(table), lambda: self.insert(table, 0.3, number),
             lambda: self.insert(table, 0.3, other), lambda: self.update(table), lambda: self.merge(table, other),
-            lambda: ["@", f"r{number}"] + self.plain_select(), lambda: self.session(table, number),
+            lambda: ["@", f"r{number}"] + self.plain_select(), lambda: self.session(table, number), self.lanes,
             lambda: self.switch(table, other), lambda: self.restart(number) if number in self.down else self.kill(number),
             lambda: self.drop(table) if self.chance(0.4) else self.check(table, number),
         ])()  # fmt: skip
@@ -465,7 +469,7 @@ class Scripts:
             lambda: self.merge(table, number), lambda: self.merge(table, number), lambda: self.want(table, number),
             lambda: self.want(table, other), lambda: self.work(table), lambda: self.update(table),
             lambda: self.restart(other) if other in self.down else self.kill(other),
-            lambda: self.drop(table) if self.chance(0.3) else self.show(table, number),
+            lambda: self.drop(table) if self.chance(0.3) else self.show(table, number), self.lanes,
         ])()  # fmt: skip
 
     def merge(self, table, number):
@@ -521,6 +525,41 @@ class Scripts:
             ["SHOW", "PARTS", "FROM", table], ["CHECK", "TABLE", table],
         ])  # fmt: skip
 
+    # ---- lanes
+
+    def lanes(self):
+        """A few lanes of a few statements each, and often a look at what came of them. Lanes are often at a replica of
+        their own, and often in one table."""
+        table, count = self.table() if self.chance(0.7) else None, self.one([1, 2, 2, 2, 2, 3, 3, 4, 8])
+        if self.is_busy and self.chance(0.5):
+            looked_at = self.table() if table is None else table
+            self.next += [lambda n=n: self.want(looked_at, n) for n in range(1, self.replicas + 1) if self.chance(0.7)]
+        tokens, self.is_in_lane = [self.keyword("LANES"), ";"], True
+        for _ in range(self.one([0, 9]) if self.chance(0.02) else count):
+            tokens += [self.keyword("LANE"), ";"]
+            number = self.number_of_replica() if self.chance(0.6) else None
+            for _ in range(self.one([0, 1, 1, 2, 2, 3, 3, 5])):
+                statement = self.lane_statement(self.table() if table is None else table, number)
+                tokens += statement + ([] if isinstance(statement[-1], Raw) else [";"])
+        self.is_in_lane = False
+        return tokens + [self.keyword("END")]
+
+    def lane_statement(self, table, number):
+        """A statement of a lane: mostly at the replica of this number, if there is one. A few may stand in none."""
+        if self.chance(0.01):
+            return self.one([self.want(table, 1), self.work(table), self.kill(), self.keywords("LANES"), [";"]])
+        makes = [lambda: self.insert(table, 0.45)] * 5 + [lambda: self.lane_select(table)] * 4
+        makes += [lambda: self.update(table)] * 2 + [lambda: self.drop(table), lambda: self.delete(table)]
+        tokens = self.one(makes)()
+        if number is None or self.chance(0.1):
+            return tokens
+        return ["@", f"r{number}"] + (tokens[2:] if tokens[0] == "@" else tokens)
+
+    def lane_select(self, table):
+        """A SELECT of what some statement made, often with SYNC; the table may be another one."""
+        tokens = self.plain_select() if self.chance(0.5) else ["SELECT", "*", "FROM", table]
+        return self.replica() + tokens + ([self.keyword("SYNC")] if self.chance(0.5) else [])
+
     def everywhere(self):
         """What there is of a table in the end, at each replica: its parts, all its rows, and the digests of the parts
         that it has then."""
@@ -539,14 +578,13 @@ class Scripts:
     def other(self):
         table = self.table()
         alter = self.keywords("ALTER TABLE") + [table]
-        lanes = ["LANES", ";", "LANE", ";"] + self.replica() + self.plain_select() + [";", "LANE", ";", "END"]
         update = [self.keyword("UPDATE"), self.column(table), "="] + self.literal(None) + ["WHERE"] + self.filter(table)
         return self.one([
             self.replica() + alter + update, alter + ["DELETE", "WHERE"] + self.filter(table),
             alter + ["DROP", "PARTITION", "ID", "'all'"], ["OPTIMIZE", "TABLE", table, "FINAL"],
             ["SHOW", "PARTS", "FROM", table], ["CHECK", "TABLE", table], ["WAIT", "MUTATION", table, "0"],
             ["SYSTEM", "SYNC", "REPLICA", table], ["RUN", table, "3", "SEED", "4"],
-            ["REPLICAS", "3"], lanes,
+            ["REPLICAS", "3"], ["LANES", ";", "LANE", ";"] + self.lane_select(table) + [";", "LANE", ";", "END"],
         ])  # fmt: skip
 
     def busy_statement(self):
@@ -581,7 +619,9 @@ class Scripts:
             return self.check()
         if turn < 0.91:
             return self.kill() if self.chance(0.8) else self.restart()
-        return self.other() if turn < 0.96 else []
+        if turn < 0.94:
+            return self.lanes()
+        return self.other() if turn < 0.97 else []
 
     # ---- noise and white space
 

@@ -89,8 +89,8 @@ def grammar():
         ("a number of 39 digits", "WAIT MUTATION t ", "0", 39, "", unknown_table),
         ("a number of 40 digits", "WAIT MUTATION t ", "0", 40, "", fault(16)),
         ("a number past 2^128", "WAIT MUTATION t 3", "4", 38, "", fault(16)),
-        # Lanes are read, and not played: 0 is the place of LANES. Past the ninth LANE reading goes on with END.
-        ("eight lanes", "LANES;", "LANE;", 8, "END", fault(0)),
+        # Past the ninth LANE reading goes on with END.
+        ("eight lanes", "LANES;", "LANE;", 8, "END", "".join(f"lane {i}\n" for i in range(1, 9)) + "end\n"),
         ("nine lanes", "LANES;", "LANE;", 9, "END", fault(46) + fault(51)),
     ]:
         yield case(name, [prefix, piece * count, back], [output])
@@ -98,6 +98,42 @@ def grammar():
 
 def fault(offset):
     return f"refused 1 Syntax {offset}\n"
+
+
+# ---- many statements in lanes
+
+
+def lanes():
+    yield blocks_of_eight_lanes()
+    yield mutations_of_eight_lanes()
+
+
+def blocks_of_eight_lanes():
+    """Each lane is at a replica of its own. It inserts the last block of the lane before it once more, and 50 new ones,
+    and counts there what there is by then."""
+    script, output = ["REPLICAS 8;\n", table(), "LANES;\n"], ["ok\nok\n"]
+    for lane in range(8):
+        first, end, at = 50 * lane, 50 * lane + 50, f"@r{lane + 1}"
+        script += [f"LANE; {at} INSERT INTO t VALUES ({first - 1});\n" if lane else "LANE;\n"]
+        script += (f"{at} INSERT INTO t VALUES ({i});\n" for i in range(first, end))
+        script += [f"{at} SELECT count(), sum(c) FROM t SYNC;\n"]
+        output += [f"lane {lane + 1}\n", f"duplicate all_{first - 1}_{first - 1}_0\n" if lane else ""]
+        output += (f"part all_{i}_{i}_0\n" for i in range(first, end))
+        output += [f"rows 1\n{end},{sum(range(end))}\n"]
+    script += ["END; @r1 SELECT count() FROM t; @r1 SELECT max(c) FROM t SYNC;\n"]
+    output += ["end\nparts ", " ".join(f"all_{i}_{i}_0" for i in range(50)), "\nrows 1\n50\nrows 1\n399\n"]
+    return case("400 blocks in eight lanes", script, output)
+
+
+def mutations_of_eight_lanes():
+    """Of 1,032 mutations the last eight pass the limit: each is refused by itself, and the last lane goes on."""
+    lane = ["LANE;\n", *["ALTER TABLE t DELETE WHERE c = 1;\n"] * 129]
+    script = [table(), "LANES;\n", *lane * 8, "INSERT INTO t VALUES (1); END; SELECT count() FROM t SYNC;\n"]
+    output = ["ok\n"]
+    for id in range(1032):
+        output += [f"lane {id // 129 + 1}\n"] if id % 129 == 0 else []
+        output += [f"mutation {id:010}\n" if id < 1024 else "refused 18 LimitReached mutations 1024\n"]
+    return case("1,032 mutations in eight lanes", script, [*output, "part all_0_0_0\nend\nrows 1\n1\n"])
 
 
 # ---- the limits of a table
@@ -345,5 +381,6 @@ def digest(rows):
 
 
 SUBJECTS = {
-    "calls": calls, "costs": costs, "grammar": grammar, "limits": limits, "merges": merges, "quorum": quorums,
+    "calls": calls, "costs": costs, "grammar": grammar, "lanes": lanes, "limits": limits, "merges": merges,
+    "quorum": quorums,
 }  # fmt: skip

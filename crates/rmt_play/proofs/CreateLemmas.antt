@@ -1,5 +1,5 @@
 -- What becomes of a world as a table is made, or isn't.
-use Rattle.std.proofs.Common.{◌≡◌, ◌∙◌, ℕ, zero, suc, ◌+◌, ◌<◌, ◌&&◌, inl, inr, nat_eq, nat_lt, Bool, true, false, cond, List, [], ◌∷◌, ◌++◌, length, map, refl, ap, sym, subst, arith}
+use Rattle.std.proofs.Common.{◌≡◌, ◌∙◌, ℕ, zero, suc, ◌+◌, ◌<◌, ◌≤◌, ◌&&◌, inl, inr, nat_eq, nat_lt, Bool, true, false, cond, List, [], ◌∷◌, ◌++◌, length, map, refl, ap, sym, subst, arith}
 use Rattle.std.proofs.Math.Path.{fun_ext}
 use Rattle.std.proofs.lemmas.Bool.Decides.{nat_tests}
 use Rattle.std.specs.Prelude.{MatchOption, MatchResult, IfOk, IfErr, cond, is_some, slice_index_or, take}
@@ -25,12 +25,14 @@ use Rattle.rmt_play.specs.declared.answer.Answer.TheVariants as answers
 use Rattle.rmt_play.specs.World.{Table, World, new_table}
 use Rattle.rmt_play.specs.Checks.{first_of, refused_with, refused_schema, refused_columns, too_many_tables, create_refusals, is_played, refusals, refusal_of}
 use Rattle.rmt_statements.specs.declared.statement.Statement.{Statement}
-use Rattle.rmt_play.specs.Plays.{Creates, Performs, Refuses}
-use Rattle.rmt_play.specs.PlayerSteps.{Sights, clusters_seen, NamedTable, PlayerView, IsIn, Moves, IsNewTable, is_up, Answers, CreatesNone, HandsOut, IsReplied, Executes, ExecutesCreate, ExecutesPlayed}
+use Rattle.rmt_statements.specs.declared.statement.Statement.TheVariants as statements
+use Rattle.rmt_play.specs.Plays.{Creates, Performs, Refuses, OneLine, ExecutesStatement, RepliesTo}
+use Rattle.rmt_play.specs.PlayerSteps.{Sights, clusters_seen, NamedTable, PlayerView, IsIn, Moves, IsNewTable, is_up, Answers, CreatesNone, HandsOut, IsReplied, refusals_told, ExecutesCreate, ExecutesLine, ExecutesPlayed}
 use Rattle.rmt_play.proofs.FoundTables.{IsPlaceOf, HasNone, IsFound}
 use Rattle.rmt_play.specs.WorldRests.{RestsAll}
 use Rattle.rmt_play.proofs.TableLemmas.{length-shown, append-shown, none-in, none-named, length-named, about-rested, rests-all-none, stays}
 use Rattle.rmt_play.proofs.SendLemmas.{found-at}
+use Rattle.rmt_play.proofs.ScriptLemmas.{one-refused}
 
 -- a table is added
 pub adds : (p : PlayerView clusters_seen) (name : List ℕ) (schema : Shape) (c : Cluster) → IsNewTable schema p.replicas p.up c → Moves p (λ w v. Creates w name schema lines.Okay v) (record p { tables = p.tables ++ record { name = name; table = c } ∷ [] })
@@ -46,13 +48,21 @@ adds p name schema c h w i = record {
 
 -- a CREATE does so, whatever schema was made or refused
 abbrev pub CreatesMade : {e : Sights} → PlayerView e → List ℕ → Result Shape SchemaError → Answer → PlayerView e → Type 0
-CreatesMade p name made a q = MatchResult made (λ schema. Answers p (ExecutesCreate name None schema) a q) (λ x. Answers p (CreatesNone name x) a q)
+CreatesMade p name made a q = MatchResult made (λ schema. Answers p (OneLine (ExecutesCreate name None schema)) a q) (λ x. Answers p (OneLine (CreatesNone name x)) a q)
 
 -- what a statement comes to by one relation it comes to by another that follows
-pub answers-weaker : {e : Sights} (p q : PlayerView e) (Does More : Line → World → World → Type 0) → ((line : Line) (w at v : World) → IsIn p w → RestsAll e.workers w at → Does line at v → More line at v) → (a : Answer) → Answers p Does a q → Answers p More a q
+pub answers-weaker : {e : Sights} (p q : PlayerView e) (Does More : Line → World → World → Type 0) → ((line : Line) (w at v : World) → IsIn p w → RestsAll e.workers w at → Does line at v → More line at v) → (a : Answer) → Answers p (OneLine Does) a q → Answers p (OneLine More) a q
 answers-weaker p q Does More f (answers.Reply line) m = λ w i.
     let x = m w i in
     record { world = x.world; holds = record { at = x.holds.at; rests = x.holds.rests; change = f line w x.holds.at x.world i x.holds.rests x.holds.change }; is_in = x.is_in }
+answers-weaker {e} p q Does More f (answers.Lanes reply) m = λ w i.
+    let x = m w i in
+    record { world = x.world; holds = record { at = x.holds.at; rests = x.holds.rests; change = one reply w x.holds.at x.world i x.holds.rests x.holds.change }; is_in = x.is_in }
+  where
+    one : (reply : List Line) (w at v : World) → IsIn p w → RestsAll e.workers w at → OneLine Does reply at v → OneLine More reply at v
+    one [] w at v i r h = h
+    one (line ∷ []) w at v i r h = f line w at v i r h
+    one (line ∷ other ∷ more) w at v i r h = h
 answers-weaker p q Does More f (answers.Creates table schema) m = (m.0, λ line w at v i r c. f line w at v i r (m.1 line w at v i r c))
 
 -- the name is taken
@@ -97,7 +107,7 @@ full-refused p name schema line why none q k =
     stays p (ExecutesCreate name None schema line) (λ w i. refused-holds p w name None schema line why i none (full-first (too_many_tables (length p.tables)) ∙ q) k)
 
 -- whoever makes the table has played it
-pub created : {e : Sights} (p : PlayerView e) (name : List ℕ) (schema : Shape) → HasNone p.tables name → too_many_tables (length p.tables) ≡ None → HandsOut p (ExecutesCreate name None schema) name schema
+pub created : {e : Sights} (p : PlayerView e) (name : List ℕ) (schema : Shape) → HasNone p.tables name → too_many_tables (length p.tables) ≡ None → HandsOut p (OneLine (ExecutesCreate name None schema)) name schema
 created p name schema none room line w at v i r m =
     subst (λ (o : Option Refusal). MatchOption o (Creates at name schema line v) (λ why. Refuses at why line v))
     (sym (free p w at name None i r none ∙ (full-first (too_many_tables (length p.tables)) ∙ room))) m
@@ -120,37 +130,59 @@ made-created p name made schema m none room =
 
 -- a CREATE of which this schema or this refusal is known
 pub create-played : {e : Sights} (p q : PlayerView e) (name : List ℕ) (refusal : Option SchemaError) (schema : Shape) (made : Result Shape SchemaError) (a : Answer) → IfOk made (λ s. s ≡ schema) → IfOk made (λ s. refusal ≡ None)
-    → IfErr made (λ x. refusal ≡ Some x) → CreatesMade p name made a q → Answers p (ExecutesCreate name refusal schema) a q
+    → IfErr made (λ x. refusal ≡ Some x) → CreatesMade p name made a q → Answers p (OneLine (ExecutesCreate name refusal schema)) a q
 create-played p q name refusal schema (Ok s) a o k f m =
-    subst (λ (x : Option SchemaError). Answers p (ExecutesCreate name x schema) a q) (sym k) (subst (λ (x : Shape). Answers p (ExecutesCreate name None x) a q) o m)
+    subst (λ (x : Option SchemaError). Answers p (OneLine (ExecutesCreate name x schema)) a q) (sym k) (subst (λ (x : Shape). Answers p (OneLine (ExecutesCreate name None x)) a q) o m)
 create-played p q name refusal schema (Err x) a o k f m =
     answers-weaker p q (CreatesNone name x) (ExecutesCreate name refusal schema) (λ line w at v i r h. subst (λ (y : Option SchemaError). ExecutesCreate name y schema line at v) (sym f) (h schema)) a m
 
 -- a statement that was played
-pub replied-answers : {e : Sights} (p q : PlayerView e) (Does : Line → World → World → Type 0) (r : Result Line AllocError) (s : Result Answer AllocError) → IsReplied r s → IfOk r (λ line. Moves p (Does line) q) → IfOk s (λ a. Answers p Does a q)
+pub replied-answers : {e : Sights} (p q : PlayerView e) (Does : List Line → World → World → Type 0) (r : Result Line AllocError) (s : Result Answer AllocError) → IsReplied r s → IfOk r (λ line. Moves p (Does (line ∷ [])) q) → IfOk s (λ a. Answers p Does a q)
 replied-answers p q Does (Ok line) s k m = subst (λ (x : Result Answer AllocError). IfOk x (λ a. Answers p Does a q)) (sym k) m
 replied-answers p q Does (Err x) (Ok a) k m = absurd (cc)
 replied-answers p q Does (Err x) (Err y) k m = tt
 
--- ---- a form that isn't played
+-- and no more of its lines tell of a refusal than one
+pub replied-few : (n : ℕ) (r : Result Line AllocError) (s : Result Answer AllocError) → IsReplied r s → 1 ≤ n → IfOk s (λ a. refusals_told a ≤ n)
+replied-few n (Ok line) s k most = subst (λ (x : Result Answer AllocError). IfOk x (λ a. refusals_told a ≤ n)) (sym k) (let one = one-refused line in omega (arith, one, most))
+replied-few n (Err x) (Ok a) k most = absurd (cc)
+replied-few n (Err x) (Err y) k most = tt
 
-pub unplayed-refused : {e : Sights} (p : PlayerView e) (statement : Statement) (first : ℕ) → is_played (length p.tables) statement ≡ false → Moves p (Executes e.workers statement first (lines.Refused (Syntax first))) p
-unplayed-refused {e} p statement first k = stays p (Executes e.workers statement first (lines.Refused (Syntax first))) (λ w i.
-    let refused : refusal_of w statement first ≡ Some (Syntax first) =
-    ap (λ (b : Bool). first_of (cond b None (Some (Syntax first)) ∷ refusals w statement)) (ap (λ n. is_played n statement) (length-shown p.tables w.tables i.tables) ∙ k) in
-    subst (λ (o : Option Refusal). MatchOption o (Performs e.workers w statement (lines.Refused (Syntax first)) w) (λ why. Refuses w why (lines.Refused (Syntax first)) w)) (sym refused)
+-- ---- a statement out of place
+
+pub unplayed-refused : {e : Sights} (p : PlayerView e) (statement : Statement) (first : ℕ) → is_played (length p.tables) statement ≡ false → Moves p (RepliesTo e.workers statement first (lines.Refused (Syntax first) ∷ [])) p
+unplayed-refused {e} p (statements.Replicas count) first k = stays p (λ w v. ExecutesStatement e.workers w (statements.Replicas count) first (lines.Refused (Syntax first)) v) (λ w i.
+    let refused : refusal_of w (statements.Replicas count) first ≡ Some (Syntax first) =
+    ap (λ (b : Bool). first_of (cond b None (Some (Syntax first)) ∷ [])) (ap (λ n. is_played n (statements.Replicas count)) (length-shown p.tables w.tables i.tables) ∙ k) in
+    subst (λ (o : Option Refusal). MatchOption o (Performs e.workers w (statements.Replicas count) (lines.Refused (Syntax first)) w) (λ why. Refuses w why (lines.Refused (Syntax first)) w)) (sym refused)
     (record { reply = refl; unchanged = refl }))
+unplayed-refused p (statements.Create table columns partition key granularity window) first k = absurd (cc)
+unplayed-refused p (statements.Kill name) first k = absurd (cc)
+unplayed-refused p (statements.Restart name) first k = absurd (cc)
+unplayed-refused p (statements.Run table turns seed) first k = absurd (cc)
+unplayed-refused p (statements.Lanes lanes) first k = absurd (cc)
+unplayed-refused p (statements.At sent) first k = absurd (cc)
 
--- one that is played
-pub played : {e : Sights} (p q : PlayerView e) (statement : Statement) (first : ℕ) (a : Answer) → is_played (length p.tables) statement ≡ true → Answers p (ExecutesPlayed e.workers statement) a q → Answers p (Executes e.workers statement first) a q
-played {e} p q statement first a k m =
-    answers-weaker p q (ExecutesPlayed e.workers statement) (Executes e.workers statement first)
+-- ---- one that is played
+
+played-line : {e : Sights} (p q : PlayerView e) (statement : Statement) (first : ℕ) (a : Answer) → is_played (length p.tables) statement ≡ true → Answers p (OneLine (ExecutesLine e.workers statement)) a q → Answers p (OneLine (λ line w v. ExecutesStatement e.workers w statement first line v)) a q
+played-line {e} p q statement first a k m =
+    answers-weaker p q (ExecutesLine e.workers statement) (λ line w v. ExecutesStatement e.workers w statement first line v)
     (λ line w at v i r h. subst (λ (o : Option Refusal). MatchOption o (Performs e.workers at statement line v) (λ why. Refuses at why line v)) (sym (same w at i r)) h) a m
   where
     same : (w at : World) → IsIn p w → RestsAll e.workers w at → refusal_of at statement first ≡ first_of (refusals at statement)
     same w at i r =
         ap (λ (b : Bool). first_of (cond b None (Some (Syntax first)) ∷ refusals at statement))
         (ap (λ n. is_played n statement) (length-named w.tables at.tables (about-rested e.workers w at r).names ∙ length-shown p.tables w.tables i.tables) ∙ k)
+
+pub played : {e : Sights} (p q : PlayerView e) (statement : Statement) (first : ℕ) (a : Answer) → is_played (length p.tables) statement ≡ true → Answers p (ExecutesPlayed e.workers statement) a q → Answers p (RepliesTo e.workers statement first) a q
+played p q (statements.Replicas count) first a k m = played-line p q (statements.Replicas count) first a k m
+played p q (statements.Create table columns partition key granularity window) first a k m = played-line p q (statements.Create table columns partition key granularity window) first a k m
+played p q (statements.Kill name) first a k m = played-line p q (statements.Kill name) first a k m
+played p q (statements.Restart name) first a k m = played-line p q (statements.Restart name) first a k m
+played p q (statements.Run table turns seed) first a k m = played-line p q (statements.Run table turns seed) first a k m
+played p q (statements.At sent) first a k m = played-line p q (statements.At sent) first a k m
+played p q (statements.Lanes lanes) first a k m = m
 
 -- ---- whether a name is taken
 

@@ -13,6 +13,7 @@ pub mod CommandLemmas
 pub mod SequentialLemmas
 pub mod RefusedActs
 pub mod ScriptLemmas
+pub mod LaneLemmas
 pub mod SteppedLaws
 pub mod SeatLemmas
 pub mod AtRestLemmas

@@ -14,7 +14,7 @@ gives_some None P holds = record { script = []; given = tt; holds = holds [] }
 gives_some (Some bytes) P holds = record { script = bytes; given = refl; holds = holds bytes }
 
 none : (w : Bool) (written : Option (List ℕ)) (script : List ℕ) → PlayedInPart w written written script
-none w written script = record { lines = []; at = 0; world = start; played = (refl, refl); written = Appends-nil written }
+none w written script = record { replies = []; at = 0; world = start; played = (refl, refl); written = Appends-nil written }
 
 -- nothing of the script was played, in whatever form
 pub none_played : (form : Form) (left written : Option (List ℕ)) → GivesScript left (PlaysInPart (Some form) written written)

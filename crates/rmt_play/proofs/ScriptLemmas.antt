@@ -2,18 +2,17 @@
 use Rattle.std.proofs.Common.{◌≡◌, ◌∙◌, ℕ, ◌+◌, ◌<◌, ◌≤◌, List, [], ◌∷◌, ◌++◌, length, refl, ap, sym, subst, Bool, cond, Option, arith, append_assoc, zero, suc, ◌&&◌, true, false, nat_lt, append-nil}
 use Rattle.std.proofs.Math.Path.{fun_ext}
 use Rattle.std.proofs.lemmas.Bool.Decides.{nat_tests}
-use Rattle.std.specs.Prelude.{count_by, if◌then◌else◌, nat_le, replicate, slice_index_or}
+use Rattle.std.specs.Prelude.{count_by, nat_le, replicate, slice_index_or}
 use Rattle.std.specs.Io.KnownBytes.{Appends, Keeps}
 use Rattle.std.proofs.KnownBytes.{Appends-nil, Appends-trans, Appends-kept}
-use Rattle.std.proofs.lemmas.List.Sums.{sum_by-append}
 use Rattle.rmt_sql.specs.declared.parsed.Parsed.TheVariants as parsed
 use Rattle.rmt_sql.specs.Script.{ReadsAt}
 use Rattle.rmt_reply.specs.declared.line.Line.{Line}
-use Rattle.rmt_reply.specs.Printed.{printed}
+use Rattle.rmt_reply.specs.Printed.{printed_all}
+use Rattle.rmt_reply.specs.Summaries.{is_refused}
 use Rattle.rmt_play.specs.World.{World, all_up, start}
-use Rattle.rmt_play.specs.Plays.{Creates, Step, Played, PlayedFrom, is_refused}
-use Rattle.rmt_play.specs.Runs.{output, PlayedWhole, PlayedInPart, CutShort}
-use Rattle.rmt_play.specs.declared.outcome.Outcome.{Outcome}
+use Rattle.rmt_play.specs.Plays.{Creates, Step, Played, PlayedFrom}
+use Rattle.rmt_play.specs.Runs.{output, refusals_in, PlayedWhole, PlayedInPart, CutShort}
 use Rattle.rmt_play.specs.declared.script_end.ScriptEnd.{ScriptEnd}
 use Rattle.rmt_play.specs.declared.script_end.ScriptEnd.TheVariants as ends
 use Rattle.rmt_model.specs.Words.{Each}
@@ -24,21 +23,21 @@ use Rattle.rmt_play.specs.declared.round.Round.TheVariants as rounds
 use Rattle.rmt_play.specs.declared.progress.Progress.{Progress}
 use Rattle.rmt_play.specs.declared.progress.Progress.TheVariants as progress
 use Rattle.rmt_play.specs.PlayerSteps.{Sights, clusters_seen, PlayerView, is_up, IsIn, IsEmptyPlayer, RestsFirst, Moves, StepsTo}
-use Rattle.rmt_play.specs.ScriptEnds.{is_refusal, AdvancesScript, CutsReply, IsReply, IsProgress, IsToCreate, PlaysOn, IsRound, IsMade, MakesTable, AreOfPlayer, IsScriptEnd, IsEndOf}
+use Rattle.rmt_play.specs.ScriptEnds.{AdvancesScript, CutsReply, IsReply, IsProgress, IsToCreate, PlaysOn, IsRound, IsMade, MakesTable, AreOfPlayer, IsScriptEnd, IsEndOf}
 use Rattle.rmt_play.proofs.TableLemmas.{shown-clusters, rests-all-none}
 
 -- the statements up to a place were played, their replies written and the refused ones counted
 pub record SoFar {e : Sights} (script : List ℕ) (at : ℕ) (player : PlayerView e) (before now : Option (List ℕ)) (refused : ℕ) : Type 0 where
-  pub lines : List Line
+  pub replies : List (List Line)
   pub world : World
-  pub played : Played e.workers script lines at world
+  pub played : Played e.workers script replies at world
   pub is_in : IsIn player world
-  pub written : Appends before now (output lines)
-  pub counted : refused ≡ count_by is_refused lines
+  pub written : Appends before now (output replies)
+  pub counted : refused ≡ refusals_in replies
 
 -- a statement is played once the world rested
-steps-played : (workers : Bool) (script : List ℕ) (from end : ℕ) (line : Line) (old new : World) → RestsFirst workers (StepsTo workers script from end line) old new → Step workers script from old line end new
-steps-played workers script from end line old new k = record { rested = k.at; rests = k.rests; found = k.change.found; reads = k.change.reads; ends = k.change.ends; executes = k.change.executes }
+steps-played : (workers : Bool) (script : List ℕ) (from end : ℕ) (reply : List Line) (old new : World) → RestsFirst workers (StepsTo workers script from end reply) old new → Step workers script from old reply end new
+steps-played workers script from end reply old new k = record { rested = k.at; rests = k.rests; found = k.change.found; reads = k.change.reads; ends = k.change.ends; executes = k.change.executes }
 
 no-both : (x : Bool) → (x && false) ≡ false
 no-both true = refl
@@ -59,7 +58,7 @@ both-up = fun_ext up
 
 pub so_far_start : {e : Sights} (script : List ℕ) (player : PlayerView e) (before : Option (List ℕ)) → IsEmptyPlayer player → SoFar script 0 player before before 0
 so_far_start {e} script player before q = record {
-  lines = [];
+  replies = [];
   world = start;
   played = (refl, refl);
   is_in = subst (λ (p : PlayerView e). IsIn p start) (sym q) (record { replicas = refl; up = both-up; tables = tt });
@@ -67,34 +66,30 @@ so_far_start {e} script player before q = record {
   counted = refl;
 }
 
-one_count : (line : Line) (lines : List Line) → count_by is_refused (line ∷ lines) ≡ cond (is_refused line) 1 0 + count_by is_refused lines
-one_count line lines = let e = sum_by-append (λ l. cond (is_refused l) 1 0) (line ∷ []) lines in omega (arith, e)
-
-pub so_far_on : {e : Sights} (script : List ℕ) (at : ℕ) (old new : PlayerView e) (before now after : Option (List ℕ)) (refused end count : ℕ) (outcome : Outcome) → SoFar script at old before now refused → AdvancesScript script at old new now after end outcome
-    → count ≡ refused + (if is_refusal outcome then 1 else 0) → SoFar script end new before after count
-so_far_on {e} script at old new before now after refused end count outcome so on c =
+pub so_far_on : {e : Sights} (script : List ℕ) (at : ℕ) (old new : PlayerView e) (before now after : Option (List ℕ)) (refused end more : ℕ) → SoFar script at old before now refused → AdvancesScript script at old new now after end more
+    → SoFar script end new before after (refused + more)
+so_far_on {e} script at old new before now after refused end more so on =
     let counted = so.counted in
-    let flag : ◌≡◌ {A = ℕ} (cond (is_refusal outcome) 1 0) (cond (is_refused on.line) 1 0) = ap (λ (b : Bool). cond {A = ℕ} b 1 0) on.counted in
-    let all = one_count on.line so.lines in
+    let here = on.counted in
     let next = on.step so.world so.is_in in
     record {
-      lines = on.line ∷ so.lines;
+      replies = on.reply ∷ so.replies;
       world = next.world;
-      played = (at, so.world, so.played, steps-played e.workers script at end on.line so.world next.world next.holds);
+      played = (at, so.world, so.played, steps-played e.workers script at end on.reply so.world next.world next.holds);
       is_in = next.is_in;
-      written = Appends-trans before now after (output so.lines) (printed on.line) so.written on.written;
-      counted = omega (arith, counted, flag, all, c);
+      written = Appends-trans before now after (output so.replies) (printed_all on.reply) so.written on.written;
+      counted = omega (arith, counted, here);
     }
 
 pub so_far_whole : (script : List ℕ) (at : ℕ) (player : PlayerView clusters_seen) (before now after : Option (List ℕ)) (refused : ℕ) (clusters : List Cluster) → SoFar script at player before now refused → ReadsAt script at parsed.End → Keeps now after
     → AreOfPlayer player clusters → PlayedWhole false script before after refused clusters
 so_far_whole script at player before now after refused clusters so ended keeps o = record {
-  lines = so.lines;
+  replies = so.replies;
   at = at;
   last = so.world;
   played = so.played;
   ended = ended;
-  written = Appends-kept before now after (output so.lines) so.written keeps;
+  written = Appends-kept before now after (output so.replies) so.written keeps;
   counted = so.counted;
   world = so.world;
   rests = rests-all-none false so.world;
@@ -106,18 +101,18 @@ so_far_whole script at player before now after refused clusters so ended keeps o
 
 pub so_far_in_part : {e : Sights} (script : List ℕ) (at : ℕ) (player : PlayerView e) (before now after : Option (List ℕ)) (refused : ℕ) → SoFar script at player before now refused → Keeps now after → PlayedInPart e.workers before after script
 so_far_in_part script at player before now after refused so keeps =
-    record { lines = so.lines; at = at; world = so.world; played = so.played; written = Appends-kept before now after (output so.lines) so.written keeps }
+    record { replies = so.replies; at = at; world = so.world; played = so.played; written = Appends-kept before now after (output so.replies) so.written keeps }
 
 pub so_far_short : {e : Sights} (script : List ℕ) (at : ℕ) (player : PlayerView e) (before now after : Option (List ℕ)) (refused : ℕ) → SoFar script at player before now refused → CutsReply script at player now after → CutShort e.workers before after script
 so_far_short {e} script at player before now after refused so short =
     let (prefix, rest, parts, written) = short.written in
     let next = short.step so.world so.is_in in
     record {
-      lines = short.line ∷ so.lines;
+      replies = short.reply ∷ so.replies;
       at = short.end;
       world = next.world;
-      played = (at, so.world, so.played, steps-played e.workers script at short.end short.line so.world next.world next.holds);
-      written = (output so.lines ++ prefix, rest, append_assoc (output so.lines) prefix rest ∙ ap (λ l. output so.lines ++ l) parts, Appends-trans before now after (output so.lines) prefix so.written written);
+      played = (at, so.world, so.played, steps-played e.workers script at short.end short.reply so.world next.world next.holds);
+      written = (output so.replies ++ prefix, rest, append_assoc (output so.replies) prefix rest ∙ ap (λ l. output so.replies ++ l) parts, Appends-trans before now after (output so.replies) prefix so.written written);
     }
 
 -- how a script ends that was played to its end
@@ -129,67 +124,77 @@ ends-whole script at player before now after refused ends.WriteFault so ended ke
 ends-whole script at player before now after refused ends.Memory so ended keeps e = so_far_in_part script at player before now after refused so keeps
 
 -- the reply of a statement that was played makes the progress
-pub reply-progress : {e : Sights} (script : List ℕ) (at end : ℕ) (line : Line) (old new : PlayerView e) (before after : Option (List ℕ)) (p : Progress)
-    → IsReply line end before after p → Moves old (StepsTo e.workers script at end line) new → at < end → end ≤ length script
+pub reply-progress : {e : Sights} (script : List ℕ) (at end : ℕ) (reply : List Line) (old new : PlayerView e) (before after : Option (List ℕ)) (p : Progress)
+    → IsReply reply end before after p → Moves old (StepsTo e.workers script at end reply) new → at < end → end ≤ length script → at + count_by is_refused reply ≤ end
     → IsProgress script at old new before after p
-reply-progress script at end line old new before after progress.AtEnd written step further within = elim written [ ]
-reply-progress script at end line old new before after (progress.On place outcome) (same, written, counted) step further within =
-    subst (λ (e : ℕ). AdvancesScript script at old new before after e outcome) (sym same)
-    (record { line = line; step = step; written = written; counted = counted; further = further; within = within })
-reply-progress script at end line old new before after (progress.Creates table schema place) written step further within = elim written [ ]
-reply-progress script at end line old new before after progress.WriteFault written step further within =
-    record { line = line; end = end; new = new; step = step; written = written }
-reply-progress script at end line old new before after progress.Memory kept step further within = kept
+reply-progress script at end reply old new before after progress.AtEnd written step further within few = elim written [ ]
+reply-progress script at end reply old new before after (progress.On place refused) (same, written, counted) step further within few =
+    subst (λ (e : ℕ). AdvancesScript script at old new before after e refused) (sym same)
+    (record { reply = reply; step = step; written = written; counted = counted; few = subst (λ (n : ℕ). at + n ≤ end) (sym counted) few; further = further; within = within })
+reply-progress script at end reply old new before after (progress.Creates table schema place) written step further within few = elim written [ ]
+reply-progress script at end reply old new before after progress.WriteFault written step further within few =
+    record { reply = reply; end = end; new = new; step = step; written = written }
+reply-progress script at end reply old new before after progress.Memory kept step further within few = kept
+
+-- one line tells of one refusal at most
+pub one-refused : (line : Line) → count_by is_refused (line ∷ []) ≤ 1
+one-refused line = go (is_refused line)
+  where
+    go : (b : Bool) → 0 + cond b 1 0 ≤ 1
+    go true = omega arith
+    go false = omega arith
 
 -- ---- rounds
 
 -- some statements, and then some more
-pub played-then : (w : Bool) (script : List ℕ) (from : ℕ) (old : World) (first : List Line) (mid : ℕ) (between : World) (later : List Line) (at : ℕ) (new : World) → PlayedFrom w script from old first mid between → PlayedFrom w script mid between later at new
+pub played-then : (w : Bool) (script : List ℕ) (from : ℕ) (old : World) (first : List (List Line)) (mid : ℕ) (between : World) (later : List (List Line)) (at : ℕ) (new : World) → PlayedFrom w script from old first mid between → PlayedFrom w script mid between later at new
     → PlayedFrom w script from old (later ++ first) at new
 played-then w script from old first mid between [] at new f g =
     subst (λ (v : World). PlayedFrom w script from old first at v) (sym g.1) (subst (λ (i : ℕ). PlayedFrom w script from old first i between) (sym g.0) f)
-played-then w script from old first mid between (line ∷ later) at new f g = (g.0, g.1, played-then w script from old first mid between later g.0 g.1 f g.2, g.3)
+played-then w script from old first mid between (reply ∷ later) at new f g = (g.0, g.1, played-then w script from old first mid between later g.0 g.1 f g.2, g.3)
 
 -- what they reply
-output-append : (later first : List Line) → output (later ++ first) ≡ output first ++ output later
+output-append : (later first : List (List Line)) → output (later ++ first) ≡ output first ++ output later
 output-append [] first = sym (append-nil (output first))
-output-append (line ∷ later) first = ap (λ (bs : List ℕ). bs ++ printed line) (output-append later first) ∙ append_assoc (output first) (output later) (printed line)
+output-append (reply ∷ later) first = ap (λ (bs : List ℕ). bs ++ printed_all reply) (output-append later first) ∙ append_assoc (output first) (output later) (printed_all reply)
 
 -- how many of them are refused
-count-append : (later first : List Line) → count_by is_refused (later ++ first) ≡ count_by is_refused later + count_by is_refused first
-count-append later first = sum_by-append (λ l. cond (is_refused l) 1 0) later first
+refusals-append : (later first : List (List Line)) → refusals_in (later ++ first) ≡ refusals_in later + refusals_in first
+refusals-append [] first = omega arith
+refusals-append (reply ∷ later) first = let rest = refusals-append later first in omega (arith, rest)
 
 -- a round begins
 pub plays-start : {e : Sights} (script : List ℕ) (from count : ℕ) (p : PlayerView e) (before : Option (List ℕ)) → count ≤ from → from ≤ length script → PlaysOn script from count p before from count p before
 plays-start script from count p before few within = record {
-  lines = [];
+  replies = [];
   played = λ w i. record { world = w; holds = (refl, refl); is_in = i };
   written = Appends-nil before;
-  counted = let none : count_by is_refused [] ≡ 0 = refl in omega (arith, none);
+  counted = omega arith;
   further = omega arith;
   few = few;
   within = within;
 }
 
 -- and goes on by a statement
-pub plays-more : {e : Sights} (script : List ℕ) (from count : ℕ) (old p q : PlayerView e) (before now after : Option (List ℕ)) (at refused end more : ℕ) (outcome : Outcome) → PlaysOn script from count old before at refused p now
-    → AdvancesScript script at p q now after end outcome → more ≡ refused + (if is_refusal outcome then 1 else 0) → more ≤ end → PlaysOn script from count old before end more q after
-plays-more {e} script from count old p q before now after at refused end more outcome k on c few =
+pub plays-more : {e : Sights} (script : List ℕ) (from count : ℕ) (old p q : PlayerView e) (before now after : Option (List ℕ)) (at refused end more : ℕ) → PlaysOn script from count old before at refused p now
+    → AdvancesScript script at p q now after end more → PlaysOn script from count old before end (refused + more) q after
+plays-more {e} script from count old p q before now after at refused end more k on =
     let counted = k.counted in
-    let flag : ◌≡◌ {A = ℕ} (cond (is_refusal outcome) 1 0) (cond (is_refused on.line) 1 0) = ap (λ (b : Bool). cond {A = ℕ} b 1 0) on.counted in
-    let all = one_count on.line k.lines in
+    let here = on.counted in
     let so = k.further in
     let on_from = on.further in
+    let few_before = k.few in
+    let few_here = on.few in
     record {
-      lines = on.line ∷ k.lines;
+      replies = on.reply ∷ k.replies;
       played = λ w i.
           let x = k.played w i in
           let y = on.step x.world x.is_in in
-          record { world = y.world; holds = (at, x.world, x.holds, steps-played e.workers script at end on.line x.world y.world y.holds); is_in = y.is_in };
-      written = Appends-trans before now after (output k.lines) (printed on.line) k.written on.written;
-      counted = omega (arith, counted, flag, all, c);
+          record { world = y.world; holds = (at, x.world, x.holds, steps-played e.workers script at end on.reply x.world y.world y.holds); is_in = y.is_in };
+      written = Appends-trans before now after (output k.replies) (printed_all on.reply) k.written on.written;
+      counted = omega (arith, counted, here);
       further = omega (arith, so, on_from);
-      few = few;
+      few = omega (arith, few_before, few_here);
       within = on.within;
     }
 
@@ -199,13 +204,13 @@ so_far_plays {e} script from at p q before now after count refused so k =
     let x = k.played so.world so.is_in in
     let first = so.counted in
     let later = k.counted in
-    let all = count-append k.lines so.lines in
+    let all = refusals-append k.replies so.replies in
     record {
-      lines = k.lines ++ so.lines;
+      replies = k.replies ++ so.replies;
       world = x.world;
-      played = played-then e.workers script 0 start so.lines from so.world k.lines at x.world so.played x.holds;
+      played = played-then e.workers script 0 start so.replies from so.world k.replies at x.world so.played x.holds;
       is_in = x.is_in;
-      written = subst (Appends before after) (sym (output-append k.lines so.lines)) (Appends-trans before now after (output so.lines) (output k.lines) so.written k.written);
+      written = subst (Appends before after) (sym (output-append k.replies so.replies)) (Appends-trans before now after (output so.replies) (output k.replies) so.written k.written);
       counted = omega (arith, first, later, all);
     }
 
@@ -214,14 +219,16 @@ pub made-progress : {e : Sights} (script : List ℕ) (at end : ℕ) (p q r : Pla
     → MakesTable table schema end q r now after progress → IsProgress script at p r before after progress
 made-progress {e} script at end p q r before now after table schema progress c m =
     let made = subst (λ (x : PlayerView e). Moves x (λ w v. Creates w table schema m.line v) r) c.unchanged m.made in
-    reply-progress script at end m.line p r before after progress (subst (λ (b : Option (List ℕ)). IsReply m.line end b after progress) c.unwritten m.written)
-    (λ w i. let x = made w i in record { world = x.world; holds = record { at = x.holds.at; rests = x.holds.rests; change = c.creates m.line w x.holds.at x.world i x.holds.rests x.holds.change }; is_in = x.is_in }) c.further c.within
+    let further = c.further in
+    let one = one-refused m.line in
+    reply-progress script at end (m.line ∷ []) p r before after progress (subst (λ (b : Option (List ℕ)). IsReply (m.line ∷ []) end b after progress) c.unwritten m.written)
+    (λ w i. let x = made w i in record { world = x.world; holds = record { at = x.holds.at; rests = x.holds.rests; change = c.creates m.line w x.holds.at x.world i x.holds.rests x.holds.change }; is_in = x.is_in }) c.further c.within (omega (arith, further, one))
 
 -- its reply tells how far the making of it comes
-pub made-told : {e : Sights} (table : List ℕ) (schema : Shape) (end : ℕ) (line : Line) (p q : PlayerView e) (before after : Option (List ℕ)) (progress : Progress) → Moves p (λ w v. Creates w table schema line v) q → IsReply line end before after progress
+pub made-told : {e : Sights} (table : List ℕ) (schema : Shape) (end : ℕ) (line : Line) (p q : PlayerView e) (before after : Option (List ℕ)) (progress : Progress) → Moves p (λ w v. Creates w table schema line v) q → IsReply (line ∷ []) end before after progress
     → IsMade table schema end p q before after progress
 made-told table schema end line p q before after progress.AtEnd m w = elim w [ ]
-made-told table schema end line p q before after (progress.On place outcome) m w = record { line = line; made = m; written = w }
+made-told table schema end line p q before after (progress.On place refused) m w = record { line = line; made = m; written = w }
 made-told table schema end line p q before after (progress.Creates name made place) m w = elim w [ ]
 made-told table schema end line p q before after progress.WriteFault m w = record { line = line; made = m; written = w }
 made-told table schema end line p q before after progress.Memory m w = w
@@ -229,17 +236,19 @@ made-told table schema end line p q before after progress.Memory m w = w
 -- ---- a script, from round to round
 
 -- it goes on behind a table that was made
-pub so_far_made : {e : Sights} (script : List ℕ) (from count : ℕ) (p q r : PlayerView e) (before now mid after : Option (List ℕ)) (table : List ℕ) (schema : Shape) (end refused place more : ℕ) (outcome : Outcome) → SoFar script from p before now count
-    → IsRound script from count p q now mid (rounds.Creates table schema end refused) → MakesTable table schema end q r mid after (progress.On place outcome) → more ≡ refused + (if is_refusal outcome then 1 else 0)
-    → SoFar script place r before after more × (refused < place) × (from < place) × (place ≤ length script)
-so_far_made script from count p q r before now mid after table schema end refused place more outcome so k m c =
+pub so_far_made : {e : Sights} (script : List ℕ) (from count : ℕ) (p q r : PlayerView e) (before now mid after : Option (List ℕ)) (table : List ℕ) (schema : Shape) (end refused place more : ℕ) → SoFar script from p before now count
+    → IsRound script from count p q now mid (rounds.Creates table schema end refused) → MakesTable table schema end q r mid after (progress.On place more)
+    → SoFar script place r before after (refused + more) × (refused + more ≤ place) × (from < place) × (place ≤ length script)
+so_far_made script from count p q r before now mid after table schema end refused place more so k m =
     let so1 = so_far_plays script from k.at p k.player before now k.now count k.refused so k.plays in
-    let on = made-progress script k.at end k.player q r k.now mid after table schema (progress.On place outcome) k.ends.1 m in
+    let on = made-progress script k.at end k.player q r k.now mid after table schema (progress.On place more) k.ends.1 m in
     let same = k.ends.0 in
     let few = k.plays.few in
+    let here = on.few in
     let so_far = k.plays.further in
     let further = on.further in
-    (so_far_on script k.at k.player r before k.now after k.refused place more outcome so1 on (c ∙ ap (λ (n : ℕ). n + (if is_refusal outcome then 1 else 0)) same), omega (arith, same, few, further), omega (arith, so_far, further), on.within)
+    let all = so_far_on script k.at k.player r before k.now after k.refused place more so1 on in
+    (subst (λ (n : ℕ). SoFar script place r before after (n + more)) (sym same) all, omega (arith, same, few, here), omega (arith, so_far, further), on.within)
 
 -- it ends with a round
 pub round-ends : (script : List ℕ) (from count : ℕ) (p q : PlayerView clusters_seen) (before now after : Option (List ℕ)) (refused : ℕ) (end : ScriptEnd) → SoFar script from p before now count → IsRound script from count p q now after (rounds.AtEnd refused)

@@ -19,9 +19,9 @@ use Rattle.rmt_play.specs.Checks.{first_of, table_of, table_named, replica_at, u
 use Rattle.rmt_cluster.specs.Runs.{RunsAll}
 use Rattle.rmt_play.specs.ActEvents.{ActEvents}
 use Rattle.rmt_play.specs.RunStatement.{RunsTurns}
-use Rattle.rmt_play.specs.Plays.{PerformsSent, RunsIn, Refuses, with_table}
+use Rattle.rmt_play.specs.Plays.{ExecutesSent, PerformsSent, RunsIn, Refuses, with_table}
 use Rattle.rmt_play.specs.WorldRests.{RestsAll}
-use Rattle.rmt_play.specs.PlayerSteps.{Sights, NamedTable, PlayerView, IsAtAll, IsIn, ComesTo, RestsFirst, Moves, ActsAt, RunsAt, ExecutesSent, ExecutesRun}
+use Rattle.rmt_play.specs.PlayerSteps.{Sights, NamedTable, PlayerView, IsAtAll, IsIn, ComesTo, RestsFirst, Moves, ActsAt, RunsAt, ExecutesRun}
 use Rattle.rmt_play.proofs.FoundTables.{IsPlaceOf, HasNone}
 use Rattle.rmt_play.specs.ActSteps.{DoesAct, Declines, refusal_there, held_refusal, ExecutesAct, ExecutesIn, ExecutesAt, ExecutesThere}
 use Rattle.rmt_acting.specs.Acting.{Sight, LeadsTo, RestsThen}

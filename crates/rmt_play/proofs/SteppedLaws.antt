@@ -1,7 +1,7 @@
 -- A script without workers: what it means at `false` is what it means with no word of workers, and no less. The other way holds
 -- where workers run too: what is played without them may be played among them.
-use Rattle.std.proofs.Common.{◌≡◌, ◌⊎◌, inl, inr, ℕ, Bool, true, false, List, [], ◌∷◌, map, refl, sym, ap, subst, ◌∙◌}
-use Rattle.std.specs.Prelude.{MatchOption, count_by}
+use Rattle.std.proofs.Common.{◌≡◌, ◌⊎◌, inl, inr, ℕ, suc, Bool, true, false, List, [], ◌∷◌, ◌++◌, map, refl, sym, ap, subst, ◌∙◌}
+use Rattle.std.specs.Prelude.{MatchOption}
 use Rattle.std.specs.declared.option.Option.{Option}
 use Rattle.std.specs.declared.option.Option.TheVariants.{Some, None}
 use Rattle.std.specs.Io.KnownBytes.{Appends}
@@ -42,7 +42,7 @@ use Rattle.rmt_statement_model.proofs.SteppedLaws.{SteppedInsertsAll, SteppedOpt
 use Rattle.rmt_play.specs.declared.end.End.{End}
 use Rattle.rmt_play.specs.World.{Table, World, with_up, start}
 use Rattle.rmt_play.specs.WorldRests.{AreRested, RestsAll}
-use Rattle.rmt_play.specs.Checks.{schema_made, table_of, replica_of, replica_at, table_named, refusal_of}
+use Rattle.rmt_play.specs.Checks.{schema_made, table_of, replica_of, replica_at, table_named, first_of, sent_refusals, refusal_of}
 use Rattle.rmt_play.specs.InsertStatement.{need_of, InsertsRows, MeetsBadRow, MeetsDown, InsertsInto}
 use Rattle.rmt_play.specs.SelectStatement.{Syncs, Reads, ReadsWith}
 use Rattle.rmt_play.specs.ExplainStatement.{Explains}
@@ -56,9 +56,9 @@ use Rattle.rmt_play.specs.SystemStatements.{SyncsReplica, RestartsReplica, Switc
 use Rattle.rmt_play.specs.RunStatement.{RunsTurns}
 use Rattle.rmt_play.specs.Acts.{Acts}
 use Rattle.rmt_play.specs.ActEvents.{ActEvents}
-use Rattle.rmt_play.specs.Plays.{Refuses, Counts, Creates, with_table, InTable, session_event, InEach, Turns, Performs, ExecutesStatement, Executes, EndsAt, Step, Played, is_refused}
+use Rattle.rmt_play.specs.Plays.{Refuses, Counts, Creates, with_table, InTable, session_event, InEach, Turns, PerformsSent, Performs, ExecutesStatement, OneLine, ExecutesSent, PlaysLane, PlaysEach, RepliesTo, Executes, EndsAt, Step, Played}
 use Rattle.rmt_play.specs.Shown.{AreShown, HasReplicas, Agrees, HandsBack}
-use Rattle.rmt_play.specs.Runs.{output, PlayedWhole, PlayedInPart, CutShort, PlayedToEnd}
+use Rattle.rmt_play.specs.Runs.{output, refusals_in, PlayedWhole, PlayedInPart, CutShort, PlayedToEnd}
 use Rattle.rmt_play.proofs.TableLemmas.{rests-all-none}
 
 -- ---- INSERT
@@ -298,21 +298,45 @@ SteppedExecutesStatement old statement first line new =
     MatchOption (refusal_of old statement first) (SteppedPerforms old statement line new)
     (λ refusal. Refuses old refusal line new)
 
-abbrev pub SteppedExecutes : World → Parsed → Line → World → Type 0
-SteppedExecutes old (parsed.Statement statement first end) line new = SteppedExecutesStatement old statement first line new
-SteppedExecutes old (parsed.Syntax offset end) line new = Refuses old (Syntax offset) line new
-SteppedExecutes old parsed.End line new = ⊥
+abbrev pub SteppedExecutesSent : Sent → Line → World → World → Type 0
+SteppedExecutesSent sent line old new =
+    MatchOption (first_of (sent_refusals old sent)) (SteppedPerforms old (statements.At sent) line new) (λ refusal. Refuses old refusal line new)
 
-pub record SteppedStep (script : List ℕ) (from : ℕ) (old : World) (line : Line) (at : ℕ) (new : World) : Type 0 where
+abbrev pub SteppedPlaysLane : World → List Sent → List Line → World → Type 0
+SteppedPlaysLane old [] [] new = new ≡ old
+SteppedPlaysLane old (sent ∷ lane) (line ∷ reply) new = (mid : World) × SteppedExecutesSent sent line old mid × SteppedPlaysLane mid lane reply new
+SteppedPlaysLane old lane reply new = ⊥
+
+abbrev pub SteppedPlaysEach : World → ℕ → List (List Sent) → List Line → World → Type 0
+SteppedPlaysEach old number [] reply new = (reply ≡ []) × (new ≡ old)
+SteppedPlaysEach old number (lane ∷ lanes) reply new =
+    (first : List Line) × (more : List Line) × (mid : World) × (reply ≡ lines.Lane number ∷ first ++ more)
+    × SteppedPlaysLane old lane first mid × SteppedPlaysEach mid (suc number) lanes more new
+
+pub record SteppedPlaysLanes (lanes : List (List Sent)) (reply : List Line) (old new : World) : Type 0 where
+  pub each : List Line
+  pub plays : SteppedPlaysEach old 1 lanes each new
+  pub ended : reply ≡ each ++ lines.End ∷ []
+
+abbrev pub SteppedRepliesTo : Statement → ℕ → List Line → World → World → Type 0
+SteppedRepliesTo (statements.Lanes lanes) first reply old new = SteppedPlaysLanes lanes reply old new
+SteppedRepliesTo statement first reply old new = OneLine (λ line w v. SteppedExecutesStatement w statement first line v) reply old new
+
+abbrev pub SteppedExecutes : World → Parsed → List Line → World → Type 0
+SteppedExecutes old (parsed.Statement statement first end) reply new = SteppedRepliesTo statement first reply old new
+SteppedExecutes old (parsed.Syntax offset end) reply new = OneLine (λ line w v. Refuses w (Syntax offset) line v) reply old new
+SteppedExecutes old parsed.End reply new = ⊥
+
+pub record SteppedStep (script : List ℕ) (from : ℕ) (old : World) (reply : List Line) (at : ℕ) (new : World) : Type 0 where
   pub found : Parsed
   pub reads : ReadsAt script from found
   pub ends : EndsAt found at
-  pub executes : SteppedExecutes old found line new
+  pub executes : SteppedExecutes old found reply new
 
-abbrev pub SteppedPlayed : List ℕ → List Line → ℕ → World → Type 0
+abbrev pub SteppedPlayed : List ℕ → List (List Line) → ℕ → World → Type 0
 SteppedPlayed script [] at world = (at ≡ 0) × (world ≡ start)
-SteppedPlayed script (line ∷ lines) at world =
-    (from : ℕ) × (before : World) × SteppedPlayed script lines from before × SteppedStep script from before line at world
+SteppedPlayed script (reply ∷ replies) at world =
+    (from : ℕ) × (before : World) × SteppedPlayed script replies from before × SteppedStep script from before reply at world
 
 statement-among : (w : Bool) (old : World) (statement : Statement) (first : ℕ) (line : Line) (new : World) → SteppedExecutesStatement old statement first line new → ExecutesStatement w old statement first line new
 statement-among w old statement first line new k = go (refusal_of old statement first) k
@@ -328,16 +352,6 @@ statement-alone old statement first line new k = go (refusal_of old statement fi
     go None h = performs-alone old statement line new h
     go (Some refusal) h = h
 
-executes-among : (w : Bool) (old : World) (found : Parsed) (line : Line) (new : World) → SteppedExecutes old found line new → Executes w old found line new
-executes-among w old (parsed.Statement statement first end) line new k = statement-among w old statement first line new k
-executes-among w old (parsed.Syntax offset end) line new k = k
-executes-among w old parsed.End line new k = k
-
-executes-alone : (old : World) (found : Parsed) (line : Line) (new : World) → Executes false old found line new → SteppedExecutes old found line new
-executes-alone old (parsed.Statement statement first end) line new k = statement-alone old statement first line new k
-executes-alone old (parsed.Syntax offset end) line new k = k
-executes-alone old parsed.End line new k = k
-
 -- without workers no table rests
 tables-alone : (olds news : List Table) → AreRested false olds news → news ≡ olds
 tables-alone [] [] k = refl
@@ -350,52 +364,121 @@ tables-alone (t ∷ olds) (u ∷ news) k =
 pub rests-alone : (old new : World) → RestsAll false old new → new ≡ old
 rests-alone old new k = k.rest ∙ ap (λ (ts : List Table). record old { tables = ts }) (tables-alone old.tables new.tables k.tables)
 
-step-among : (w : Bool) (script : List ℕ) (from : ℕ) (old : World) (line : Line) (at : ℕ) (new : World) → SteppedStep script from old line at new → Step w script from old line at new
-step-among w script from old line at new k = record { rested = old; rests = rests-all-none w old; found = k.found; reads = k.reads; ends = k.ends; executes = executes-among w old k.found line new k.executes }
+-- one line that is replied so is replied so by what follows
+one-line : (A B : Line → World → World → Type 0) (reply : List Line) (old new : World) → ((line : Line) → A line old new → B line old new) → OneLine A reply old new → OneLine B reply old new
+one-line A B [] old new f k = k
+one-line A B (line ∷ []) old new f k = f line k
+one-line A B (line ∷ other ∷ more) old new f k = k
 
-step-alone : (script : List ℕ) (from : ℕ) (old : World) (line : Line) (at : ℕ) (new : World) → Step false script from old line at new → SteppedStep script from old line at new
-step-alone script from old line at new k = record {
+sent-among : (w : Bool) (sent : Sent) (line : Line) (old new : World) → SteppedExecutesSent sent line old new → ExecutesSent w sent line old new
+sent-among w sent line old new k = go (first_of (sent_refusals old sent)) k
+  where
+    go : (o : Option Refusal) → MatchOption o (SteppedPerforms old (statements.At sent) line new) (λ refusal. Refuses old refusal line new) → MatchOption o (PerformsSent w old sent line new) (λ refusal. Refuses old refusal line new)
+    go None h = performs-among w old (statements.At sent) line new h
+    go (Some refusal) h = h
+
+sent-alone : (sent : Sent) (line : Line) (old new : World) → ExecutesSent false sent line old new → SteppedExecutesSent sent line old new
+sent-alone sent line old new k = go (first_of (sent_refusals old sent)) k
+  where
+    go : (o : Option Refusal) → MatchOption o (PerformsSent false old sent line new) (λ refusal. Refuses old refusal line new) → MatchOption o (SteppedPerforms old (statements.At sent) line new) (λ refusal. Refuses old refusal line new)
+    go None h = performs-alone old (statements.At sent) line new h
+    go (Some refusal) h = h
+
+lane-among : (w : Bool) (old : World) (lane : List Sent) (reply : List Line) (new : World) → SteppedPlaysLane old lane reply new → PlaysLane w old lane reply new
+lane-among w old [] [] new k = k
+lane-among w old [] (line ∷ reply) new k = absurd k
+lane-among w old (sent ∷ lane) [] new k = absurd k
+lane-among w old (sent ∷ lane) (line ∷ reply) new k = (old, k.0, rests-all-none w old, sent-among w sent line old k.0 k.1, lane-among w k.0 lane reply new k.2)
+
+lane-alone : (old : World) (lane : List Sent) (reply : List Line) (new : World) → PlaysLane false old lane reply new → SteppedPlaysLane old lane reply new
+lane-alone old [] [] new k = k
+lane-alone old [] (line ∷ reply) new k = absurd k
+lane-alone old (sent ∷ lane) [] new k = absurd k
+lane-alone old (sent ∷ lane) (line ∷ reply) new k =
+    (k.1, subst (λ (x : World). SteppedExecutesSent sent line x k.1) (rests-alone old k.0 k.2) (sent-alone sent line k.0 k.1 k.3), lane-alone k.1 lane reply new k.4)
+
+lanes-among : (w : Bool) (old : World) (number : ℕ) (lanes : List (List Sent)) (reply : List Line) (new : World) → SteppedPlaysEach old number lanes reply new → PlaysEach w old number lanes reply new
+lanes-among w old number [] reply new k = k
+lanes-among w old number (lane ∷ lanes) reply new k = (k.0, k.1, k.2, k.3, lane-among w old lane k.0 k.2 k.4, lanes-among w k.2 (suc number) lanes k.1 new k.5)
+
+lanes-alone : (old : World) (number : ℕ) (lanes : List (List Sent)) (reply : List Line) (new : World) → PlaysEach false old number lanes reply new → SteppedPlaysEach old number lanes reply new
+lanes-alone old number [] reply new k = k
+lanes-alone old number (lane ∷ lanes) reply new k = (k.0, k.1, k.2, k.3, lane-alone old lane k.0 k.2 k.4, lanes-alone k.2 (suc number) lanes k.1 new k.5)
+
+replies-among : (w : Bool) (statement : Statement) (first : ℕ) (reply : List Line) (old new : World) → SteppedRepliesTo statement first reply old new → RepliesTo w statement first reply old new
+replies-among w (statements.Lanes lanes) first reply old new k = record { each = k.each; plays = lanes-among w old 1 lanes k.each new k.plays; ended = k.ended }
+replies-among w (statements.Replicas count) first reply old new k = one-line _ _ reply old new (λ line h. statement-among w old (statements.Replicas count) first line new h) k
+replies-among w (statements.Create table columns partition key granularity window) first reply old new k = one-line _ _ reply old new (λ line h. statement-among w old (statements.Create table columns partition key granularity window) first line new h) k
+replies-among w (statements.Kill name) first reply old new k = one-line _ _ reply old new (λ line h. statement-among w old (statements.Kill name) first line new h) k
+replies-among w (statements.Restart name) first reply old new k = one-line _ _ reply old new (λ line h. statement-among w old (statements.Restart name) first line new h) k
+replies-among w (statements.Run table turns seed) first reply old new k = one-line _ _ reply old new (λ line h. statement-among w old (statements.Run table turns seed) first line new h) k
+replies-among w (statements.At sent) first reply old new k = one-line _ _ reply old new (λ line h. statement-among w old (statements.At sent) first line new h) k
+
+replies-alone : (statement : Statement) (first : ℕ) (reply : List Line) (old new : World) → RepliesTo false statement first reply old new → SteppedRepliesTo statement first reply old new
+replies-alone (statements.Lanes lanes) first reply old new k = record { each = k.each; plays = lanes-alone old 1 lanes k.each new k.plays; ended = k.ended }
+replies-alone (statements.Replicas count) first reply old new k = one-line _ _ reply old new (λ line h. statement-alone old (statements.Replicas count) first line new h) k
+replies-alone (statements.Create table columns partition key granularity window) first reply old new k = one-line _ _ reply old new (λ line h. statement-alone old (statements.Create table columns partition key granularity window) first line new h) k
+replies-alone (statements.Kill name) first reply old new k = one-line _ _ reply old new (λ line h. statement-alone old (statements.Kill name) first line new h) k
+replies-alone (statements.Restart name) first reply old new k = one-line _ _ reply old new (λ line h. statement-alone old (statements.Restart name) first line new h) k
+replies-alone (statements.Run table turns seed) first reply old new k = one-line _ _ reply old new (λ line h. statement-alone old (statements.Run table turns seed) first line new h) k
+replies-alone (statements.At sent) first reply old new k = one-line _ _ reply old new (λ line h. statement-alone old (statements.At sent) first line new h) k
+
+executes-among : (w : Bool) (old : World) (found : Parsed) (reply : List Line) (new : World) → SteppedExecutes old found reply new → Executes w old found reply new
+executes-among w old (parsed.Statement statement first end) reply new k = replies-among w statement first reply old new k
+executes-among w old (parsed.Syntax offset end) reply new k = k
+executes-among w old parsed.End reply new k = k
+
+executes-alone : (old : World) (found : Parsed) (reply : List Line) (new : World) → Executes false old found reply new → SteppedExecutes old found reply new
+executes-alone old (parsed.Statement statement first end) reply new k = replies-alone statement first reply old new k
+executes-alone old (parsed.Syntax offset end) reply new k = k
+executes-alone old parsed.End reply new k = k
+
+step-among : (w : Bool) (script : List ℕ) (from : ℕ) (old : World) (reply : List Line) (at : ℕ) (new : World) → SteppedStep script from old reply at new → Step w script from old reply at new
+step-among w script from old reply at new k = record { rested = old; rests = rests-all-none w old; found = k.found; reads = k.reads; ends = k.ends; executes = executes-among w old k.found reply new k.executes }
+
+step-alone : (script : List ℕ) (from : ℕ) (old : World) (reply : List Line) (at : ℕ) (new : World) → Step false script from old reply at new → SteppedStep script from old reply at new
+step-alone script from old reply at new k = record {
   found = k.found;
   reads = k.reads;
   ends = k.ends;
-  executes = subst (λ (x : World). SteppedExecutes x k.found line new) (rests-alone old k.rested k.rests) (executes-alone k.rested k.found line new k.executes);
+  executes = subst (λ (x : World). SteppedExecutes x k.found reply new) (rests-alone old k.rested k.rests) (executes-alone k.rested k.found reply new k.executes);
 }
 
-played-among : (w : Bool) (script : List ℕ) (lines : List Line) (at : ℕ) (world : World) → SteppedPlayed script lines at world → Played w script lines at world
+played-among : (w : Bool) (script : List ℕ) (replies : List (List Line)) (at : ℕ) (world : World) → SteppedPlayed script replies at world → Played w script replies at world
 played-among w script [] at world k = k
-played-among w script (line ∷ lines) at world k = (k.0, k.1, played-among w script lines k.0 k.1 k.2, step-among w script k.0 k.1 line at world k.3)
+played-among w script (reply ∷ replies) at world k = (k.0, k.1, played-among w script replies k.0 k.1 k.2, step-among w script k.0 k.1 reply at world k.3)
 
-played-alone : (script : List ℕ) (lines : List Line) (at : ℕ) (world : World) → Played false script lines at world → SteppedPlayed script lines at world
+played-alone : (script : List ℕ) (replies : List (List Line)) (at : ℕ) (world : World) → Played false script replies at world → SteppedPlayed script replies at world
 played-alone script [] at world k = k
-played-alone script (line ∷ lines) at world k = (k.0, k.1, played-alone script lines k.0 k.1 k.2, step-alone script k.0 k.1 line at world k.3)
+played-alone script (reply ∷ replies) at world k = (k.0, k.1, played-alone script replies k.0 k.1 k.2, step-alone script k.0 k.1 reply at world k.3)
 
 -- ---- a whole run
 
 pub record SteppedPlayedWhole (script : List ℕ) (before after : Option (List ℕ)) (refused : ℕ) (clusters : List Cluster) : Type 0 where
-  pub lines : List Line
+  pub replies : List (List Line)
   pub at : ℕ
   pub world : World
-  pub played : SteppedPlayed script lines at world
+  pub played : SteppedPlayed script replies at world
   pub ended : ReadsAt script at parsed.End
-  pub written : Appends before after (output lines)
-  pub counted : refused ≡ count_by is_refused lines
+  pub written : Appends before after (output replies)
+  pub counted : refused ≡ refusals_in replies
   pub shown : AreShown clusters world.tables
   pub replicas : Each (HasReplicas world.replicas world.up) clusters
   pub agree : Each Agrees clusters
 
 pub record SteppedPlayedInPart (before after : Option (List ℕ)) (script : List ℕ) : Type 0 where
-  pub lines : List Line
+  pub replies : List (List Line)
   pub at : ℕ
   pub world : World
-  pub played : SteppedPlayed script lines at world
-  pub written : Appends before after (output lines)
+  pub played : SteppedPlayed script replies at world
+  pub written : Appends before after (output replies)
 
 pub record SteppedCutShort (before after : Option (List ℕ)) (script : List ℕ) : Type 0 where
-  pub lines : List Line
+  pub replies : List (List Line)
   pub at : ℕ
   pub world : World
-  pub played : SteppedPlayed script lines at world
-  pub written : AppendsPrefix before after (output lines)
+  pub played : SteppedPlayed script replies at world
+  pub written : AppendsPrefix before after (output replies)
 
 pub record SteppedPlayedToEnd (script : List ℕ) (before after : Option (List ℕ)) (refused : ℕ) (end : End) : Type 0 where
   pub clusters : List Cluster
@@ -404,10 +487,10 @@ pub record SteppedPlayedToEnd (script : List ℕ) (before after : Option (List �
 
 pub whole-among : (w : Bool) (script : List ℕ) (before after : Option (List ℕ)) (refused : ℕ) (clusters : List Cluster) → SteppedPlayedWhole script before after refused clusters → PlayedWhole w script before after refused clusters
 whole-among w script before after refused clusters k = record {
-  lines = k.lines;
+  replies = k.replies;
   at = k.at;
   last = k.world;
-  played = played-among w script k.lines k.at k.world k.played;
+  played = played-among w script k.replies k.at k.world k.played;
   ended = k.ended;
   written = k.written;
   counted = k.counted;
@@ -420,10 +503,10 @@ whole-among w script before after refused clusters k = record {
 
 pub whole-alone : (script : List ℕ) (before after : Option (List ℕ)) (refused : ℕ) (clusters : List Cluster) → PlayedWhole false script before after refused clusters → SteppedPlayedWhole script before after refused clusters
 whole-alone script before after refused clusters k = record {
-  lines = k.lines;
+  replies = k.replies;
   at = k.at;
   world = k.world;
-  played = subst (λ (x : World). SteppedPlayed script k.lines k.at x) (sym (rests-alone k.last k.world k.rests)) (played-alone script k.lines k.at k.last k.played);
+  played = subst (λ (x : World). SteppedPlayed script k.replies k.at x) (sym (rests-alone k.last k.world k.rests)) (played-alone script k.replies k.at k.last k.played);
   ended = k.ended;
   written = k.written;
   counted = k.counted;
@@ -433,16 +516,16 @@ whole-alone script before after refused clusters k = record {
 }
 
 pub part-among : (w : Bool) (before after : Option (List ℕ)) (script : List ℕ) → SteppedPlayedInPart before after script → PlayedInPart w before after script
-part-among w before after script k = record { lines = k.lines; at = k.at; world = k.world; played = played-among w script k.lines k.at k.world k.played; written = k.written }
+part-among w before after script k = record { replies = k.replies; at = k.at; world = k.world; played = played-among w script k.replies k.at k.world k.played; written = k.written }
 
 pub part-alone : (before after : Option (List ℕ)) (script : List ℕ) → PlayedInPart false before after script → SteppedPlayedInPart before after script
-part-alone before after script k = record { lines = k.lines; at = k.at; world = k.world; played = played-alone script k.lines k.at k.world k.played; written = k.written }
+part-alone before after script k = record { replies = k.replies; at = k.at; world = k.world; played = played-alone script k.replies k.at k.world k.played; written = k.written }
 
 pub short-among : (w : Bool) (before after : Option (List ℕ)) (script : List ℕ) → SteppedCutShort before after script → CutShort w before after script
-short-among w before after script k = record { lines = k.lines; at = k.at; world = k.world; played = played-among w script k.lines k.at k.world k.played; written = k.written }
+short-among w before after script k = record { replies = k.replies; at = k.at; world = k.world; played = played-among w script k.replies k.at k.world k.played; written = k.written }
 
 pub short-alone : (before after : Option (List ℕ)) (script : List ℕ) → CutShort false before after script → SteppedCutShort before after script
-short-alone before after script k = record { lines = k.lines; at = k.at; world = k.world; played = played-alone script k.lines k.at k.world k.played; written = k.written }
+short-alone before after script k = record { replies = k.replies; at = k.at; world = k.world; played = played-alone script k.replies k.at k.world k.played; written = k.written }
 
 pub end-among : (w : Bool) (script : List ℕ) (before after : Option (List ℕ)) (refused : ℕ) (end : End) → SteppedPlayedToEnd script before after refused end → PlayedToEnd w script before after refused end
 end-among w script before after refused end k = record { clusters = k.clusters; handed_back = k.handed_back; played = whole-among w script before after refused k.clusters k.played }

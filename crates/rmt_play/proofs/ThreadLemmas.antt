@@ -1,5 +1,5 @@
 -- A script among workers, from round to round.
-use Rattle.std.proofs.Common.{◌≡◌, ◌≢◌, ◌∙◌, ℕ, ◌+◌, ◌<◌, ◌≤◌, true, List, length, refl, sym, subst, arith}
+use Rattle.std.proofs.Common.{◌≡◌, ◌≢◌, ◌∙◌, ℕ, ◌+◌, ◌<◌, ◌≤◌, true, List, [], ◌∷◌, length, refl, sym, subst, arith}
 use Rattle.std.specs.declared.option.Option.{Option}
 use Rattle.std.specs.Io.KnownBytes.{Appends, Keeps}
 use Rattle.std.proofs.KnownBytes.{Appends-kept}
@@ -8,12 +8,11 @@ use Rattle.rmt_events.specs.Views.{Block}
 use Rattle.rmt_clients.specs.Clients.{AreClear}
 use Rattle.rmt_outside.specs.StreamBytes.{AppendsPrefix}
 use Rattle.rmt_reply.specs.declared.line.Line.TheVariants as lines
-use Rattle.rmt_reply.specs.Printed.{printed}
+use Rattle.rmt_reply.specs.Printed.{printed_all}
 use Rattle.rmt_play.specs.Plays.{Creates}
 use Rattle.rmt_play.specs.Offered.{IsOfferedBy}
 use Rattle.rmt_play.specs.Runs.{output, CutShort, PlayedInPart}
 use Rattle.rmt_play.specs.Threads.{AreClearIn, PlayedAmong}
-use Rattle.rmt_play.specs.declared.outcome.Outcome.TheVariants as outcomes
 use Rattle.rmt_play.specs.declared.round.Round.{Round}
 use Rattle.rmt_play.specs.declared.round.Round.TheVariants as rounds
 use Rattle.rmt_play.specs.declared.threaded.ground.Ground.{Ground}
@@ -47,7 +46,7 @@ round-played script from count p q before now after (rounds.AtEnd refused) so k 
     so_far_in_part script k.at k.player before k.now after k.refused (so_far_plays script from k.at p k.player before now k.now count k.refused so k.plays) k.ends.2
 round-played script from count p q before now after (rounds.Creates table schema end refused) so k n =
     let s = so_far_plays script from k.at p k.player before now k.now count k.refused so k.plays in
-    record { lines = s.lines; at = k.at; world = s.world; played = s.played; written = subst (λ (b : Option (List ℕ)). Appends before b (output s.lines)) (sym k.ends.1.unwritten) s.written }
+    record { replies = s.replies; at = k.at; world = s.world; played = s.played; written = subst (λ (b : Option (List ℕ)). Appends before b (output s.replies)) (sym k.ends.1.unwritten) s.written }
 round-played script from count p q before now after rounds.WriteFault so k n = absurd (n refl)
 round-played script from count p q before now after rounds.Memory so k n =
     so_far_in_part script k.at k.player before k.now after k.refused (so_far_plays script from k.at p k.player before now k.now count k.refused so k.plays) k.ends
@@ -69,13 +68,14 @@ made-among O q left next table schema clear l a w z = adds-moves O left next tab
 
 -- the statements up to it were played, and it
 pub so_far_among : (O : Shape → Block → Type 0) (script : List ℕ) (from count : ℕ) (p q : PlayerView (seats_seen O)) (before now mid after : Option (List ℕ)) (left next : Ground) (table : List ℕ) (schema : Shape) (end refused : ℕ) → AreClear (O schema) → SoFar script from p before now count
-    → IsRound script from count p q now mid (rounds.Creates table schema end refused) → LeavesGround O q left → AddsTo table schema left next → Appends mid after (printed lines.Okay) → SoFar script end (ground_view O next) before after refused
+    → IsRound script from count p q now mid (rounds.Creates table schema end refused) → LeavesGround O q left → AddsTo table schema left next → Appends mid after (printed_all (lines.Okay ∷ [])) → SoFar script end (ground_view O next) before after refused
 so_far_among O script from count p q before now mid after left next table schema end refused clear so k l a w =
-    (so_far_made script from count p q (ground_view O next) before now mid after table schema end refused end refused outcomes.Accepted so k
-    (record { line = lines.Okay; made = made-among O q left next table schema clear l a; written = (refl, w, refl) }) (let e : refused ≡ refused + 0 = omega arith in e)).0
+    subst (λ (n : ℕ). SoFar script end (ground_view O next) before after n) (let e : refused + 0 ≡ refused = omega arith in e)
+    (so_far_made script from count p q (ground_view O next) before now mid after table schema end refused end 0 so k
+    (record { line = lines.Okay; made = made-among O q left next table schema clear l a; written = (refl, w, refl) })).0
 
 pub short-among : (O : Shape → Block → Type 0) (script : List ℕ) (from count : ℕ) (p q : PlayerView (seats_seen O)) (before now mid after : Option (List ℕ)) (left next : Ground) (table : List ℕ) (schema : Shape) (end refused : ℕ) → AreClear (O schema) → SoFar script from p before now count
-    → IsRound script from count p q now mid (rounds.Creates table schema end refused) → LeavesGround O q left → AddsTo table schema left next → AppendsPrefix mid after (printed lines.Okay) → CutShort true before after script
+    → IsRound script from count p q now mid (rounds.Creates table schema end refused) → LeavesGround O q left → AddsTo table schema left next → AppendsPrefix mid after (printed_all (lines.Okay ∷ [])) → CutShort true before after script
 short-among O script from count p q before now mid after left next table schema end refused clear so k l a w =
     made-short script from count p q (ground_view O next) before now mid after table schema end refused so k (record { line = lines.Okay; made = made-among O q left next table schema clear l a; written = w })
 
@@ -89,12 +89,12 @@ whole-among O script from count p q before now after left refused so k l =
     let z : IsIn q s.world = subst (λ (v : PlayerView (seats_seen O)). IsIn v s.world) (sym same) s.is_in in
     let h = hands-back O left s.world l.ground (l.stays s.world z) in
     record {
-      lines = s.lines;
+      replies = s.replies;
       at = k.at;
       last = s.world;
       played = s.played;
       ended = ended;
-      written = Appends-kept before k.now after (output s.lines) s.written keeps;
+      written = Appends-kept before k.now after (output s.replies) s.written keeps;
       counted = counted ∙ s.counted;
       world = h.world;
       rests = h.rests;
@@ -125,10 +125,10 @@ module _ (script : List ℕ) (from count : ℕ) (g : Ground) (before now mid : O
     pub span-next : (next : Ground) → AddsTo table schema left next → IsGround offers next
     span-next next a = adds-ground offers left next table schema k.tells.1.ground a
 
-    pub span-made : (next : Ground) (after : Option (List ℕ)) → AddsTo table schema left next → Appends mid after (printed lines.Okay) → AreClearIn script → SoFar script end (ground_view offers next) before after refused
+    pub span-made : (next : Ground) (after : Option (List ℕ)) → AddsTo table schema left next → Appends mid after (printed_all (lines.Okay ∷ [])) → AreClearIn script → SoFar script end (ground_view offers next) before after refused
     span-made next after a w clear = so_far_among offers script from count view k.paused before now mid after left next table schema end refused (clear schema) (sofar clear) up-to k.tells.1 a w
 
-    pub span-made-short : (after : Option (List ℕ)) → ((next : Ground) × AddsTo table schema left next × AppendsPrefix mid after (printed lines.Okay)) → AreClearIn script → CutShort true before after script
+    pub span-made-short : (after : Option (List ℕ)) → ((next : Ground) × AddsTo table schema left next × AppendsPrefix mid after (printed_all (lines.Okay ∷ []))) → AreClearIn script → CutShort true before after script
     span-made-short after m clear = short-among offers script from count view k.paused before now mid after left m.0 table schema end refused (clear schema) (sofar clear) up-to k.tells.1 m.1 m.2
 
     pub span-made-none : (after : Option (List ℕ)) → Keeps mid after → AreClearIn script → PlayedInPart true before after script

@@ -1,7 +1,7 @@
 -- Why a statement is refused. Each refusal has its test, and a statement meets the first in the order of the checks.
 -- ClickHouse documentation: CREATE TABLE, INSERT INTO, SELECT, EXPLAIN, ALTER, OPTIMIZE, SYSTEM. The refusals and their order
 -- are this program's own.
-use Rattle.std.specs.Prelude.{ℕ, zero, suc, ◌-◌, ◌^◌, cond, nat_eq, nat_le, nat_lt, ◌&&◌, Bool, true, false, List, [], ◌∷◌, length, codes}
+use Rattle.std.specs.Prelude.{ℕ, zero, suc, ◌-◌, ◌^◌, cond, nat_eq, nat_le, nat_lt, ◌&&◌, Bool, true, List, [], ◌∷◌, length, codes}
 use Rattle.std.specs.declared.option.Option.{Option}
 use Rattle.std.specs.declared.option.Option.TheVariants.{Some, None}
 use Rattle.std.specs.Str.{bytes_eq}
@@ -28,20 +28,14 @@ first_of [] = None
 first_of (None ∷ rest) = first_of rest
 first_of (Some refusal ∷ rest) = Some refusal
 
--- ---- forms that nothing plays so far
+-- ---- REPLICAS
 
--- REPLICAS with 1 to 8 replicas and before all tables, CREATE, KILL, RESTART, RUN, and what is sent to a replica; so many tables
--- there are
+-- REPLICAS is played with 1 to 8 replicas and before all tables, each other statement anywhere; so many tables there are
 abbrev pub is_played : ℕ → Statement → Bool
 is_played tables (statements.Replicas count) = (nat_le 1 count && nat_le count 8) && nat_eq tables 0
-is_played tables (statements.Create table columns partition key granularity window) = true
-is_played tables (statements.Kill replica) = true
-is_played tables (statements.Restart replica) = true
-is_played tables (statements.Run table turns seed) = true
-is_played tables (statements.At sent) = true
-is_played tables statement = false
+is_played tables statement = true
 
--- a form that nothing plays, at its first token
+-- a statement that isn't played, at its first token
 abbrev pub unplayed : ℕ → Statement → ℕ → Option Refusal
 unplayed tables statement start = cond (is_played tables statement) None (Some (Syntax start))
 

@@ -17,6 +17,7 @@ use Rattle.rmt_sql_rows.specs.Inserts.{AreInsertedRows}
 use Rattle.rmt_statements.specs.declared.act.Act.{Act}
 use Rattle.rmt_statements.specs.declared.act.Act.TheVariants as acts
 use Rattle.rmt_statements.specs.declared.insert.Insert.{Insert}
+use Rattle.rmt_statements.specs.declared.sent.Sent.{Sent}
 use Rattle.rmt_statements.specs.declared.statement.Statement.{Statement}
 use Rattle.rmt_statements.specs.declared.statement.Statement.TheVariants as statements
 
@@ -33,8 +34,17 @@ abbrev pub BringsBlock : Shape → Act → Block → Type 0
 BringsBlock schema (acts.Insert insert) b = IsInsertedBlock schema insert b
 BringsBlock schema act b = ⊥
 
+-- so does a statement of one of the lanes
+pub record BringsInLanes (schema : Shape) (lanes : List (List Sent)) (b : Block) : Type 0 where
+  pub lane : List Sent
+  pub among : Has lanes lane
+  pub sent : Sent
+  pub in_lane : Has lane sent
+  pub brings : BringsBlock schema sent.act b
+
 -- so does the statement
 abbrev pub SendsBlock : Shape → Statement → Block → Type 0
+SendsBlock schema (statements.Lanes lanes) b = BringsInLanes schema lanes b
 SendsBlock schema (statements.At sent) b = BringsBlock schema sent.act b
 SendsBlock schema statement b = ⊥
 
@@ -56,6 +66,10 @@ OffersRows Offers schema rows = (blocks : List BlockView) → IsSplit schema row
 -- each block that the act brings is one of these
 abbrev pub OffersAct : (Shape → Block → Type 0) → Act → Type 0
 OffersAct Offers act = (schema : Shape) (b : Block) → BringsBlock schema act b → Offers schema b
+
+-- so does each statement of a lane
+abbrev pub OffersLane : (Shape → Block → Type 0) → List Sent → Type 0
+OffersLane Offers lane = All (λ sent. OffersAct Offers sent.act) lane
 
 -- each block that the statement brings is one of these
 abbrev pub OffersStatement : (Shape → Block → Type 0) → Statement → Type 0

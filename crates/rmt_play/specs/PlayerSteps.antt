@@ -1,5 +1,5 @@
 -- What a player has, and what the steps of a statement do. No public clause cites this module.
-use Rattle.std.specs.Prelude.{◌≡◌, ◌⊎◌, ⊤, ℕ, zero, suc, ◌<◌, ◌≤◌, ◌-◌, ◌&&◌, nat_lt, Bool, true, false, List, [], ◌∷◌, ◌++◌, length, map, replicate, slice_get, slice_index_or, slice_set, MatchOption, IsErr}
+use Rattle.std.specs.Prelude.{◌≡◌, ◌⊎◌, ⊤, ℕ, zero, suc, ◌<◌, ◌≤◌, ◌-◌, ◌&&◌, nat_lt, Bool, true, false, List, [], ◌∷◌, ◌++◌, length, map, replicate, slice_get, slice_index_or, slice_set, count_by, MatchOption, IsErr}
 use Rattle.std.specs.List.{All}
 use Rattle.std.specs.Str.{bytes_eq}
 use Rattle.std.specs.declared.option.Option.{Option}
@@ -18,23 +18,25 @@ use Rattle.rmt_events.specs.Clusters.{Cluster}
 use Rattle.rmt_statement_model.specs.TableStates.{TableState, empty_table}
 use Rattle.rmt_statement_model.specs.Shows.{Shows, HoldsNone, ups}
 use Rattle.rmt_sql.specs.declared.parsed.Parsed.{Parsed}
-use Rattle.rmt_sql.specs.Script.{ReadsAt}
+use Rattle.rmt_sql.specs.Script.{ReadsAt, statements_in}
 use Rattle.rmt_statements.specs.declared.act.Act.{Act}
 use Rattle.rmt_statements.specs.declared.act.Act.TheVariants as acts
 use Rattle.rmt_statements.specs.declared.insert.Insert.{Insert}
 use Rattle.rmt_statements.specs.declared.sent.Sent.{Sent}
 use Rattle.rmt_statements.specs.declared.statement.Statement.{Statement}
+use Rattle.rmt_statements.specs.declared.statement.Statement.TheVariants as statements
 use Rattle.rmt_sql_rows.specs.declared.rows_error.RowsError.TheVariants as errors
 use Rattle.rmt_sql_rows.specs.InsertedRows.{names_refusal, all_names}
 use Rattle.rmt_sql_rows.specs.Inserts.{AreInsertedRows, IsBadInsertRow}
 use Rattle.rmt_reply.specs.declared.line.Line.{Line}
 use Rattle.rmt_reply.specs.declared.refusal.Refusal.{Refusal}
 use Rattle.rmt_reply.specs.declared.refusal.Refusal.TheVariants.{BadRow}
+use Rattle.rmt_reply.specs.Summaries.{is_refused}
 use Rattle.rmt_play.specs.declared.answer.Answer.{Answer}
 use Rattle.rmt_play.specs.declared.player.Player.{Player}
 use Rattle.rmt_play.specs.declared.answer.Answer.TheVariants as answers
 use Rattle.rmt_play.specs.World.{Table, World}
-use Rattle.rmt_play.specs.Checks.{first_of, create_refusals, sent_refusals, kill_refusals, restart_refusals, run_refusals, refusals}
+use Rattle.rmt_play.specs.Checks.{first_of, create_refusals, kill_refusals, restart_refusals, run_refusals, refusals}
 use Rattle.rmt_play.specs.ActRefusals.{or_else, refused_names, refused_quorum, act_refusal}
 use Rattle.rmt_cluster.specs.NewClusters.{IsNewCluster}
 use Rattle.rmt_acts.specs.StatementEvents.{Makes}
@@ -42,7 +44,7 @@ use Rattle.rmt_acting.specs.Acting.{Sight, GoesOn, KeepsShape, TurnsReplica, Sta
 use Rattle.rmt_acting.specs.Stepped.{seen_of}
 use Rattle.rmt_play.specs.WorldRests.{RestsAll}
 use Rattle.rmt_play.specs.ActSteps.{ExecutesThere, RunsTable}
-use Rattle.rmt_play.specs.Plays.{Creates, PerformsSent, session_event, Turns, RunsIn, Performs, Refuses, ExecutesStatement, Executes as ExecutesParsed, EndsAt}
+use Rattle.rmt_play.specs.Plays.{Creates, session_event, Turns, RunsIn, Performs, Refuses, OneLine, PlaysLane, PlaysLanes, Executes, EndsAt}
 
 -- ---- what a player has
 
@@ -206,12 +208,13 @@ abbrev pub CreatesNone : List ℕ → SchemaError → Line → World → World �
 CreatesNone table e line old new = (schema : Shape) → ExecutesCreate table (Some e) schema line old new
 
 -- whoever makes this table in a world that the player is in, once it rested, does so
-abbrev pub HandsOut : {e : Sights} → PlayerView e → (Line → World → World → Type 0) → List ℕ → Shape → Type 0
-HandsOut {e} p Does table schema = (line : Line) (w at v : World) → IsIn p w → RestsAll e.workers w at → Creates at table schema line v → Does line at v
+abbrev pub HandsOut : {e : Sights} → PlayerView e → (List Line → World → World → Type 0) → List ℕ → Shape → Type 0
+HandsOut {e} p Does table schema = (line : Line) (w at v : World) → IsIn p w → RestsAll e.workers w at → Creates at table schema line v → Does (line ∷ []) at v
 
 -- a statement does so, and has this reply; or nothing changed, and it is the CREATE of a table that is still to be made
-abbrev pub Answers : {e : Sights} → PlayerView e → (Line → World → World → Type 0) → Answer → PlayerView e → Type 0
-Answers p Does (answers.Reply line) q = Moves p (Does line) q
+abbrev pub Answers : {e : Sights} → PlayerView e → (List Line → World → World → Type 0) → Answer → PlayerView e → Type 0
+Answers p Does (answers.Reply line) q = Moves p (Does (line ∷ [])) q
+Answers p Does (answers.Lanes reply) q = Moves p (Does reply) q
 Answers p Does (answers.Creates table schema) q = (q ≡ p) × HandsOut p Does table schema
 
 -- the statement was played, with this reply, or no memory was left
@@ -249,11 +252,6 @@ RefusesRows schema insert refusal =
 abbrev pub IsOwnRefusal : Shape → Act → Option Refusal → Type 0
 IsOwnRefusal schema (acts.Insert insert) why = MatchOption why ((rows : List Row) × HasRows schema insert rows) (RefusesRows schema insert)
 IsOwnRefusal schema act why = (t : TableState) → t.schema ≡ schema → act_refusal t act ≡ why
-
--- what is sent to a replica is done in its table, or refused
-abbrev pub ExecutesSent : Bool → Sent → Line → World → World → Type 0
-ExecutesSent workers sent line old new =
-    MatchOption (first_of (sent_refusals old sent)) (PerformsSent workers old sent line new) (λ refusal. Refuses old refusal line new)
 
 -- the replica of a number is there, up or down as is said, and no insert is under way in the table at a place
 pub record IsReady (e : Sights) (tables : List e.Table) (place r : ℕ) (is_up : Bool) : Type 0 where
@@ -326,24 +324,45 @@ abbrev pub ExecutesRun : Bool → List ℕ → ℕ → ℕ → Line → World �
 ExecutesRun workers table turns seed line old new =
     MatchOption (first_of (run_refusals old table turns seed)) (RunsIn workers old table turns seed line new) (λ refusal. Refuses old refusal line new)
 
+-- ---- LANES
+
+-- the statements of a lane were played, these lines were added to a reply, and no more of them tell of a refusal than there are statements
+pub record AddsLane {e : Sights} (old : PlayerView e) (lane : List Sent) (before after : List Line) (new : PlayerView e) : Type 0 where
+  pub reply : List Line
+  pub plays : Reaches old (λ w v. PlaysLane e.workers w lane reply v) new
+  pub added : after ≡ before ++ reply
+  pub few : count_by is_refused reply ≤ length lane
+
+-- how many lines of the reply tell of a refusal
+abbrev pub refusals_told : Answer → ℕ
+refusals_told (answers.Reply line) = count_by is_refused (line ∷ [])
+refusals_told (answers.Lanes reply) = count_by is_refused reply
+refusals_told (answers.Creates table schema) = 0
+
+-- as many as that may
+abbrev pub most_refusals : Statement → ℕ
+most_refusals (statements.Lanes lanes) = statements_in lanes
+most_refusals statement = 1
+
 -- ---- a statement
 
--- a statement of a form that is played is refused with the first refusal that it meets, or does what it says
-abbrev pub ExecutesPlayed : Bool → Statement → Line → World → World → Type 0
-ExecutesPlayed workers statement line old new =
+-- a statement that is played, but for LANES, is refused with the first refusal that it meets, or does what it says
+abbrev pub ExecutesLine : Bool → Statement → Line → World → World → Type 0
+ExecutesLine workers statement line old new =
     MatchOption (first_of (refusals old statement)) (Performs workers old statement line new) (λ refusal. Refuses old refusal line new)
 
--- a statement that begins at a place of its script is refused, or does what it says
-abbrev pub Executes : Bool → Statement → ℕ → Line → World → World → Type 0
-Executes workers statement first line old new = ExecutesStatement workers old statement first line new
+-- the same of each statement that is played
+abbrev pub ExecutesPlayed : Bool → Statement → List Line → World → World → Type 0
+ExecutesPlayed workers (statements.Lanes lanes) = PlaysLanes workers lanes
+ExecutesPlayed workers statement = OneLine (ExecutesLine workers statement)
 
 -- the statement at a place of a script is played, up to another place
-pub record Steps (workers : Bool) (script : List ℕ) (from : ℕ) (line : Line) (end : ℕ) (old new : World) : Type 0 where
+pub record Steps (workers : Bool) (script : List ℕ) (from : ℕ) (reply : List Line) (end : ℕ) (old new : World) : Type 0 where
   pub found : Parsed
   pub reads : ReadsAt script from found
   pub ends : EndsAt found end
-  pub executes : ExecutesParsed workers old found line new
+  pub executes : Executes workers old found reply new
 
 -- the same, by the reply
-abbrev pub StepsTo : Bool → List ℕ → ℕ → ℕ → Line → World → World → Type 0
-StepsTo workers script from end line old new = Steps workers script from line end old new
+abbrev pub StepsTo : Bool → List ℕ → ℕ → ℕ → List Line → World → World → Type 0
+StepsTo workers script from end reply old new = Steps workers script from reply end old new

@@ -1,6 +1,6 @@
 -- What statements reply and change, and the events that they make, one after the other. Workers may run beside them, or none; the
 -- events of a cluster are those of a player without workers.
-use Rattle.std.specs.Prelude.{◌≡◌, ℕ, cond, List, [], ◌∷◌, ◌++◌, length, Bool, true, false, MatchOption}
+use Rattle.std.specs.Prelude.{◌≡◌, ℕ, suc, cond, List, [], ◌∷◌, ◌++◌, length, Bool, true, false, MatchOption}
 use Rattle.std.specs.Str.{bytes_eq}
 use Rattle.std.specs.declared.option.Option.TheVariants.{Some}
 use Rattle.rmt_values.specs.Rows.{Shape}
@@ -24,7 +24,7 @@ use Rattle.rmt_reply.specs.declared.refusal.Refusal.{Refusal}
 use Rattle.rmt_reply.specs.declared.refusal.Refusal.TheVariants.{Syntax}
 use Rattle.rmt_play.specs.World.{Table, World, all_up, with_up, start, new_table}
 use Rattle.rmt_play.specs.WorldRests.{RestsAll}
-use Rattle.rmt_play.specs.Checks.{schema_made, table_of, replica_of, replica_at, table_named, refusal_of}
+use Rattle.rmt_play.specs.Checks.{schema_made, table_of, replica_of, replica_at, table_named, first_of, sent_refusals, refusal_of}
 use Rattle.rmt_play.specs.Acts.{Acts}
 use Rattle.rmt_play.specs.ActEvents.{ActEvents}
 use Rattle.rmt_play.specs.RunStatement.{RunsTurns}
@@ -109,19 +109,56 @@ Performs workers old (statements.Run table turns seed) line new = RunsIn workers
 Performs workers old (statements.At sent) line new = PerformsSent workers old sent line new
 Performs workers old statement line new = ⊥
 
--- ---- a script
-
 -- a statement is refused with the first refusal that it meets, or does what it says
 abbrev pub ExecutesStatement : Bool → World → Statement → ℕ → Line → World → Type 0
 ExecutesStatement workers old statement first line new =
     MatchOption (refusal_of old statement first) (Performs workers old statement line new)
     (λ refusal. Refuses old refusal line new)
 
+-- the reply is one line
+abbrev pub OneLine : (Line → World → World → Type 0) → List Line → World → World → Type 0
+OneLine Does (line ∷ []) = Does line
+OneLine Does reply = λ old new. ⊥
+
+-- ---- LANES
+
+-- what is sent to a replica is done in its table, or refused
+abbrev pub ExecutesSent : Bool → Sent → Line → World → World → Type 0
+ExecutesSent workers sent line old new =
+    MatchOption (first_of (sent_refusals old sent)) (PerformsSent workers old sent line new) (λ refusal. Refuses old refusal line new)
+
+-- the statements of a lane are played one after the other, each with its line; the world may rest before each
+abbrev pub PlaysLane : Bool → World → List Sent → List Line → World → Type 0
+PlaysLane workers old [] [] new = new ≡ old
+PlaysLane workers old (sent ∷ lane) (line ∷ reply) new =
+    (rested : World) × (mid : World) × RestsAll workers old rested × ExecutesSent workers sent line rested mid × PlaysLane workers mid lane reply new
+PlaysLane workers old lane reply new = ⊥
+
+-- lanes are played one after the other, numbered from a number on: each has a line with its number, and then those of its statements
+abbrev pub PlaysEach : Bool → World → ℕ → List (List Sent) → List Line → World → Type 0
+PlaysEach workers old number [] reply new = (reply ≡ []) × (new ≡ old)
+PlaysEach workers old number (lane ∷ lanes) reply new =
+    (first : List Line) × (more : List Line) × (mid : World) × (reply ≡ lines.Lane number ∷ first ++ more)
+    × PlaysLane workers old lane first mid × PlaysEach workers mid (suc number) lanes more new
+
+-- LANES: lanes are played, the first of which has number 1, and a last line ends the reply
+pub record PlaysLanes (workers : Bool) (lanes : List (List Sent)) (reply : List Line) (old new : World) : Type 0 where
+  pub each : List Line
+  pub plays : PlaysEach workers old 1 lanes each new
+  pub ended : reply ≡ each ++ lines.End ∷ []
+
+-- ---- a script
+
+-- what a statement replies and changes: LANES has the lines of its lanes, each other statement has one
+abbrev pub RepliesTo : Bool → Statement → ℕ → List Line → World → World → Type 0
+RepliesTo workers (statements.Lanes lanes) first reply old new = PlaysLanes workers lanes reply old new
+RepliesTo workers statement first reply old new = OneLine (λ line w v. ExecutesStatement workers w statement first line v) reply old new
+
 -- what was read replies and changes
-abbrev pub Executes : Bool → World → Parsed → Line → World → Type 0
-Executes workers old (parsed.Statement statement first end) line new = ExecutesStatement workers old statement first line new
-Executes workers old (parsed.Syntax offset end) line new = Refuses old (Syntax offset) line new
-Executes workers old parsed.End line new = ⊥
+abbrev pub Executes : Bool → World → Parsed → List Line → World → Type 0
+Executes workers old (parsed.Statement statement first end) reply new = RepliesTo workers statement first reply old new
+Executes workers old (parsed.Syntax offset end) reply new = OneLine (λ line w v. Refuses w (Syntax offset) line v) reply old new
+Executes workers old parsed.End reply new = ⊥
 
 -- what was read ends at this place
 abbrev pub EndsAt : Parsed → ℕ → Type 0
@@ -130,28 +167,20 @@ EndsAt (parsed.Syntax offset end) at = at ≡ end
 EndsAt parsed.End at = ⊥
 
 -- one statement: it begins at a place of the script, ends at another, and has this reply; the world may rest before it
-pub record Step (workers : Bool) (script : List ℕ) (from : ℕ) (old : World) (line : Line) (at : ℕ) (new : World) : Type 0 where
+pub record Step (workers : Bool) (script : List ℕ) (from : ℕ) (old : World) (reply : List Line) (at : ℕ) (new : World) : Type 0 where
   pub rested : World
   pub rests : RestsAll workers old rested
   pub found : Parsed
   pub reads : ReadsAt script from found
   pub ends : EndsAt found at
-  pub executes : Executes workers rested found line new
+  pub executes : Executes workers rested found reply new
 
 -- some statements of a script, from a place and a world to a place and a world: their replies, the newest first
-abbrev pub PlayedFrom : Bool → List ℕ → ℕ → World → List Line → ℕ → World → Type 0
+abbrev pub PlayedFrom : Bool → List ℕ → ℕ → World → List (List Line) → ℕ → World → Type 0
 PlayedFrom workers script from old [] at new = (at ≡ from) × (new ≡ old)
-PlayedFrom workers script from old (line ∷ lines) at new =
-    (mid : ℕ) × (before : World) × PlayedFrom workers script from old lines mid before × Step workers script mid before line at new
+PlayedFrom workers script from old (reply ∷ replies) at new =
+    (mid : ℕ) × (before : World) × PlayedFrom workers script from old replies mid before × Step workers script mid before reply at new
 
 -- some first statements of a script, up to a place: their replies, the newest first, and the world after them
-abbrev pub Played : Bool → List ℕ → List Line → ℕ → World → Type 0
-Played workers script lines at world = PlayedFrom workers script 0 start lines at world
-
--- the reply tells of a refusal; an INSERT may print the parts of its first blocks before it, an OPTIMIZE those of its first
--- partitions
-abbrev pub is_refused : Line → Bool
-is_refused (lines.Refused refusal) = true
-is_refused (lines.Inserted pieces (Some refusal)) = true
-is_refused (lines.Optimized names (Some refusal)) = true
-is_refused line = false
+abbrev pub Played : Bool → List ℕ → List (List Line) → ℕ → World → Type 0
+Played workers script replies at world = PlayedFrom workers script 0 start replies at world

@@ -1,24 +1,30 @@
 -- A whole run: the words, the script, and what is written.
-use Rattle.std.specs.Prelude.{◌≡◌, ◌⊎◌, ℕ, ◌≤◌, List, [], ◌∷◌, ◌++◌, length, count_by, Bool, MatchOption}
+use Rattle.std.specs.Prelude.{◌≡◌, ◌⊎◌, ℕ, ◌≤◌, ◌+◌, List, [], ◌∷◌, ◌++◌, length, count_by, Bool, MatchOption}
 use Rattle.std.specs.declared.option.Option.{Option}
 use Rattle.std.specs.Io.KnownBytes.{Appends}
 use Rattle.rmt_outside.specs.StreamBytes.{AppendsPrefix}
 use Rattle.rmt_sql.specs.declared.parsed.Parsed.TheVariants as parsed
 use Rattle.rmt_sql.specs.Script.{ReadsAt}
 use Rattle.rmt_reply.specs.declared.line.Line.{Line}
-use Rattle.rmt_reply.specs.Printed.{printed}
+use Rattle.rmt_reply.specs.Printed.{printed_all}
+use Rattle.rmt_reply.specs.Summaries.{is_refused}
 use Rattle.rmt_model.specs.Words.{Each}
 use Rattle.rmt_events.specs.Clusters.{Cluster}
 use Rattle.rmt_play.specs.World.{World}
 use Rattle.rmt_play.specs.WorldRests.{RestsAll}
-use Rattle.rmt_play.specs.Plays.{Played, is_refused}
+use Rattle.rmt_play.specs.Plays.{Played}
 use Rattle.rmt_play.specs.Shown.{AreShown, HasReplicas, Agrees, HandsBack}
 use Rattle.rmt_play.specs.declared.end.End.{End}
 
 -- the replies that are given the newest first, printed in their order
-abbrev pub output : List Line → List ℕ
+abbrev pub output : List (List Line) → List ℕ
 output [] = []
-output (line ∷ lines) = output lines ++ printed line
+output (reply ∷ replies) = output replies ++ printed_all reply
+
+-- how many statements were refused, those in lanes among them
+abbrev pub refusals_in : List (List Line) → ℕ
+refusals_in [] = 0
+refusals_in (reply ∷ replies) = count_by is_refused reply + refusals_in replies
 
 -- The script is what the source gives, where that is known.
 pub record GivesScript (left : Option (List ℕ)) (P : List ℕ → Type 0) : Type 0 where
@@ -34,13 +40,13 @@ GivesScriptWithin limit left P = GivesScript left (λ script. (length script ≤
 -- its tables: in each the replicas are up and down as the script left them, and those agree that have done the same log. The world
 -- may rest after the last statement.
 pub record PlayedWhole (workers : Bool) (script : List ℕ) (before after : Option (List ℕ)) (refused : ℕ) (clusters : List Cluster) : Type 0 where
-  pub lines : List Line
+  pub replies : List (List Line)
   pub at : ℕ
   pub last : World
-  pub played : Played workers script lines at last
+  pub played : Played workers script replies at last
   pub ended : ReadsAt script at parsed.End
-  pub written : Appends before after (output lines)
-  pub counted : refused ≡ count_by is_refused lines
+  pub written : Appends before after (output replies)
+  pub counted : refused ≡ refusals_in replies
   pub world : World
   pub rests : RestsAll workers last world
   pub shown : AreShown clusters world.tables
@@ -49,19 +55,19 @@ pub record PlayedWhole (workers : Bool) (script : List ℕ) (before after : Opti
 
 -- Some first statements of the script were played, and their replies were written.
 pub record PlayedInPart (workers : Bool) (before after : Option (List ℕ)) (script : List ℕ) : Type 0 where
-  pub lines : List Line
+  pub replies : List (List Line)
   pub at : ℕ
   pub world : World
-  pub played : Played workers script lines at world
-  pub written : Appends before after (output lines)
+  pub played : Played workers script replies at world
+  pub written : Appends before after (output replies)
 
 -- A prefix of what some first statements of the script reply was written.
 pub record CutShort (workers : Bool) (before after : Option (List ℕ)) (script : List ℕ) : Type 0 where
-  pub lines : List Line
+  pub replies : List (List Line)
   pub at : ℕ
   pub world : World
-  pub played : Played workers script lines at world
-  pub written : AppendsPrefix before after (output lines)
+  pub played : Played workers script replies at world
+  pub written : AppendsPrefix before after (output replies)
 
 -- the codes that there are
 abbrev pub IsCode : ℕ → Type 0

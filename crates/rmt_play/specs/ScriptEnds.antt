@@ -1,14 +1,13 @@
 -- How the playing of a script ends, and how far it comes with one statement. No public clause cites this module.
-use Rattle.std.specs.Prelude.{◌≡◌, ◌≢◌, ◌⊎◌, ℕ, ◌<◌, ◌≤◌, ◌+◌, List, length, map, count_by, Bool, true, false}
+use Rattle.std.specs.Prelude.{◌≡◌, ◌≢◌, ◌⊎◌, ℕ, ◌<◌, ◌≤◌, ◌+◌, List, [], ◌∷◌, length, map, count_by, false}
 use Rattle.std.specs.declared.option.Option.{Option}
 use Rattle.std.specs.Io.KnownBytes.{Appends, Keeps}
 use Rattle.rmt_outside.specs.StreamBytes.{AppendsPrefix}
 use Rattle.rmt_sql.specs.declared.parsed.Parsed.TheVariants as parsed
 use Rattle.rmt_sql.specs.Script.{ReadsAt}
 use Rattle.rmt_reply.specs.declared.line.Line.{Line}
-use Rattle.rmt_reply.specs.Printed.{printed}
-use Rattle.rmt_play.specs.declared.outcome.Outcome.{Outcome}
-use Rattle.rmt_play.specs.declared.outcome.Outcome.TheVariants as outcomes
+use Rattle.rmt_reply.specs.Printed.{printed_all}
+use Rattle.rmt_reply.specs.Summaries.{is_refused}
 use Rattle.rmt_play.specs.declared.progress.Progress.{Progress}
 use Rattle.rmt_play.specs.declared.progress.Progress.TheVariants as progress
 use Rattle.rmt_play.specs.declared.script_end.ScriptEnd.{ScriptEnd}
@@ -22,40 +21,36 @@ use Rattle.rmt_play.specs.declared.end.End.TheVariants as handed
 use Rattle.rmt_values.specs.Rows.{Shape}
 use Rattle.rmt_play.specs.declared.round.Round.{Round}
 use Rattle.rmt_play.specs.declared.round.Round.TheVariants as rounds
-use Rattle.rmt_play.specs.Plays.{Creates, PlayedFrom, is_refused}
+use Rattle.rmt_play.specs.Plays.{Creates, PlayedFrom}
 use Rattle.rmt_play.specs.PlayerSteps.{Sights, clusters_seen, PlayerView, is_up, HandsOut, Reaches, Moves, Steps, StepsTo}
-use Rattle.rmt_play.specs.Runs.{output, PlayedWhole, PlayedInPart, CutShort}
+use Rattle.rmt_play.specs.Runs.{output, refusals_in, PlayedWhole, PlayedInPart, CutShort}
 
--- the outcome of a statement that was refused
-abbrev pub is_refusal : Outcome → Bool
-is_refusal outcomes.Accepted = false
-is_refusal outcomes.Refused = true
-
--- a statement was played and its reply written
-pub record AdvancesScript {e : Sights} (script : List ℕ) (at : ℕ) (old new : PlayerView e) (before after : Option (List ℕ)) (end : ℕ) (outcome : Outcome) : Type 0 where
-  pub line : Line
-  pub step : Moves old (Steps e.workers script at line end) new
-  pub written : Appends before after (printed line)
-  pub counted : is_refusal outcome ≡ is_refused line
+-- a statement was played and its reply written, of which so many lines tell of a refusal, no more than it has bytes
+pub record AdvancesScript {e : Sights} (script : List ℕ) (at : ℕ) (old new : PlayerView e) (before after : Option (List ℕ)) (end refused : ℕ) : Type 0 where
+  pub reply : List Line
+  pub step : Moves old (Steps e.workers script at reply end) new
+  pub written : Appends before after (printed_all reply)
+  pub counted : refused ≡ count_by is_refused reply
+  pub few : at + refused ≤ end
   pub further : at < end
   pub within : end ≤ length script
 
 -- a statement was played, and a prefix of its reply was written
 pub record CutsReply {e : Sights} (script : List ℕ) (at : ℕ) (old : PlayerView e) (before after : Option (List ℕ)) : Type 0 where
-  pub line : Line
+  pub reply : List Line
   pub end : ℕ
   pub new : PlayerView e
-  pub step : Moves old (Steps e.workers script at line end) new
-  pub written : AppendsPrefix before after (printed line)
+  pub step : Moves old (Steps e.workers script at reply end) new
+  pub written : AppendsPrefix before after (printed_all reply)
 
 -- how far writing the reply of a statement comes, after which the script goes on at a place
-abbrev pub IsReply : Line → ℕ → Option (List ℕ) → Option (List ℕ) → Progress → Type 0
-IsReply line end before after progress.AtEnd = ⊥
-IsReply line end before after (progress.On place outcome) =
-    (place ≡ end) × Appends before after (printed line) × (is_refusal outcome ≡ is_refused line)
-IsReply line end before after (progress.Creates table schema place) = ⊥
-IsReply line end before after progress.WriteFault = AppendsPrefix before after (printed line)
-IsReply line end before after progress.Memory = Keeps before after
+abbrev pub IsReply : List Line → ℕ → Option (List ℕ) → Option (List ℕ) → Progress → Type 0
+IsReply reply end before after progress.AtEnd = ⊥
+IsReply reply end before after (progress.On place refused) =
+    (place ≡ end) × Appends before after (printed_all reply) × (refused ≡ count_by is_refused reply)
+IsReply reply end before after (progress.Creates table schema place) = ⊥
+IsReply reply end before after progress.WriteFault = AppendsPrefix before after (printed_all reply)
+IsReply reply end before after progress.Memory = Keeps before after
 
 -- the statement at a place is a CREATE that isn't played yet: whoever makes its table has played it
 pub record IsToCreate {e : Sights} (script : List ℕ) (at : ℕ) (old new : PlayerView e) (before after : Option (List ℕ)) (table : List ℕ) (schema : Shape) (end : ℕ) : Type 0 where
@@ -68,8 +63,8 @@ pub record IsToCreate {e : Sights} (script : List ℕ) (at : ℕ) (old new : Pla
 -- how far playing comes with the statement at a place
 abbrev pub IsProgress : {e : Sights} → List ℕ → ℕ → PlayerView e → PlayerView e → Option (List ℕ) → Option (List ℕ) → Progress → Type 0
 IsProgress script at old new before after progress.AtEnd = ReadsAt script at parsed.End × Keeps before after × (new ≡ old)
-IsProgress script at old new before after (progress.On end outcome) =
-    AdvancesScript script at old new before after end outcome
+IsProgress script at old new before after (progress.On end refused) =
+    AdvancesScript script at old new before after end refused
 IsProgress script at old new before after (progress.Creates table schema end) =
     IsToCreate script at old new before after table schema end
 IsProgress script at old new before after progress.WriteFault = CutsReply script at old before after
@@ -79,10 +74,10 @@ IsProgress script at old new before after progress.Memory = Keeps before after
 
 -- the statements from a place up to another were played, their replies written and the refused ones counted
 pub record PlaysOn {e : Sights} (script : List ℕ) (from count : ℕ) (old : PlayerView e) (before : Option (List ℕ)) (at refused : ℕ) (new : PlayerView e) (after : Option (List ℕ)) : Type 0 where
-  pub lines : List Line
-  pub played : Reaches old (λ w v. PlayedFrom e.workers script from w lines at v) new
-  pub written : Appends before after (output lines)
-  pub counted : refused ≡ count + count_by is_refused lines
+  pub replies : List (List Line)
+  pub played : Reaches old (λ w v. PlayedFrom e.workers script from w replies at v) new
+  pub written : Appends before after (output replies)
+  pub counted : refused ≡ count + refusals_in replies
   pub further : from ≤ at
   pub few : refused ≤ at
   pub within : at ≤ length script
@@ -109,7 +104,7 @@ pub record IsRound {e : Sights} (script : List ℕ) (from count : ℕ) (old new 
 pub record MakesTable {e : Sights} (table : List ℕ) (schema : Shape) (end : ℕ) (old new : PlayerView e) (before after : Option (List ℕ)) (p : Progress) : Type 0 where
   pub line : Line
   pub made : Moves old (λ w v. Creates w table schema line v) new
-  pub written : IsReply line end before after p
+  pub written : IsReply (line ∷ []) end before after p
 
 -- how far the making of a table comes
 abbrev pub IsMade : {e : Sights} → List ℕ → Shape → ℕ → PlayerView e → PlayerView e → Option (List ℕ) → Option (List ℕ) → Progress → Type 0

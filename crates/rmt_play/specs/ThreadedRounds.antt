@@ -6,7 +6,7 @@ use Rattle.std.specs.Io.KnownBytes.{Appends, Keeps}
 use Rattle.rmt_outside.specs.StreamBytes.{AppendsPrefix}
 use Rattle.rmt_values.specs.Rows.{Shape}
 use Rattle.rmt_reply.specs.declared.line.Line.TheVariants as lines
-use Rattle.rmt_reply.specs.Printed.{printed}
+use Rattle.rmt_reply.specs.Printed.{printed_all}
 use Rattle.rmt_events.specs.Views.{Block}
 use Rattle.rmt_state.specs.States.{StateView}
 use Rattle.rmt_state.specs.NewStates.{IsNewState}
@@ -112,8 +112,8 @@ pub record SameTables (old new : Ground) : Type 0 where
 
 -- a table is made between two rounds, and its reply written, or not all of it; or no memory was left, and nothing was written
 abbrev pub MakesAmong : List ℕ → Shape → Ground → Option (List ℕ) → Option (List ℕ) → Made → Type 0
-MakesAmong table schema old before after (mades.On g) = AddsTo table schema old g × Appends before after (printed lines.Okay)
-MakesAmong table schema old before after mades.WriteFault = (g : Ground) × AddsTo table schema old g × AppendsPrefix before after (printed lines.Okay)
+MakesAmong table schema old before after (mades.On g) = AddsTo table schema old g × Appends before after (printed_all (lines.Okay ∷ []))
+MakesAmong table schema old before after mades.WriteFault = (g : Ground) × AddsTo table schema old g × AppendsPrefix before after (printed_all (lines.Okay ∷ []))
 MakesAmong table schema old before after mades.Memory = Keeps before after
 
 -- ---- the end

@@ -1,7 +1,7 @@
 -- A run among workers: what it asks of the blocks that its script offers, and what it hands back.
 -- ClickHouse documentation, Data Replication: replicas copy the log and do it in the background. That a block's id is its partition and
 -- the SHA-256 of its rows is this program's own.
-use Rattle.std.specs.Prelude.{◌≡◌, ℕ, Bool, true, false, List, [], ◌∷◌, length, map, count_by}
+use Rattle.std.specs.Prelude.{◌≡◌, ℕ, Bool, true, false, List, [], ◌∷◌, length, map}
 use Rattle.std.specs.declared.option.Option.{Option}
 use Rattle.std.specs.declared.option.Option.TheVariants.{Some, None}
 use Rattle.std.specs.Io.KnownBytes.{Appends}
@@ -20,9 +20,9 @@ use Rattle.rmt_reply.specs.declared.line.Line.{Line}
 use Rattle.rmt_play.specs.World.{Table, World}
 use Rattle.rmt_play.specs.WorldRests.{RestsAll}
 use Rattle.rmt_play.specs.Shown.{AgreesOn}
-use Rattle.rmt_play.specs.Plays.{Played, is_refused}
+use Rattle.rmt_play.specs.Plays.{Played}
 use Rattle.rmt_play.specs.Offered.{IsOfferedBy}
-use Rattle.rmt_play.specs.Runs.{output, CutShort, PlayedInPart, PlayedToEnd}
+use Rattle.rmt_play.specs.Runs.{output, refusals_in, CutShort, PlayedInPart, PlayedToEnd}
 use Rattle.rmt_play.specs.declared.end.End.{End}
 use Rattle.rmt_play.specs.declared.end.End.TheVariants as ends
 use Rattle.rmt_play.specs.declared.form.Form.{Form}
@@ -64,13 +64,13 @@ pub record HasReplicasUp (count : ℕ) (up : ℕ → Bool) (s : StateView) : Typ
 -- their replicas are in the states that it left: in each the replicas are up and down as the script left them. Workers may have gone
 -- on after the last statement.
 pub record PlayedAmong (script : List ℕ) (before after : Option (List ℕ)) (refused : ℕ) (states : List StateView) : Type 0 where
-  pub lines : List Line
+  pub replies : List (List Line)
   pub at : ℕ
   pub last : World
-  pub played : Played true script lines at last
+  pub played : Played true script replies at last
   pub ended : ReadsAt script at parsed.End
-  pub written : Appends before after (output lines)
-  pub counted : refused ≡ count_by is_refused lines
+  pub written : Appends before after (output replies)
+  pub counted : refused ≡ refusals_in replies
   pub world : World
   pub rests : RestsAll true last world
   pub shown : AreShownBy states world.tables

@@ -14,7 +14,7 @@ ghost use Rattle.rmt_play.specs.Checks.{
   replica_at,
   unknown_replica,
 };
-ghost use Rattle.rmt_play.specs.Plays.{Counts, Creates};
+ghost use Rattle.rmt_play.specs.Plays.{Counts, Creates, ExecutesSent, OneLine, RepliesTo};
 ghost use Rattle.rmt_play.specs.Shown.{Agrees, HasReplicas};
 ghost use Rattle.rmt_play.specs.Offered.{OffersAct, OffersStatement};
 ghost use Rattle.rmt_play.specs.PlayerSteps.{
@@ -34,13 +34,13 @@ ghost use Rattle.rmt_play.specs.PlayerSteps.{
   Moves,
   TurnsAll,
   is_up as up_test,
-  Executes,
+  most_refusals,
+  refusals_told,
   ExecutesCreate,
   ExecutesKill,
   ExecutesPlayed,
   ExecutesRestart,
   ExecutesRun,
-  ExecutesSent,
 };
 
 use crate::answer::Answer;
@@ -219,11 +219,12 @@ impl<E: Engine> Player<E> {
     fn create(&self, table: Name, made: Result<Schema, SchemaError>) -> Answer
         requires sound { IsSound E.sights E.tables self.now }
         requires refused { IfErr made IsCreateRefusal }
-        ensures { MatchResult made
+        ensures answers { MatchResult made
             (λ schema. Answers (view_of E.sights E.tables self.now)
-            (ExecutesCreate table None schema) result (view_of E.sights E.tables self.now))
+            (OneLine (ExecutesCreate table None schema)) result (view_of E.sights E.tables self.now))
             (λ e. Answers (view_of E.sights E.tables self.now)
-            (CreatesNone table e) result (view_of E.sights E.tables self.now)) }
+            (OneLine (CreatesNone table e)) result (view_of E.sights E.tables self.now)) }
+        ensures few { refusals_told result ≤ 1 }
     {
         if place_of(&self.names, &table).is_some() {
             return Answer::Reply(Line::Refused(Refusal::TableExists(table)));
@@ -418,7 +419,7 @@ impl<E: Engine> Player<E> {
     }
 
     /// Plays what is sent to a replica.
-    fn send(&mut self, alloc: Global, sent: &Sent) -> Result<Line, AllocError>
+    pub(crate) fn send(&mut self, alloc: Global, sent: &Sent) -> Result<Line, AllocError>
         requires sound { IsSound E.sights E.tables self.old }
         requires small { HasSmallCommand sent.now.act }
         requires offered { OffersAct E.sights.offers sent.now.act }
@@ -439,7 +440,7 @@ impl<E: Engine> Player<E> {
         }
     }
 
-    /// Whether the statement is of a form that is played.
+    /// Whether the statement is played where it stands.
     fn is_played(&self, statement: &Statement) -> bool
         requires sound { IsSound E.sights E.tables self.now }
         ensures { result
@@ -453,12 +454,12 @@ impl<E: Engine> Player<E> {
             | Statement::Kill { .. }
             | Statement::Restart { .. }
             | Statement::Run { .. }
+            | Statement::Lanes { .. }
             | Statement::At(_) => true,
-            _ => false,
         }
     }
 
-    /// Plays a statement of a form that is played, but for a CREATE that meets no refusal.
+    /// Plays a statement that isn't out of place, but for a CREATE that meets no refusal.
     fn perform(&mut self, alloc: Global, statement: Statement) -> Result<Answer, AllocError>
         requires sound { IsSound E.sights E.tables self.old }
         requires played { statement_test (length (view_of E.sights E.tables self.old).tables) statement ≡ true }
@@ -467,6 +468,7 @@ impl<E: Engine> Player<E> {
         ensures sound { IsSound E.sights E.tables self.new }
         ensures answers { IfOk result (λ a. Answers (view_of E.sights E.tables self.old)
             (ExecutesPlayed E.sights.workers statement) a (view_of E.sights E.tables self.new)) }
+        ensures few { IfOk result (λ a. refusals_told a ≤ most_refusals statement) }
     {
         match statement {
             Statement::Replicas { count } => Ok(Answer::Reply(self.count(count))),
@@ -484,8 +486,11 @@ impl<E: Engine> Player<E> {
             Statement::Kill { replica } => replied(self.kill(alloc, replica)),
             Statement::Restart { replica } => replied(self.restart(alloc, replica)),
             Statement::Run { table, turns, seed } => replied(self.run(alloc, table, turns, seed)),
+            Statement::Lanes { lanes } => {
+                let reply = self.lanes(alloc, lanes.as_slice())?;
+                Ok(Answer::Lanes(reply))
+            }
             Statement::At(sent) => replied(self.send(alloc, &sent)),
-            _other => unreachable!(),
         }
     }
 
@@ -510,7 +515,8 @@ impl<E: Engine> Player<E> {
         requires offered { OffersStatement E.sights.offers statement }
         ensures sound { IsSound E.sights E.tables self.new }
         ensures answers { IfOk result (λ a. Answers (view_of E.sights E.tables self.old)
-            (Executes E.sights.workers statement start) a (view_of E.sights E.tables self.new)) }
+            (RepliesTo E.sights.workers statement start) a (view_of E.sights E.tables self.new)) }
+        ensures few { IfOk result (λ a. refusals_told a ≤ most_refusals statement) }
     {
         if self.is_played(&statement) {
             self.perform(alloc, statement)

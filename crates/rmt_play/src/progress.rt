@@ -1,4 +1,3 @@
-use crate::outcome::Outcome;
 use rmt_values::{Name, Schema};
 
 /// How far the playing of a script came with its next statement.
@@ -6,10 +5,10 @@ use rmt_values::{Name, Schema};
 pub(crate) enum Progress {
     /// There is none.
     AtEnd,
-    /// Its reply was written, and reading goes on at `end`.
+    /// Its reply was written, of which so many lines tell of a refusal, and reading goes on at `end`.
     On {
         end: usize,
-        outcome: Outcome,
+        refused: u64,
     },
     /// It is a CREATE whose table is still to be made; reading goes on at `end` then.
     Creates {

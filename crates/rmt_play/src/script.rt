@@ -4,26 +4,21 @@ ghost use Rattle.std.specs.Prelude.{
   ◌≤◌,
   ◌<◌,
   ◌+◌,
-  ◌-◌,
-  ◌^◌,
   length,
   IfOk,
   IfSome,
   MatchOption,
-  if◌then◌else◌,
 };
 ghost use Rattle.rmt_sql.specs.declared.parsed.Parsed.TheVariants as parsed;
 ghost use Rattle.rmt_sql.specs.Script.{ReadsAt};
-ghost use Rattle.rmt_play.specs.Plays.{is_refused};
 ghost use Rattle.rmt_play.specs.Offered.{OffersScript};
-ghost use Rattle.rmt_play.specs.PlayerSteps.{Answers, StepsTo, IsSound, IsSoundIn, clusters_in, view_of};
-ghost use Rattle.rmt_reply.specs.Printed.{printed};
+ghost use Rattle.rmt_play.specs.PlayerSteps.{Answers, refusals_told, StepsTo, IsSound, IsSoundIn, clusters_in, view_of};
+ghost use Rattle.rmt_reply.specs.Printed.{printed_all};
 ghost use Rattle.rmt_play.specs.declared.progress.Progress.TheVariants as progress;
 ghost use Rattle.rmt_play.specs.declared.round.Round.TheVariants as rounds;
 ghost use Rattle.rmt_play.specs.declared.script_end.ScriptEnd.TheVariants as ends;
 ghost use Rattle.rmt_outside.specs.Faults.{Rose};
 ghost use Rattle.rmt_play.specs.ScriptEnds.{
-  is_refusal,
   IsReply,
   IsProgress,
   IsRound,
@@ -35,44 +30,16 @@ ghost use Rattle.rmt_play.specs.ScriptEnds.{
 use crate::answer::Answer;
 use crate::clusters::Clusters;
 use crate::engine::Engine;
-use crate::outcome::Outcome;
 use crate::player::Player;
 use crate::progress::Progress;
 use crate::round::Round;
 use crate::script_end::ScriptEnd;
 use rmt_outside::{Sink, WriteError, write_all_of};
-use rmt_reply::{Line, Refusal, print_line};
+use rmt_reply::{Line, Refusal, print, refused_in};
 use rmt_sql::{Parsed, next_statement};
 use rmt_values::{Name, Schema};
 use std::alloc::{AllocError, Global};
-
-/// Whether the statement of this reply did what it says. An INSERT or an OPTIMIZE that prints a refusal after its parts didn't.
-fn outcome_of(line: &Line) -> Outcome
-    ensures { is_refusal result ≡ is_refused line.now }
-{
-    match line {
-        Line::Refused(_) => Outcome::Refused,
-        Line::Inserted { refused, .. } | Line::Optimized { refused, .. } => {
-            if refused.is_some() {
-                Outcome::Refused
-            } else {
-                Outcome::Accepted
-            }
-        }
-        _ => Outcome::Accepted,
-    }
-}
-
-/// How many statements were refused, with one of this outcome.
-fn counted(count: u64, outcome: Outcome) -> u64
-    requires { count < 2 ^ 64 - 1 }
-    ensures { result ≡ count + (if is_refusal outcome then 1 else 0) }
-{
-    match outcome {
-        Outcome::Accepted => count,
-        Outcome::Refused => count + 1,
-    }
-}
+use std::slice::from_ref;
 
 /// Plays the next statement, but for a CREATE that meets no refusal, and gives the place after it; none at the end of the script.
 fn next_answer<E: Engine>(
@@ -92,6 +59,7 @@ fn next_answer<E: Engine>(
     ensures sound { IsSound E.sights E.tables player.new }
     ensures further { IfOk result (λ next. IfSome next (λ x.
         (at < x.1) × (x.1 ≤ length script.now))) }
+    ensures few { IfOk result (λ next. IfSome next (λ x. at + refusals_told x.0 ≤ x.1)) }
 {
     match next_statement(alloc, script, at)? {
         Parsed::End => Ok(None),
@@ -111,19 +79,24 @@ fn next_answer<E: Engine>(
 }
 
 /// Writes the reply of a statement, after which the script goes on at a place.
-pub(crate) fn write_reply<K: Sink>(alloc: Global, line: &Line, end: usize, sink: &mut K) -> Progress
-    ensures reply { IsReply line.now end (K.written sink.old) (K.written sink.new) result }
+pub(crate) fn write_reply<K: Sink>(
+    alloc: Global,
+    reply: &[Line],
+    end: usize,
+    sink: &mut K,
+) -> Progress
+    ensures reply { IsReply reply.now end (K.written sink.old) (K.written sink.new) result }
     ensures cause { result ≡ progress.WriteFault → Rose (K.faults sink.old) (K.faults sink.new) }
     ensures quiet { result ≢ progress.WriteFault → K.faults sink.new ≡ K.faults sink.old }
     ensures later { K.faults sink.old ≤ K.faults sink.new }
 {
-    let Ok(out) = print_line(alloc, line) else {
+    let Ok(out) = print(alloc, reply) else {
         return Progress::Memory;
     };
     match write_all_of(sink, &out) {
         Ok(()) => Progress::On {
             end,
-            outcome: outcome_of(line),
+            refused: refused_in(reply) as u64,
         },
         Err(WriteError::WriteFault) => Progress::WriteFault,
         Err(WriteError::Memory) => unreachable!(),
@@ -134,19 +107,19 @@ pub(crate) fn write_reply<K: Sink>(alloc: Global, line: &Line, end: usize, sink:
 fn reply_with<E: Engine, K: Sink>(
     alloc: Global,
     player: &mut Player<E>,
-    line: &Line,
+    reply: &[Line],
     end: usize,
     sink: &mut K,
 ) -> Progress
     requires sound { IsSound E.sights E.tables player.old }
     ensures sound { IsSound E.sights E.tables player.new }
     ensures unchanged { view_of E.sights E.tables player.new ≡ view_of E.sights E.tables player.old }
-    ensures reply { IsReply line.now end (K.written sink.old) (K.written sink.new) result }
+    ensures reply { IsReply reply.now end (K.written sink.old) (K.written sink.new) result }
     ensures cause { result ≡ progress.WriteFault → Rose (K.faults sink.old) (K.faults sink.new) }
     ensures quiet { result ≢ progress.WriteFault → K.faults sink.new ≡ K.faults sink.old }
     ensures later { K.faults sink.old ≤ K.faults sink.new }
 {
-    let written = write_reply(alloc, line, end, sink);
+    let written = write_reply(alloc, reply, end, sink);
     if matches!(written, Progress::On { .. }) {
         player.answered();
     }
@@ -174,7 +147,8 @@ fn play_next<E: Engine, K: Sink>(
 {
     match next_answer(alloc, player, script, at) {
         Ok(Some((answer, end))) => match answer {
-            Answer::Reply(line) => reply_with(alloc, player, &line, end, sink),
+            Answer::Reply(line) => reply_with(alloc, player, from_ref(&line), end, sink),
+            Answer::Lanes(reply) => reply_with(alloc, player, reply.as_slice(), end, sink),
             Answer::Creates { table, schema } => Progress::Creates { table, schema, end },
         },
         Ok(None) => Progress::AtEnd,
@@ -209,9 +183,9 @@ pub(crate) fn play_round<E: Engine, K: Sink>(
     'statements: loop {
         match play_next(alloc, player, script, at, sink) {
             Progress::AtEnd => return Round::AtEnd { refused },
-            Progress::On { end, outcome } => {
+            Progress::On { end, refused: more } => {
                 at = end;
-                refused = counted(refused, outcome);
+                refused += more;
             }
             Progress::Creates { table, schema, end } => {
                 return Round::Creates {
@@ -245,7 +219,7 @@ fn make_table<K: Sink>(
     ensures later { K.faults sink.old ≤ K.faults sink.new }
 {
     match player.add(alloc, table, schema) {
-        Ok(line) => write_reply(alloc, &line, end, sink),
+        Ok(line) => write_reply(alloc, from_ref(&line), end, sink),
         Err(AllocError) => Progress::Memory,
     }
 }
@@ -280,9 +254,9 @@ pub(crate) fn play<K: Sink>(alloc: Global, script: &[u8], sink: &mut K) -> Scrip
                 end,
                 refused: count,
             } => match make_table(alloc, &mut player, table, schema, end, sink) {
-                Progress::On { end, outcome } => {
+                Progress::On { end, refused: more } => {
                     at = end;
-                    refused = counted(count, outcome);
+                    refused = count + more;
                 }
                 Progress::WriteFault => return ScriptEnd::WriteFault,
                 Progress::Memory => return ScriptEnd::Memory,

@@ -162,6 +162,10 @@ abbrev pub checked_text : List (Name × List ℕ) → List ℕ
 checked_text [] = ended (codes "nothing")
 checked_text (d ∷ digests) = flat_map check_line (d ∷ digests)
 
+-- the line before the replies of a lane
+abbrev pub lane_text : ℕ → List ℕ
+lane_text i = ended (codes "lane " ++ decimal i)
+
 -- a reply as it is printed
 abbrev pub printed : Line → List ℕ
 printed lines.Okay = ended (codes "ok")
@@ -174,6 +178,8 @@ printed (lines.Dropped p below) = dropped_text p below
 printed (lines.Optimized names refused) = optimized_text names refused
 printed (lines.Done id) = ended (codes "done " ++ id_text id)
 printed (lines.Ran turns) = ended (codes "ran " ++ decimal turns)
+printed (lines.Lane i) = lane_text i
+printed lines.End = ended (codes "end")
 printed (lines.Parts names) = parts_text names
 printed (lines.Digests digests) = checked_text digests
 printed (lines.Refused refusal) = refused_text refusal

@@ -11,6 +11,7 @@ mod records;
 mod refusal;
 mod refusals;
 mod replies;
+mod summaries;
 mod texts;
 
 pub use granules::Granules;
@@ -18,3 +19,4 @@ pub use line::Line;
 pub use piece::Piece;
 pub use refusal::Refusal;
 pub use replies::{print, print_line};
+pub use summaries::{refused_in, summary};

@@ -1,3 +1,6 @@
+ghost use Rattle.std.specs.Prelude.{◌≡◌};
+ghost use Rattle.rmt_reply.specs.Summaries.{is_refused as refused_test};
+
 use crate::granules::Granules;
 use crate::piece::Piece;
 use crate::refusal::Refusal;
@@ -40,10 +43,27 @@ pub enum Line {
     Done(u32),
     /// How many background events were made.
     Ran(u32),
+    /// The lane of this number begins.
+    Lane(u8),
+    /// The lanes have ended.
+    End,
     /// Names of parts.
     Parts(List<PartName>),
     /// Parts, each with the SHA-256 of its bytes.
     Digests(List<(PartName, [u8; 32])>),
     /// It was refused.
     Refused(Refusal),
+}
+
+impl Line {
+    /// Whether it tells of a refusal. An INSERT or an OPTIMIZE that prints a refusal after its parts does.
+    pub fn is_refused(&self) -> bool
+        ensures { result ≡ refused_test self.now }
+    {
+        match self {
+            Line::Refused(_) => true,
+            Line::Inserted { refused, .. } | Line::Optimized { refused, .. } => refused.is_some(),
+            _ => false,
+        }
+    }
 }

@@ -102,6 +102,19 @@ fn records(alloc: Global, rows: &[Tuple]) -> Result<Vec<u8>, AllocError>
     into_text(writer)
 }
 
+/// Adds the records of rows.
+pub(crate) fn push_records(
+    alloc: Global,
+    out: &mut Vec<u8>,
+    rows: &[Tuple],
+) -> Result<(), AllocError>
+    ensures { OnOk result (out.new.items ≡ out.old.items ++ records_text rows.now) }
+{
+    let written = records(alloc, rows)?;
+    push_text(out, written.as_slice())?;
+    Ok(())
+}
+
 /// Adds how many rows there are, and the rows.
 pub(crate) fn push_answer(
     alloc: Global,
@@ -114,7 +127,6 @@ pub(crate) fn push_answer(
     push_text(out, b"rows ")?;
     push_number(alloc, out, all.len() as u128)?;
     push_text(out, b"\n")?;
-    let written = records(alloc, all)?;
-    push_text(out, written.as_slice())?;
+    push_records(alloc, out, all)?;
     Ok(())
 }

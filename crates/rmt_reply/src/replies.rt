@@ -1,7 +1,7 @@
 //! Replies as they are printed.
 ghost use Rattle.std.specs.Prelude.{◌≡◌, ◌++◌, IfOk, OnOk};
 ghost use Rattle.std.specs.List.{flat_map};
-ghost use Rattle.rmt_reply.specs.Printed.{answer_text, inserted_text, or_nothing, parts_text, piece_text, printed, printed_all};
+ghost use Rattle.rmt_reply.specs.Printed.{answer_text, inserted_text, lane_text, or_nothing, parts_text, piece_text, printed, printed_all};
 
 use crate::checks::push_digests;
 use crate::commands::{push_cut, push_dropped, push_mutation, push_optimized, push_ran};
@@ -11,7 +11,7 @@ use crate::piece::Piece;
 use crate::records::push_answer;
 use crate::refusal::Refusal;
 use crate::refusals::push_refused;
-use crate::texts::{push_part, push_parts, push_text};
+use crate::texts::{push_number, push_part, push_parts, push_text};
 use rmt_list::List;
 use rmt_names::PartName;
 use rmt_query::Tuple;
@@ -89,8 +89,18 @@ fn push_read(
     Ok(())
 }
 
+/// Adds the line before the replies of a lane.
+fn push_lane(alloc: Global, out: &mut Vec<u8>, number: u8) -> Result<(), AllocError>
+    ensures { OnOk result (out.new.items ≡ out.old.items ++ lane_text number) }
+{
+    push_text(out, b"lane ")?;
+    push_number(alloc, out, u128::from(number))?;
+    push_text(out, b"\n")?;
+    Ok(())
+}
+
 /// Adds a reply as it is printed.
-fn push_line(alloc: Global, out: &mut Vec<u8>, line: &Line) -> Result<(), AllocError>
+pub(crate) fn push_line(alloc: Global, out: &mut Vec<u8>, line: &Line) -> Result<(), AllocError>
     ensures { OnOk result (out.new.items ≡ out.old.items ++ printed line.now) }
 {
     match line {
@@ -104,6 +114,8 @@ fn push_line(alloc: Global, out: &mut Vec<u8>, line: &Line) -> Result<(), AllocE
         Line::Optimized { names, refused } => push_optimized(alloc, out, names, refused),
         Line::Done(id) => push_mutation(alloc, out, b"done ", *id),
         Line::Ran(turns) => push_ran(alloc, out, *turns),
+        Line::Lane(number) => push_lane(alloc, out, *number),
+        Line::End => push_text(out, b"end\n"),
         Line::Parts(names) => push_names_line(alloc, out, names),
         Line::Digests(digests) => push_digests(alloc, out, digests),
         Line::Refused(cause) => push_refused(alloc, out, cause),

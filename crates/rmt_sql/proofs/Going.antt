@@ -28,7 +28,7 @@ passed_falling (s ∷ ss) falls = go (is_empty s) (passed_falling ss falls.1)
     go false rest = (falls, omega arith)
 
 -- the tokens from a place on begin no further to the left
-tokens_within : (script : List ℕ) (at : ℕ) → Falling (passed (tokens_at script at)) × (left_of (passed (tokens_at script at)) ≤ length script - at)
+pub tokens_within : (script : List ℕ) (at : ℕ) → Falling (passed (tokens_at script at)) × (left_of (passed (tokens_at script at)) ≤ length script - at)
 tokens_within script at =
     let (falls, within) = spots_falling 0 Plain (drop at script) in
     let (falling, less) = passed_falling (tokens_at script at) falls in

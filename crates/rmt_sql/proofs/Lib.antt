@@ -4,4 +4,6 @@ pub mod StatementEnds
 pub mod Scripts
 pub mod Going
 pub mod Readings
+pub mod LaneLimits
 pub mod StatementLimits
+pub mod LaneSizes

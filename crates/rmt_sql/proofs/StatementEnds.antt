@@ -27,7 +27,7 @@ unfolding create
 create_ends =
     ends_then _ _ (λ _. ends_then _ _ (λ _. ends_then _ _ (λ table. ends_then _ _ (λ _. ends_then _ _ (λ all. ends_then _ _ (λ _. create_engine_ends _ _))))))
 
-sent_ends : (acts : Rule (Act × ℕ)) → Ends acts.form → Ends (sent acts).form
+pub sent_ends : (acts : Rule (Act × ℕ)) → Ends acts.form → Ends (sent acts).form
 sent_ends acts ends = ends_then _ _ (λ name. ends_gives _ (λ a. _) (λ _. refl) ends)
 
 at_replica_ends : Ends at_replica.form

@@ -1,10 +1,11 @@
 -- What is at a place of a script.
 use Rattle.std.specs.Prelude.{◌≡◌, ℕ, ◌+◌, ◌-◌, ◌==◌, ◌&&◌, ◌++◌, ◌<◌, ◌≤◌, not, min, nat_lt, Bool, true, false, List, [], ◌∷◌, length, drop, if◌then◌else◌}
-use Rattle.std.specs.List.{prefix_len}
+use Rattle.std.specs.List.{All, prefix_len}
 use Rattle.rmt_sql_tokens.specs.declared.context.Context.TheVariants.{Plain}
 use Rattle.rmt_sql_tokens.specs.Tokens.{Spot, spots}
 use Rattle.rmt_sql_tokens.specs.Classes.{End, is_of, next_among}
 use Rattle.rmt_sql_tokens.specs.Exact.{IsOffset, left_of}
+use Rattle.rmt_statements.specs.declared.sent.Sent.{Sent}
 use Rattle.rmt_statements.specs.declared.statement.Statement.{Statement}
 use Rattle.rmt_statements.specs.declared.statement.Statement.TheVariants as statements
 use Rattle.rmt_sql_acts.specs.Acts.{HasSmallCommand}
@@ -63,9 +64,10 @@ ReadsAt script at (parsed.Statement found start end) = IsStatementAt script at f
 ReadsAt script at (parsed.Syntax offset end) = IsFaultAt script at offset end
 ReadsAt script at parsed.End = next_among (End ∷ []) (passed (tokens_at script at)) ≡ true
 
--- the statement keeps the limits of its form: a CREATE has a column, and the command of an ALTER is small
+-- the statement keeps the limits of its form: a CREATE has a column, the command of an ALTER is small, and there are at most 8 lanes
 abbrev pub KeepsLimits : Statement → Type 0
 KeepsLimits (statements.Create table columns partition key granularity window) = 1 ≤ length columns
+KeepsLimits (statements.Lanes lanes) = (length lanes ≤ 8) × All (All (λ sent. HasSmallCommand sent.act)) lanes
 KeepsLimits (statements.At sent) = HasSmallCommand sent.act
 KeepsLimits statement = Unit {0}
 
@@ -73,6 +75,16 @@ KeepsLimits statement = Unit {0}
 abbrev pub ReadsLimited : Parsed → Type 0
 ReadsLimited (parsed.Statement found start end) = KeepsLimits found
 ReadsLimited found = Unit {0}
+
+-- how many statements lanes have
+abbrev pub statements_in : List (List Sent) → ℕ
+statements_in [] = 0
+statements_in (lane ∷ lanes) = length lane + statements_in lanes
+
+-- lanes that are read from a place on have no more statements than bytes
+abbrev pub HoldsLanes : ℕ → Parsed → Type 0
+HoldsLanes at (parsed.Statement (statements.Lanes lanes) start end) = at + statements_in lanes ≤ end
+HoldsLanes at found = Unit {0}
 
 -- after a statement, and after one that can't be read, reading goes on further on, at the script's end at the latest
 abbrev pub Advances : List ℕ → ℕ → Parsed → Type 0

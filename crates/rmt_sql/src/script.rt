@@ -2,7 +2,7 @@ ghost use Rattle.std.specs.Prelude.{◌≡◌, ◌≤◌, ◌==◌, ◌&&◌, no
 ghost use Rattle.std.specs.List.{prefix_len};
 ghost use Rattle.rmt_sql_tokens.specs.Lexing.{tokens};
 ghost use Rattle.rmt_sql.specs.Views.{PassesEmpty};
-ghost use Rattle.rmt_sql.specs.Script.{passed, empty_next, after_end, ReadsAt, ReadsLimited, Advances};
+ghost use Rattle.rmt_sql.specs.Script.{passed, empty_next, after_end, ReadsAt, ReadsLimited, HoldsLanes, Advances};
 
 use crate::parsed::Parsed;
 use crate::statements::statement;
@@ -72,6 +72,7 @@ pub fn next_statement(alloc: Global, script: &[u8], at: usize) -> Result<Parsed,
     ensures reads { IfOk result (ReadsAt script.now at) }
     ensures advances { IfOk result (Advances script.now at) }
     ensures limits { IfOk result ReadsLimited }
+    ensures lanes { IfOk result (HoldsLanes at) }
 {
     let (_, ahead) = script.split_at(at);
     let here = Cursor {

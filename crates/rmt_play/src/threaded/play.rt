@@ -90,7 +90,7 @@ fn make_table<K: Sink, G: Gate>(
     let Ok(ground) = add_table(alloc, ground, table, schema) else {
         return Made::Memory;
     };
-    match write_reply(alloc, &Line::Okay, end, sink) {
+    match write_reply(alloc, &[Line::Okay], end, sink) {
         Progress::On { .. } => Made::On(answer(gate, ground)),
         Progress::WriteFault => Made::WriteFault,
         Progress::Memory => Made::Memory,

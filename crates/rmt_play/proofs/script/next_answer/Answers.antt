@@ -1,4 +1,4 @@
-use Rattle.std.proofs.Common.{refl, subst}
+use Rattle.std.proofs.Common.{[], ◌∷◌, refl, subst}
 use Rattle.rmt_sql.specs.declared.parsed.Parsed.TheVariants as parsed
 use Rattle.rmt_sql.specs.Script.{ReadsAt}
 use Rattle.rmt_reply.specs.declared.line.Line.TheVariants as lines
@@ -15,5 +15,5 @@ pub returns-in-Syntax-clause-step : goal.returns-in-Syntax-clause-step
 returns-in-Syntax-clause-step g c =
     let e = g.E.Engine.sights in
     let reads = subst (ReadsAt c.args.script.now c.args.at) c.in-Syntax.is c.in_ok-next_statement.ensures.reads in
-    stays (view_of e g.E.Engine.tables c.args.player.now) (StepsTo e.workers c.args.script.now c.args.at c.in-Syntax.end (lines.Refused (Syntax c.in-Syntax.offset)))
+    stays (view_of e g.E.Engine.tables c.args.player.now) (StepsTo e.workers c.args.script.now c.args.at c.in-Syntax.end (lines.Refused (Syntax c.in-Syntax.offset) ∷ []))
     (λ w i. record { found = parsed.Syntax c.in-Syntax.offset c.in-Syntax.end; reads = reads; ends = refl; executes = record { reply = refl; unchanged = refl } })

@@ -14,13 +14,11 @@ rounds-init g c = record {
 
 pub rounds-preserved : goal.rounds-preserved
 rounds-preserved g c =
-    let count = c.counted-refused.ensures in
-    let on = so_far_made c.args.script.now c.rounds.at c.rounds.refused (clusters_in c.rounds.player) (clusters_in c.play_round.new.player) (clusters_in c.make_table.new.player) _ _ _ _ c.in-Creates.table c.in-Creates.schema c.in-Creates.end c.in-Creates.count c.in-On.end c.counted-refused.result c.in-On.outcome
-    c.rounds.invariant.so_far c.in-Creates.ensures.round c.in-On.ensures.made count in
-    let few = on.1 in
+    let on = so_far_made c.args.script.now c.rounds.at c.rounds.refused (clusters_in c.rounds.player) (clusters_in c.play_round.new.player) (clusters_in c.make_table.new.player) _ _ _ _ c.in-Creates.table c.in-Creates.schema c.in-Creates.end c.in-Creates.count c.in-On.end c.in-On.more
+    c.rounds.invariant.so_far c.in-Creates.ensures.round c.in-On.ensures.made in
     record {
       within = on.3;
-      few = grind (arith, few, count);
+      few = on.1;
       quiet = c.in-On.ensures.quiet (λ e. cc) ∙ (c.in-Creates.ensures.quiet (λ e. cc) ∙ c.rounds.invariant.quiet);
       sound = c.in-On.ensures.sound;
       so_far = on.0;
@@ -28,8 +26,8 @@ rounds-preserved g c =
 
 pub rounds-smaller : goal.rounds-smaller
 rounds-smaller g c =
-    let on = so_far_made c.args.script.now c.rounds.at c.rounds.refused (clusters_in c.rounds.player) (clusters_in c.play_round.new.player) (clusters_in c.make_table.new.player) _ _ _ _ c.in-Creates.table c.in-Creates.schema c.in-Creates.end c.in-Creates.count c.in-On.end c.counted-refused.result c.in-On.outcome
-    c.rounds.invariant.so_far c.in-Creates.ensures.round c.in-On.ensures.made c.counted-refused.ensures in
+    let on = so_far_made c.args.script.now c.rounds.at c.rounds.refused (clusters_in c.rounds.player) (clusters_in c.play_round.new.player) (clusters_in c.make_table.new.player) _ _ _ _ c.in-Creates.table c.in-Creates.schema c.in-Creates.end c.in-Creates.count c.in-On.end c.in-On.more
+    c.rounds.invariant.so_far c.in-Creates.ensures.round c.in-On.ensures.made in
     let further = on.2 in
     let within = on.3 in
     omega (arith, further, within)

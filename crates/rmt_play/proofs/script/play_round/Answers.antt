@@ -1,5 +1,5 @@
 use Rattle.rmt_play.specs.PlayerSteps.{view_of}
-use Rattle.std.proofs.Common.{◌∙◌, arith, refl}
+use Rattle.std.proofs.Common.{◌∙◌, refl}
 use Rattle.rmt_play.proofs.ScriptLemmas.{plays-start, plays-more}
 use Rattle.rmt_play.proofs.script.play_round.Goals as goal
 
@@ -11,17 +11,12 @@ statements-init g c = record {
 }
 
 pub statements-preserved : goal.statements-preserved
-statements-preserved g c =
-    let on = c.in-On.ensures.progress in
-    let further = on.further in
-    let few = c.statements.invariant.plays.few in
-    let count = c.counted-refused.ensures in
-    record {
-      quiet = c.in-On.ensures.quiet (λ e. cc) ∙ c.statements.invariant.quiet;
-      sound = c.in-On.ensures.sound;
-      plays = plays-more c.args.script.now c.args.from c.args.count (view_of g.E.Engine.sights g.E.Engine.tables c.args.player.now) (view_of g.E.Engine.sights g.E.Engine.tables c.statements.player) (view_of g.E.Engine.sights g.E.Engine.tables c.play_next.new.player) _ _ _ c.statements.at c.statements.refused c.in-On.end c.counted-refused.result c.in-On.outcome
-          c.statements.invariant.plays on count (grind (arith, further, few, count));
-    }
+statements-preserved g c = record {
+  quiet = c.in-On.ensures.quiet (λ e. cc) ∙ c.statements.invariant.quiet;
+  sound = c.in-On.ensures.sound;
+  plays = plays-more c.args.script.now c.args.from c.args.count (view_of g.E.Engine.sights g.E.Engine.tables c.args.player.now) (view_of g.E.Engine.sights g.E.Engine.tables c.statements.player) (view_of g.E.Engine.sights g.E.Engine.tables c.play_next.new.player) _ _ _ c.statements.at c.statements.refused c.in-On.end c.in-On.more
+      c.statements.invariant.plays c.in-On.ensures.progress;
+}
 
 pub returns-in-AtEnd-clause-round : goal.returns-in-AtEnd-clause-round
 returns-in-AtEnd-clause-round g c =

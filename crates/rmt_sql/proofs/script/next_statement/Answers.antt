@@ -10,6 +10,7 @@ use Rattle.rmt_sql.specs.Script.{passed, empty_next, tokens_at, is_first}
 use Rattle.rmt_sql.proofs.Scripts.{statement_there, fails_there}
 use Rattle.rmt_sql.proofs.Going.{statement_on, fails_on}
 use Rattle.rmt_sql.proofs.StatementLimits.{read_keeps}
+use Rattle.rmt_sql.proofs.LaneSizes.{lanes_hold}
 use Rattle.rmt_sql.proofs.script.next_statement.Goals as goal
 
 pub returns-in-Ok-clause-reads : goal.returns-in-Ok-clause-reads
@@ -28,6 +29,10 @@ returns-in-Ok-clause-advances c =
 pub returns-in-Ok-clause-limits : goal.returns-in-Ok-clause-limits
 returns-in-Ok-clause-limits c =
     read_keeps c.args.script.now c.args.at c.in-Ok.statement c.saturating_sub-start.result c.saturating_sub-end.result (returns-in-Ok-clause-reads c)
+
+pub returns-in-Ok-clause-lanes : goal.returns-in-Ok-clause-lanes
+returns-in-Ok-clause-lanes c =
+    lanes_hold c.args.script.now c.args.at c.in-Ok.statement c.saturating_sub-start.result c.saturating_sub-end.result (returns-in-Ok-clause-reads c)
 
 pub returns-in-Err-Fault-clause-reads : goal.returns-in-Err-Fault-clause-reads
 returns-in-Err-Fault-clause-reads c =

@@ -1,6 +1,0 @@
-/// Whether a statement did what it says.
-#[derive(Clone, Copy, Debug)]
-pub(crate) enum Outcome {
-    Accepted,
-    Refused,
-}

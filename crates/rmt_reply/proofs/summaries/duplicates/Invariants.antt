@@ -1,0 +1,8 @@
+use Rattle.std.proofs.Common.{◌≡◌, ◌≤◌, ◌*◌, ◌^◌, map, take}
+use Rattle.std.specs.Prelude.{not, count_by}
+use Rattle.rmt_reply.specs.Printed.{sum_of}
+use Rattle.rmt_reply.specs.Summaries.{is_part, pieces_of}
+use Rattle.rmt_reply.proofs.summaries.duplicates.Given as goal
+
+abbrev pub invariant-lines : goal.invariant-lines
+invariant-lines l = (l.count ≡ sum_of (map (λ line. count_by (λ piece. not (is_part piece)) (pieces_of line)) (take l.line-index l.lines))) × (l.count ≤ l.line-index * 2 ^ 64)

@@ -1,0 +1,19 @@
+-- A drop takes what is there by then, and a later lane inserts it again. The first replica hasn't done the first drop.
+CREATE TABLE t (c UInt64) ENGINE = ReplicatedMergeTree PARTITION BY c ORDER BY c;
+INSERT INTO t VALUES (1), (2);
+LANES;
+LANE;
+INSERT INTO t VALUES (1);
+@r2 ALTER TABLE t DROP PARTITION 1;
+LANE;
+INSERT INTO t VALUES (1);
+@r2 ALTER TABLE t DROP PARTITION ID '3';
+@r2 INSERT INTO t VALUES (3);
+LANE;
+ALTER TABLE t DROP PARTITION 3;
+ALTER TABLE t DROP PARTITION 2;
+END;
+@r2 SELECT c FROM t SYNC;
+SHOW PARTS FROM t;
+SELECT c FROM t SYNC;
+SHOW PARTS FROM t;

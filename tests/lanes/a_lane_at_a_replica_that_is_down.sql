@@ -1,0 +1,21 @@
+-- A replica that is down refuses each statement of a lane. Another one knows its block, lacks it, and drops it.
+CREATE TABLE t (c UInt64) ENGINE = ReplicatedMergeTree ORDER BY c;
+INSERT INTO t VALUES (1);
+KILL r1;
+LANES;
+LANE;
+INSERT INTO t VALUES (2);
+SELECT c FROM t;
+ALTER TABLE t DELETE WHERE c = 1;
+@r1 ALTER TABLE t DROP PARTITION tuple();
+LANE;
+@r2 INSERT INTO t VALUES (1);
+@r2 INSERT INTO t VALUES (2);
+@r2 SELECT c FROM t SYNC;
+@r2 SELECT c FROM t;
+@r2 ALTER TABLE t DROP PARTITION tuple();
+@r2 SELECT c FROM t SYNC;
+END;
+RESTART r1;
+SELECT c FROM t;
+SELECT c FROM t SYNC;

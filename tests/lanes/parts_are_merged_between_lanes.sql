@@ -1,0 +1,20 @@
+-- Between two LANES parts are merged, at one replica. Each LANES counts its lanes from 1.
+CREATE TABLE t (k UInt64, c UInt64) ENGINE = ReplicatedMergeTree ORDER BY k;
+LANES;
+LANE;
+INSERT INTO t VALUES (1,1);
+INSERT INTO t VALUES (2,2);
+LANE;
+@r2 INSERT INTO t VALUES (3,3);
+END;
+@r2 OPTIMIZE TABLE t FINAL;
+LANES;
+LANE;
+SELECT k FROM t;
+LANE;
+@r2 SELECT k FROM t;
+@r2 INSERT INTO t VALUES (2,2);
+LANE;
+SELECT count() FROM t SYNC;
+SELECT count() FROM t;
+END;

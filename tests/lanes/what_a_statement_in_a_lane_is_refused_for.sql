@@ -1,0 +1,25 @@
+-- In a lane a statement is refused for the same as elsewhere, in the same order.
+CREATE TABLE t (k UInt64, c UInt64, s String) ENGINE = ReplicatedMergeTree ORDER BY k;
+@r2 SYSTEM STOP FETCHES t;
+LANES;
+LANE;
+@r3 INSERT INTO u VALUES (1);
+@r3 INSERT INTO t (k, k, d) VALUES (1);
+@r2 INSERT INTO t (k, k, d) VALUES (1);
+@r2 INSERT INTO t (k, k) VALUES (1);
+@r2 INSERT INTO t VALUES (1,2,'a'), (1,2);
+LANE;
+@r2 SELECT sum(s), d FROM t SYNC;
+@r2 SELECT sum(s) FROM t SYNC;
+@r2 SELECT c FROM t WHERE s = 1 SYNC;
+@r2 SELECT c FROM t SYNC;
+@r2 SELECT c FROM t;
+LANE;
+ALTER TABLE t UPDATE k = c, k = s WHERE d = 1;
+ALTER TABLE t UPDATE k = c, k = s WHERE k = 1;
+ALTER TABLE t UPDATE k = c, c = s WHERE k = 1;
+ALTER TABLE t UPDATE k = c WHERE k = 1;
+ALTER TABLE t DELETE WHERE c = 'x';
+ALTER TABLE t DROP PARTITION 1;
+END;
+SHOW PARTS FROM t;

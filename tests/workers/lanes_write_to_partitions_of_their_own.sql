@@ -1,0 +1,28 @@
+-- LANES: lanes that write to partitions of their own, or to a table, reply the same in whatever order they are played.
+CREATE TABLE t (k UInt64, c UInt64) ENGINE = ReplicatedMergeTree PARTITION BY k ORDER BY (k, c);
+CREATE TABLE u (c UInt64, s String) ENGINE = ReplicatedMergeTree ORDER BY c;
+INSERT INTO t VALUES (0, 9);
+LANES;
+LANE;
+INSERT INTO t VALUES (1, 1), (1, 2);
+@r2 INSERT INTO t VALUES (1, 1), (1, 2);
+@r2 INSERT INTO t VALUES (1, 3), (0, 9);
+SELECT count(), sum(c) FROM t WHERE k = 1 SYNC;
+LANE;
+@r2 INSERT INTO t VALUES (2, 5);
+@r2 ALTER TABLE t DROP PARTITION 2;
+@r2 INSERT INTO t VALUES (2, 5), (3, 6);
+@r2 INSERT INTO t VALUES (2, 5), (3, 'x');
+SELECT k, c FROM t WHERE k = 2 OR k = 3 SYNC;
+LANE;
+LANE;
+INSERT INTO u VALUES (1, 'a'), (2, 'b');
+ALTER TABLE u UPDATE s = 'z' WHERE c = 2;
+@r3 INSERT INTO u VALUES (3, 'c');
+@r2 INSERT INTO u VALUES (3, 'c');
+ALTER TABLE u DELETE WHERE c = 1;
+ALTER TABLE t DROP PARTITION 4;
+@r2 SELECT * FROM u SYNC;
+END;
+@r2 SELECT k, count(), sum(c) FROM t GROUP BY k SYNC;
+INSERT INTO t VALUES (1, 4);
