@@ -47,7 +47,24 @@ def calls():
         ["play", "--workers=1", "--workers=1"],
         ["--workers", "1", "play"],
         ["play", "-w", "1"],
+        ["storm"],
         ["storm", "1"],
+        ["storm", "1", "0"],
+        ["storm", "1", "20001"],
+        ["storm", "2147483648", "1"],
+        ["storm", "-1", "1"],
+        ["storm", "1", "+1"],
+        ["storm", "1", "00000000001"],
+        ["storm", "1", ""],
+        ["storm", "1", "2", "3"],
+        ["storm", "1", "2", "--workers"],
+        ["storm", "1", "2", "--workers", "0"],
+        ["storm", "1", "2", "--workers", "9"],
+        ["storm", "1", "2", "--workers=9"],
+        ["storm", "--workers", "1", "1", "2", "--workers=1"],
+        ["storm", "--workers=1", "1", "2", "--workers=1"],
+        ["--workers", "1", "storm", "1", "2"],
+        ["storm", "--", "1", "2"],
         ["play", "play"],
         ["--help"],
         ["play", "--"],
@@ -57,6 +74,12 @@ def calls():
         [""],
     ]:
         yield Case(f"the words {words} have no form", first, b"", 3, words)
+    summary = b"statements 2\naccepted 1\nduplicate 1\nrefused 0\nr1 4,29899\nr2 4,29899\nr3 4,29899\n"
+    for workers in [[], ["--workers", "1"], ["--workers", "4"], ["--workers=8"]]:
+        for at in range(3):
+            numbers = ["1", "2"]
+            words = ["storm", *numbers[:at], *workers, *numbers[at:]]
+            yield Case(f"the words {words} play two turns from the seed 1", b"KILL r1", summary, 0, words)
     yield Case("the longest script is played", b" " * LONGEST, b"", 0)
     yield Case("a script of one byte more is not", b" " * (LONGEST + 1), b"", 7)
 

@@ -12,6 +12,7 @@ pub mod OfferLemmas
 pub mod CommandLemmas
 pub mod SequentialLemmas
 pub mod RefusedActs
+pub mod OutletLemmas
 pub mod ScriptLemmas
 pub mod LaneLemmas
 pub mod SteppedLaws
@@ -21,5 +22,6 @@ pub mod AgreeLemmas
 pub mod GroundLemmas
 pub mod MakingLemmas
 pub mod ThreadLemmas
+pub mod WrittenLemmas
 pub mod RunLemmas
 pub mod Crosses

@@ -4,8 +4,6 @@ use Rattle.std.proofs.Common.{◌≡◌, ◌⊎◌, inl, inr, ℕ, suc, Bool, tr
 use Rattle.std.specs.Prelude.{MatchOption}
 use Rattle.std.specs.declared.option.Option.{Option}
 use Rattle.std.specs.declared.option.Option.TheVariants.{Some, None}
-use Rattle.std.specs.Io.KnownBytes.{Appends}
-use Rattle.rmt_outside.specs.StreamBytes.{AppendsPrefix}
 use Rattle.rmt_block.specs.Blocks.{BlockView}
 use Rattle.rmt_block.specs.Splits.{IsSplit}
 use Rattle.rmt_names.specs.Names.{Name}
@@ -58,7 +56,7 @@ use Rattle.rmt_play.specs.Acts.{Acts}
 use Rattle.rmt_play.specs.ActEvents.{ActEvents}
 use Rattle.rmt_play.specs.Plays.{Refuses, Counts, Creates, with_table, InTable, session_event, InEach, Turns, PerformsSent, Performs, ExecutesStatement, OneLine, ExecutesSent, PlaysLane, PlaysEach, RepliesTo, Executes, EndsAt, Step, Played}
 use Rattle.rmt_play.specs.Shown.{AreShown, HasReplicas, Agrees, HandsBack}
-use Rattle.rmt_play.specs.Runs.{output, refusals_in, PlayedWhole, PlayedInPart, CutShort, PlayedToEnd}
+use Rattle.rmt_play.specs.Runs.{refusals_in, PlayedSome, PlayedWhole, PlayedToEnd}
 use Rattle.rmt_play.proofs.TableLemmas.{rests-all-none}
 
 -- ---- INSERT
@@ -454,45 +452,38 @@ played-alone script (reply ∷ replies) at world k = (k.0, k.1, played-alone scr
 
 -- ---- a whole run
 
-pub record SteppedPlayedWhole (script : List ℕ) (before after : Option (List ℕ)) (refused : ℕ) (clusters : List Cluster) : Type 0 where
+pub record SteppedPlayedWhole (script : List ℕ) (Told : List (List Line) → Type 0) (refused : ℕ) (clusters : List Cluster) : Type 0 where
   pub replies : List (List Line)
   pub at : ℕ
   pub world : World
   pub played : SteppedPlayed script replies at world
   pub ended : ReadsAt script at parsed.End
-  pub written : Appends before after (output replies)
+  pub told : Told replies
   pub counted : refused ≡ refusals_in replies
   pub shown : AreShown clusters world.tables
   pub replicas : Each (HasReplicas world.replicas world.up) clusters
   pub agree : Each Agrees clusters
 
-pub record SteppedPlayedInPart (before after : Option (List ℕ)) (script : List ℕ) : Type 0 where
+pub record SteppedPlayedSome (script : List ℕ) (Told : List (List Line) → Type 0) : Type 0 where
   pub replies : List (List Line)
   pub at : ℕ
   pub world : World
   pub played : SteppedPlayed script replies at world
-  pub written : Appends before after (output replies)
+  pub told : Told replies
 
-pub record SteppedCutShort (before after : Option (List ℕ)) (script : List ℕ) : Type 0 where
-  pub replies : List (List Line)
-  pub at : ℕ
-  pub world : World
-  pub played : SteppedPlayed script replies at world
-  pub written : AppendsPrefix before after (output replies)
-
-pub record SteppedPlayedToEnd (script : List ℕ) (before after : Option (List ℕ)) (refused : ℕ) (end : End) : Type 0 where
+pub record SteppedPlayedToEnd (script : List ℕ) (Told : List (List Line) → Type 0) (refused : ℕ) (end : End) : Type 0 where
   pub clusters : List Cluster
   pub handed_back : HandsBack end clusters
-  pub played : SteppedPlayedWhole script before after refused clusters
+  pub played : SteppedPlayedWhole script Told refused clusters
 
-pub whole-among : (w : Bool) (script : List ℕ) (before after : Option (List ℕ)) (refused : ℕ) (clusters : List Cluster) → SteppedPlayedWhole script before after refused clusters → PlayedWhole w script before after refused clusters
-whole-among w script before after refused clusters k = record {
+pub whole-among : (w : Bool) (script : List ℕ) (Told : List (List Line) → Type 0) (refused : ℕ) (clusters : List Cluster) → SteppedPlayedWhole script Told refused clusters → PlayedWhole w script Told refused clusters
+whole-among w script Told refused clusters k = record {
   replies = k.replies;
   at = k.at;
   last = k.world;
   played = played-among w script k.replies k.at k.world k.played;
   ended = k.ended;
-  written = k.written;
+  told = k.told;
   counted = k.counted;
   world = k.world;
   rests = rests-all-none w k.world;
@@ -501,34 +492,28 @@ whole-among w script before after refused clusters k = record {
   agree = k.agree;
 }
 
-pub whole-alone : (script : List ℕ) (before after : Option (List ℕ)) (refused : ℕ) (clusters : List Cluster) → PlayedWhole false script before after refused clusters → SteppedPlayedWhole script before after refused clusters
-whole-alone script before after refused clusters k = record {
+pub whole-alone : (script : List ℕ) (Told : List (List Line) → Type 0) (refused : ℕ) (clusters : List Cluster) → PlayedWhole false script Told refused clusters → SteppedPlayedWhole script Told refused clusters
+whole-alone script Told refused clusters k = record {
   replies = k.replies;
   at = k.at;
   world = k.world;
   played = subst (λ (x : World). SteppedPlayed script k.replies k.at x) (sym (rests-alone k.last k.world k.rests)) (played-alone script k.replies k.at k.last k.played);
   ended = k.ended;
-  written = k.written;
+  told = k.told;
   counted = k.counted;
   shown = k.shown;
   replicas = k.replicas;
   agree = k.agree;
 }
 
-pub part-among : (w : Bool) (before after : Option (List ℕ)) (script : List ℕ) → SteppedPlayedInPart before after script → PlayedInPart w before after script
-part-among w before after script k = record { replies = k.replies; at = k.at; world = k.world; played = played-among w script k.replies k.at k.world k.played; written = k.written }
+pub some-among : (w : Bool) (script : List ℕ) (Told : List (List Line) → Type 0) → SteppedPlayedSome script Told → PlayedSome w script Told
+some-among w script Told k = record { replies = k.replies; at = k.at; world = k.world; played = played-among w script k.replies k.at k.world k.played; told = k.told }
 
-pub part-alone : (before after : Option (List ℕ)) (script : List ℕ) → PlayedInPart false before after script → SteppedPlayedInPart before after script
-part-alone before after script k = record { replies = k.replies; at = k.at; world = k.world; played = played-alone script k.replies k.at k.world k.played; written = k.written }
+pub some-alone : (script : List ℕ) (Told : List (List Line) → Type 0) → PlayedSome false script Told → SteppedPlayedSome script Told
+some-alone script Told k = record { replies = k.replies; at = k.at; world = k.world; played = played-alone script k.replies k.at k.world k.played; told = k.told }
 
-pub short-among : (w : Bool) (before after : Option (List ℕ)) (script : List ℕ) → SteppedCutShort before after script → CutShort w before after script
-short-among w before after script k = record { replies = k.replies; at = k.at; world = k.world; played = played-among w script k.replies k.at k.world k.played; written = k.written }
+pub end-among : (w : Bool) (script : List ℕ) (Told : List (List Line) → Type 0) (refused : ℕ) (end : End) → SteppedPlayedToEnd script Told refused end → PlayedToEnd w script Told refused end
+end-among w script Told refused end k = record { clusters = k.clusters; handed_back = k.handed_back; played = whole-among w script Told refused k.clusters k.played }
 
-pub short-alone : (before after : Option (List ℕ)) (script : List ℕ) → CutShort false before after script → SteppedCutShort before after script
-short-alone before after script k = record { replies = k.replies; at = k.at; world = k.world; played = played-alone script k.replies k.at k.world k.played; written = k.written }
-
-pub end-among : (w : Bool) (script : List ℕ) (before after : Option (List ℕ)) (refused : ℕ) (end : End) → SteppedPlayedToEnd script before after refused end → PlayedToEnd w script before after refused end
-end-among w script before after refused end k = record { clusters = k.clusters; handed_back = k.handed_back; played = whole-among w script before after refused k.clusters k.played }
-
-pub end-alone : (script : List ℕ) (before after : Option (List ℕ)) (refused : ℕ) (end : End) → PlayedToEnd false script before after refused end → SteppedPlayedToEnd script before after refused end
-end-alone script before after refused end k = record { clusters = k.clusters; handed_back = k.handed_back; played = whole-alone script before after refused k.clusters k.played }
+pub end-alone : (script : List ℕ) (Told : List (List Line) → Type 0) (refused : ℕ) (end : End) → PlayedToEnd false script Told refused end → SteppedPlayedToEnd script Told refused end
+end-alone script Told refused end k = record { clusters = k.clusters; handed_back = k.handed_back; played = whole-alone script Told refused k.clusters k.played }

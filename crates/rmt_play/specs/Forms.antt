@@ -1,12 +1,13 @@
--- The forms that the words of a command have: `play`, and `play` with a number of workers.
+-- The forms that the words of a command have: `play`, and `storm` with a seed and how many turns, each with a number of workers or
+-- without.
 -- No public source: this program's own.
-use Rattle.std.specs.Prelude.{ℕ, Bool, ◌<◌, ◌≤◌, ◌&&◌, nat_le, nat_lt, cond, List, [], ◌∷◌, codes, length, take, drop}
+use Rattle.std.specs.Prelude.{ℕ, Bool, ◌<◌, ◌≤◌, ◌&&◌, nat_le, nat_lt, cond, List, [], ◌∷◌, codes, length, take, drop, IfSome}
 use Rattle.std.specs.Str.{all_ascii_digits, bytes_eq}
 use Rattle.std.specs.Str.Parse.{digits_value}
 use Rattle.std.specs.declared.option.Option.{Option}
 use Rattle.std.specs.declared.option.Option.TheVariants.{Some, None}
 use Rattle.rmt_play.specs.declared.form.Form.{Form}
-use Rattle.rmt_play.specs.declared.form.Form.TheVariants.{Stepped, Among}
+use Rattle.rmt_play.specs.declared.task.Task.TheVariants.{Play, Storm}
 
 -- 1 to 10 decimal digits
 abbrev pub is_number : List ℕ → Bool
@@ -17,29 +18,69 @@ abbrev pub number_in : ℕ → ℕ → List ℕ → Option ℕ
 number_in least most word =
     cond (is_number word && (nat_le least (digits_value 10 word) && nat_le (digits_value 10 word) most)) (Some (digits_value 10 word)) None
 
+-- ---- workers
+
 -- a number of workers
 abbrev pub count_in : List ℕ → Option ℕ
 count_in word = number_in 1 8 word
 
--- the number that comes after `--workers=`
+-- a word that begins with `--workers=`
+abbrev pub is_joined : List ℕ → Bool
+is_joined word = bytes_eq (take 10 word) (codes "--workers=")
+
+-- the number that comes after it
 abbrev pub count_after : List ℕ → Option ℕ
-count_after word = cond (bytes_eq (take 10 word) (codes "--workers=")) (count_in (drop 10 word)) None
+count_after word = cond (is_joined word) (count_in (drop 10 word)) None
 
--- among so many workers, where there is a number
-abbrev pub among : Option ℕ → Option Form
-among None = None
-among (Some count) = Some (Among count)
+-- the word `--workers`
+abbrev pub is_name : List ℕ → Bool
+is_name word = bytes_eq word (codes "--workers")
 
--- the forms: `play`, `play --workers=K` and `play --workers K`
+-- what is asked for with so many workers, where there is a number
+abbrev pub among : Option ℕ → (Option ℕ → Option Form) → Option Form
+among None asks = None
+among (Some count) asks = asks (Some count)
+
+-- ---- what is asked for
+
+-- a play
+abbrev pub plays_with : Option ℕ → Option Form
+plays_with workers = Some (record { task = Play; workers = workers })
+
+-- a workload of so many turns that a generator draws from a seed
+abbrev pub storms_with : Option ℕ → Option ℕ → Option ℕ → Option Form
+storms_with (Some seed) (Some turns) workers = Some (record { task = Storm seed turns; workers = workers })
+storms_with seed turns workers = None
+
+-- one with the seed and the turns that two words write
+abbrev pub storm_of : List ℕ → List ℕ → Option ℕ → Option Form
+storm_of seed turns workers = storms_with (number_in 0 2147483647 seed) (number_in 1 20000 turns) workers
+
+-- ---- the forms
+
+-- what comes after `play`: nothing, `--workers=K` or `--workers K`
+abbrev pub play_in : List (List ℕ) → Option Form
+play_in [] = plays_with None
+play_in (word ∷ []) = among (count_after word) plays_with
+play_in (name ∷ count ∷ []) = cond (is_name name) (among (count_in count) plays_with) None
+play_in _ = None
+
+-- what comes after `storm`: the seed and how many turns; `--workers=K` or `--workers K` stands before them, between them or after them
+abbrev pub storm_in : List (List ℕ) → Option Form
+storm_in (seed ∷ turns ∷ []) = storm_of seed turns None
+storm_in (a ∷ b ∷ c ∷ []) =
+    cond (is_joined a) (among (count_after a) (storm_of b c)) (cond (is_joined b) (among (count_after b) (storm_of a c)) (among (count_after c) (storm_of a b)))
+storm_in (a ∷ b ∷ c ∷ d ∷ []) =
+    cond (is_name a) (among (count_in b) (storm_of c d)) (cond (is_name b) (among (count_in c) (storm_of a d)) (cond (is_name c) (among (count_in d) (storm_of a b)) None))
+storm_in _ = None
+
+-- the forms
 abbrev pub form_in : List (List ℕ) → Option Form
-form_in (word ∷ []) = cond (bytes_eq word (codes "play")) (Some Stepped) None
-form_in (word ∷ count ∷ []) = cond (bytes_eq word (codes "play")) (among (count_after count)) None
-form_in (word ∷ name ∷ count ∷ []) = cond (bytes_eq word (codes "play") && bytes_eq name (codes "--workers")) (among (count_in count)) None
-form_in _ = None
+form_in [] = None
+form_in (word ∷ words) = cond (bytes_eq word (codes "play")) (play_in words) (cond (bytes_eq word (codes "storm")) (storm_in words) None)
 
 -- ---- what only private functions cite
 
 -- there are 1 to 8 workers, or none
-abbrev pub IsPlayable : Form → Type 0
-IsPlayable Stepped = Unit {0}
-IsPlayable (Among count) = (0 < count) × (count ≤ 8)
+abbrev pub AreFew : Option ℕ → Type 0
+AreFew workers = IfSome workers (λ count. (0 < count) × (count ≤ 8))

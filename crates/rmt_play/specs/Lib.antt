@@ -7,6 +7,8 @@ pub use Rattle.rmt_query.specs.Answers
 pub use Rattle.rmt_query.specs.Explained
 pub use Rattle.rmt_statement_model.specs.Shows
 pub use Rattle.rmt_reply.specs.Printed
+pub use Rattle.rmt_reply.specs.Summaries
+pub use Rattle.rmt_storm.specs.Storms
 pub use Rattle.rmt_acts.specs.StatementEvents
 pub mod World
 pub mod WorldRests
@@ -33,9 +35,11 @@ pub mod Runs
 pub mod Threads
 pub mod QueryAnswers
 pub mod PlayerSteps
+pub mod Outlets
 pub mod ActSteps
 pub mod ScriptEnds
 pub mod Seats
 pub mod ThreadedRounds
 pub mod Forms
+pub mod Commands
 pub mod CommandWords

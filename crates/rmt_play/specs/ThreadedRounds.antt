@@ -2,11 +2,8 @@
 use Rattle.std.specs.Prelude.{◌≡◌, ◌≢◌, ◌⊎◌, ◌≤◌, ◌<◌, ℕ, true, List, [], ◌∷◌, ◌++◌, length, replicate}
 use Rattle.std.specs.declared.option.Option.{Option}
 use Rattle.rmt_outside.specs.Faults.{Rose}
-use Rattle.std.specs.Io.KnownBytes.{Appends, Keeps}
-use Rattle.rmt_outside.specs.StreamBytes.{AppendsPrefix}
 use Rattle.rmt_values.specs.Rows.{Shape}
 use Rattle.rmt_reply.specs.declared.line.Line.TheVariants as lines
-use Rattle.rmt_reply.specs.Printed.{printed_all}
 use Rattle.rmt_events.specs.Views.{Block}
 use Rattle.rmt_state.specs.States.{StateView}
 use Rattle.rmt_state.specs.NewStates.{IsNewState}
@@ -27,7 +24,9 @@ use Rattle.rmt_play.specs.declared.threaded.threaded_end.ThreadedEnd.TheVariants
 use Rattle.rmt_play.specs.declared.threaded.span.Span.{Span}
 use Rattle.rmt_play.specs.declared.threaded.span.Span.TheVariants as spans
 use Rattle.rmt_play.specs.Offered.{OffersScript}
-use Rattle.rmt_play.specs.Runs.{CutShort, PlayedInPart}
+use Rattle.rmt_play.specs.Outlets.{Outlet, KeepsMarks, AddsInPart, Tells, Told, ToldInPart}
+use Rattle.rmt_play.specs.Runs.{CutShort, PlayedInPart, PlayedSome, Writes}
+use Rattle.rmt_play.specs.declared.printing.Printing.{Printing}
 use Rattle.rmt_play.specs.Threads.{AreClearIn, PlayedAmong}
 use Rattle.rmt_play.specs.PlayerSteps.{Sights, PlayerView, IsIn, IsSound, view_of}
 use Rattle.rmt_play.specs.ScriptEnds.{IsRound}
@@ -36,20 +35,20 @@ use Rattle.rmt_play.specs.Seats.{seats_seen, ground_view, IsGround}
 -- ---- a client
 
 -- the player is sound, and the script offers only what may come
-pub record IsReadyClient (e : Sights) {E K : Type 0} (tables : E → List e.Table) (c : Client E K) : Type 0 where
+pub record IsReadyClient (e : Sights) {E T : Type 0} (tables : E → List e.Table) (c : Client E T) : Type 0 where
   pub sound : IsSound e tables c.player
   pub within : c.from ≤ length c.script.now
   pub few : c.count ≤ c.from
   pub offered : OffersScript e.offers c.script.now
 
--- the round was played, its replies written where they were to go, and the client is handed back
-pub record PlaysRound (e : Sights) {E K : Type 0} (tables : E → List e.Table) (written : K → Option (List ℕ)) (faults : K → ℕ) (c d : Client E K) : Type 0 where
-  pub sink : d.sink.ghost_name ≡ c.sink.ghost_name
+-- the round was played, its replies told where they were to go, and the client is handed back
+pub record PlaysRound (o : Outlet) (e : Sights) {E T : Type 0} (tables : E → List e.Table) (told : T → Option (List o.Mark)) (faults : T → ℕ) (c d : Client E T) : Type 0 where
+  pub teller : d.teller.ghost_name ≡ c.teller.ghost_name
   pub sound : IsSound e tables d.player
-  pub round : IsRound c.script.now c.from c.count (view_of e tables c.player) (view_of e tables d.player) (written c.sink.now) (written d.sink.now) d.round
-  pub cause : d.round ≡ rounds.WriteFault → Rose (faults c.sink.now) (faults d.sink.now)
-  pub quiet : d.round ≢ rounds.WriteFault → faults d.sink.now ≡ faults c.sink.now
-  pub later : faults c.sink.now ≤ faults d.sink.now
+  pub round : IsRound o c.script.now c.from c.count (view_of e tables c.player) (view_of e tables d.player) (told c.teller.now) (told d.teller.now) d.round
+  pub cause : d.round ≡ rounds.WriteFault → Rose (faults c.teller.now) (faults d.teller.now)
+  pub quiet : d.round ≢ rounds.WriteFault → faults d.teller.now ≡ faults c.teller.now
+  pub later : faults c.teller.now ≤ faults d.teller.now
 
 -- ---- rounds
 
@@ -70,10 +69,10 @@ TellsSpan Offers p round spans.WriteFault = round ≡ rounds.WriteFault
 TellsSpan Offers p round spans.Memory = round ≢ rounds.WriteFault
 
 -- a round among workers from a place on, where so many statements were refused before; then no thread is left
-pub record IsSpan (Offers : Shape → Block → Type 0) (script : List ℕ) (from count : ℕ) (old : PlayerView (seats_seen Offers)) (before after : Option (List ℕ)) (span : Span) : Type 0 where
+pub record IsSpan (o : Outlet) (Offers : Shape → Block → Type 0) (script : List ℕ) (from count : ℕ) (old : PlayerView (seats_seen Offers)) (before after : Option (List o.Mark)) (span : Span) : Type 0 where
   pub paused : PlayerView (seats_seen Offers)
   pub round : Round
-  pub plays : IsRound script from count old paused before after round
+  pub plays : IsRound o script from count old paused before after round
   pub tells : TellsSpan Offers paused round span
 
 -- there are two replicas, and no table
@@ -110,19 +109,25 @@ pub record SameTables (old new : Ground) : Type 0 where
   pub ups : new.cast.up ≡ old.cast.up
   pub names : new.cast.names ≡ old.cast.names
 
--- a table is made between two rounds, and its reply written, or not all of it; or no memory was left, and nothing was written
-abbrev pub MakesAmong : List ℕ → Shape → Ground → Option (List ℕ) → Option (List ℕ) → Made → Type 0
-MakesAmong table schema old before after (mades.On g) = AddsTo table schema old g × Appends before after (printed_all (lines.Okay ∷ []))
-MakesAmong table schema old before after mades.WriteFault = (g : Ground) × AddsTo table schema old g × AppendsPrefix before after (printed_all (lines.Okay ∷ []))
-MakesAmong table schema old before after mades.Memory = Keeps before after
+-- a table is made between two rounds, and its reply told, or not all of it; or no memory was left, and nothing was told
+abbrev pub MakesAmong : (o : Outlet) → List ℕ → Shape → Ground → Option (List o.Mark) → Option (List o.Mark) → Made → Type 0
+MakesAmong o table schema old before after (mades.On g) = AddsTo table schema old g × Tells o (lines.Okay ∷ []) before after
+MakesAmong o table schema old before after mades.WriteFault = (g : Ground) × AddsTo table schema old g × AddsInPart before after (o.marks (lines.Okay ∷ []))
+MakesAmong o table schema old before after mades.Memory = KeepsMarks before after
 
 -- ---- the end
 
 -- how a script among workers ends, where its offered blocks are clear
-abbrev pub EndsAmong : List ℕ → Option (List ℕ) → Option (List ℕ) → ThreadedEnd → Type 0
-EndsAmong script before after (ends.Whole refused states) = AreClearIn script → PlayedAmong script before after refused states
-EndsAmong script before after ends.WriteFault = AreClearIn script → CutShort true before after script
-EndsAmong script before after ends.Memory = AreClearIn script → PlayedInPart true before after script
+abbrev pub EndsAmong : (o : Outlet) → List ℕ → Option (List o.Mark) → Option (List o.Mark) → ThreadedEnd → Type 0
+EndsAmong o script before after (ends.Whole refused states) = AreClearIn script → PlayedAmong script (Told o before after) refused states
+EndsAmong o script before after ends.WriteFault = AreClearIn script → PlayedSome true script (ToldInPart o before after)
+EndsAmong o script before after ends.Memory = AreClearIn script → PlayedSome true script (Told o before after)
+
+-- how it ends where its replies are written so
+abbrev pub IsWrittenAmong : Printing → List ℕ → Option (List ℕ) → Option (List ℕ) → ThreadedEnd → Type 0
+IsWrittenAmong printing script before after (ends.Whole refused states) = AreClearIn script → PlayedAmong script (Writes printing before after) refused states
+IsWrittenAmong printing script before after ends.WriteFault = AreClearIn script → CutShort true printing before after script
+IsWrittenAmong printing script before after ends.Memory = AreClearIn script → PlayedInPart true printing before after script
 
 -- the code and the count of such an end, and the tables, where there are any
 abbrev pub IsThreadedStatus : ThreadedEnd → Status × List StateView → Type 0

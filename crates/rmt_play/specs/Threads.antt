@@ -4,7 +4,6 @@
 use Rattle.std.specs.Prelude.{◌≡◌, ℕ, Bool, true, false, List, [], ◌∷◌, length, map}
 use Rattle.std.specs.declared.option.Option.{Option}
 use Rattle.std.specs.declared.option.Option.TheVariants.{Some, None}
-use Rattle.std.specs.Io.KnownBytes.{Appends}
 use Rattle.rmt_values.specs.Rows.{Shape}
 use Rattle.rmt_model.specs.Words.{Each}
 use Rattle.rmt_partset.specs.ActiveParts.{part_names}
@@ -22,11 +21,10 @@ use Rattle.rmt_play.specs.WorldRests.{RestsAll}
 use Rattle.rmt_play.specs.Shown.{AgreesOn}
 use Rattle.rmt_play.specs.Plays.{Played}
 use Rattle.rmt_play.specs.Offered.{IsOfferedBy}
-use Rattle.rmt_play.specs.Runs.{output, refusals_in, CutShort, PlayedInPart, PlayedToEnd}
+use Rattle.rmt_play.specs.Runs.{refusals_in, CutShort, PlayedInPart, PlayedToEnd, Writes}
 use Rattle.rmt_play.specs.declared.end.End.{End}
 use Rattle.rmt_play.specs.declared.end.End.TheVariants as ends
-use Rattle.rmt_play.specs.declared.form.Form.{Form}
-use Rattle.rmt_play.specs.declared.form.Form.TheVariants.{Stepped, Among}
+use Rattle.rmt_play.specs.declared.printing.Printing.{Printing}
 
 -- no two blocks that the script brings to tables of one schema have one id and differ
 abbrev pub AreClearIn : List ℕ → Type 0
@@ -60,44 +58,42 @@ pub record HasReplicasUp (count : ℕ) (up : ℕ → Bool) (s : StateView) : Typ
   pub counted : length s.replicas ≡ count
   pub are_up : Each (λ r. r.up ≡ up r.number) s.replicas
 
--- The whole script was played among workers, its replies were written, so many of its statements were refused, and these tables with
--- their replicas are in the states that it left: in each the replicas are up and down as the script left them. Workers may have gone
+-- The whole script was played among workers, this was told of its replies, so many of its statements were refused, and these tables
+-- with their replicas are in the states that it left: in each the replicas are up and down as the script left them. Workers may have gone
 -- on after the last statement.
-pub record PlayedAmong (script : List ℕ) (before after : Option (List ℕ)) (refused : ℕ) (states : List StateView) : Type 0 where
+pub record PlayedAmong (script : List ℕ) (Told : List (List Line) → Type 0) (refused : ℕ) (states : List StateView) : Type 0 where
   pub replies : List (List Line)
   pub at : ℕ
   pub last : World
   pub played : Played true script replies at last
   pub ended : ReadsAt script at parsed.End
-  pub written : Appends before after (output replies)
+  pub told : Told replies
   pub counted : refused ≡ refusals_in replies
   pub world : World
   pub rests : RestsAll true last world
   pub shown : AreShownBy states world.tables
   pub replicas : Each (HasReplicasUp world.replicas world.up) states
 
--- ---- each form of a play
+-- ---- with workers and without
 
 -- these tables are handed back
-pub record AmongToEnd (script : List ℕ) (before after : Option (List ℕ)) (refused : ℕ) (end : End) : Type 0 where
+pub record AmongToEnd (script : List ℕ) (Told : List (List Line) → Type 0) (refused : ℕ) (end : End) : Type 0 where
   pub states : List StateView
   pub handed_back : end ≡ ends.Threaded states
-  pub played : PlayedAmong script before after refused states
+  pub played : PlayedAmong script Told refused states
 
--- the whole script was played in this form, so many statements were refused, and this is handed back
-abbrev pub PlaysToEnd : Option Form → Option (List ℕ) → Option (List ℕ) → ℕ → End → List ℕ → Type 0
-PlaysToEnd None before after refused end script = ⊥
-PlaysToEnd (Some Stepped) before after refused end script = PlayedToEnd false script before after refused end
-PlaysToEnd (Some (Among count)) before after refused end script = AreClearIn script → AmongToEnd script before after refused end
+-- the whole script was played with so many workers, or none, and its replies written; so many statements were refused, and this is handed
+-- back
+abbrev pub PlaysToEnd : Option ℕ → Printing → Option (List ℕ) → Option (List ℕ) → ℕ → End → List ℕ → Type 0
+PlaysToEnd None printing before after refused end script = PlayedToEnd false script (Writes printing before after) refused end
+PlaysToEnd (Some count) printing before after refused end script = AreClearIn script → AmongToEnd script (Writes printing before after) refused end
 
--- some first statements were played in this form, and their replies were written
-abbrev pub PlaysInPart : Option Form → Option (List ℕ) → Option (List ℕ) → List ℕ → Type 0
-PlaysInPart None before after script = ⊥
-PlaysInPart (Some Stepped) before after script = PlayedInPart false before after script
-PlaysInPart (Some (Among count)) before after script = AreClearIn script → PlayedInPart true before after script
+-- no memory was left
+abbrev pub PlaysInPart : Option ℕ → Printing → Option (List ℕ) → Option (List ℕ) → List ℕ → Type 0
+PlaysInPart None printing before after script = PlayedInPart false printing before after script
+PlaysInPart (Some count) printing before after script = AreClearIn script → PlayedInPart true printing before after script
 
--- or a prefix of what they reply
-abbrev pub PlaysCut : Option Form → Option (List ℕ) → Option (List ℕ) → List ℕ → Type 0
-PlaysCut None before after script = ⊥
-PlaysCut (Some Stepped) before after script = CutShort false before after script
-PlaysCut (Some (Among count)) before after script = AreClearIn script → CutShort true before after script
+-- a write failed
+abbrev pub PlaysCut : Option ℕ → Printing → Option (List ℕ) → Option (List ℕ) → List ℕ → Type 0
+PlaysCut None printing before after script = CutShort false printing before after script
+PlaysCut (Some count) printing before after script = AreClearIn script → CutShort true printing before after script

@@ -4,6 +4,8 @@ ghost use Rattle.std.specs.Prelude.{
   ◌≤◌,
   ◌<◌,
   ◌+◌,
+  [],
+  ◌∷◌,
   length,
   IfOk,
   IfSome,
@@ -13,7 +15,6 @@ ghost use Rattle.rmt_sql.specs.declared.parsed.Parsed.TheVariants as parsed;
 ghost use Rattle.rmt_sql.specs.Script.{ReadsAt};
 ghost use Rattle.rmt_play.specs.Offered.{OffersScript};
 ghost use Rattle.rmt_play.specs.PlayerSteps.{Answers, refusals_told, StepsTo, IsSound, IsSoundIn, clusters_in, view_of};
-ghost use Rattle.rmt_reply.specs.Printed.{printed_all};
 ghost use Rattle.rmt_play.specs.declared.progress.Progress.TheVariants as progress;
 ghost use Rattle.rmt_play.specs.declared.round.Round.TheVariants as rounds;
 ghost use Rattle.rmt_play.specs.declared.script_end.ScriptEnd.TheVariants as ends;
@@ -34,12 +35,13 @@ use crate::player::Player;
 use crate::progress::Progress;
 use crate::round::Round;
 use crate::script_end::ScriptEnd;
-use rmt_outside::{Sink, WriteError, write_all_of};
-use rmt_reply::{Line, Refusal, print, refused_in};
+use crate::teller::Teller;
+use rmt_list::List;
+use rmt_outside::WriteError;
+use rmt_reply::{Line, Refusal, refused_in};
 use rmt_sql::{Parsed, next_statement};
 use rmt_values::{Name, Schema};
 use std::alloc::{AllocError, Global};
-use std::slice::from_ref;
 
 /// Plays the next statement, but for a CREATE that meets no refusal, and gives the place after it; none at the end of the script.
 fn next_answer<E: Engine>(
@@ -78,77 +80,84 @@ fn next_answer<E: Engine>(
     }
 }
 
-/// Writes the reply of a statement, after which the script goes on at a place.
-pub(crate) fn write_reply<K: Sink>(
-    alloc: Global,
-    reply: &[Line],
-    end: usize,
-    sink: &mut K,
-) -> Progress
-    ensures reply { IsReply reply.now end (K.written sink.old) (K.written sink.new) result }
-    ensures cause { result ≡ progress.WriteFault → Rose (K.faults sink.old) (K.faults sink.new) }
-    ensures quiet { result ≢ progress.WriteFault → K.faults sink.new ≡ K.faults sink.old }
-    ensures later { K.faults sink.old ≤ K.faults sink.new }
+/// Tells the reply of a statement, after which the script goes on at a place.
+fn tell_reply<T: Teller>(alloc: Global, reply: List<Line>, end: usize, teller: &mut T) -> Progress
+    ensures reply { IsReply T.outlet reply end (T.told teller.old) (T.told teller.new) result }
+    ensures cause { result ≡ progress.WriteFault → Rose (T.faults teller.old) (T.faults teller.new) }
+    ensures quiet { result ≢ progress.WriteFault → T.faults teller.new ≡ T.faults teller.old }
+    ensures later { T.faults teller.old ≤ T.faults teller.new }
 {
-    let Ok(out) = print(alloc, reply) else {
-        return Progress::Memory;
-    };
-    match write_all_of(sink, &out) {
-        Ok(()) => Progress::On {
-            end,
-            refused: refused_in(reply) as u64,
-        },
+    let refused = refused_in(reply.as_slice()) as u64;
+    match teller.tell(alloc, reply) {
+        Ok(()) => Progress::On { end, refused },
         Err(WriteError::WriteFault) => Progress::WriteFault,
-        Err(WriteError::Memory) => unreachable!(),
+        Err(WriteError::Memory) => Progress::Memory,
     }
 }
 
-/// Writes the reply of a statement, after which the script goes on at a place, and passes the point after it.
-fn reply_with<E: Engine, K: Sink>(
+/// A reply of one line. At an error no memory was left.
+fn one_line(alloc: Global, line: Line) -> Result<List<Line>, AllocError>
+    ensures { IfOk result (λ reply. reply ≡ line ∷ []) }
+{
+    let mut reply = Vec::new(alloc);
+    reply.push(line)?;
+    Ok(List::new(reply))
+}
+
+/// Tells a reply of one line.
+pub(crate) fn tell_line<T: Teller>(
     alloc: Global,
-    player: &mut Player<E>,
-    reply: &[Line],
+    line: Line,
     end: usize,
-    sink: &mut K,
+    teller: &mut T,
 ) -> Progress
+    ensures reply { IsReply T.outlet (line ∷ []) end (T.told teller.old) (T.told teller.new) result }
+    ensures cause { result ≡ progress.WriteFault → Rose (T.faults teller.old) (T.faults teller.new) }
+    ensures quiet { result ≢ progress.WriteFault → T.faults teller.new ≡ T.faults teller.old }
+    ensures later { T.faults teller.old ≤ T.faults teller.new }
+{
+    match one_line(alloc, line) {
+        Ok(reply) => tell_reply(alloc, reply, end, teller),
+        Err(AllocError) => Progress::Memory,
+    }
+}
+
+/// Passes the point after a reply that was told.
+fn pass_point<E: Engine>(player: &mut Player<E>, told: Progress) -> Progress
     requires sound { IsSound E.sights E.tables player.old }
     ensures sound { IsSound E.sights E.tables player.new }
     ensures unchanged { view_of E.sights E.tables player.new ≡ view_of E.sights E.tables player.old }
-    ensures reply { IsReply reply.now end (K.written sink.old) (K.written sink.new) result }
-    ensures cause { result ≡ progress.WriteFault → Rose (K.faults sink.old) (K.faults sink.new) }
-    ensures quiet { result ≢ progress.WriteFault → K.faults sink.new ≡ K.faults sink.old }
-    ensures later { K.faults sink.old ≤ K.faults sink.new }
+    ensures same { result ≡ told }
 {
-    let written = write_reply(alloc, reply, end, sink);
-    if matches!(written, Progress::On { .. }) {
+    if matches!(told, Progress::On { .. }) {
         player.answered();
     }
-    written
+    told
 }
 
-/// Plays the next statement, but for a CREATE that meets no refusal, and writes its reply.
-fn play_next<E: Engine, K: Sink>(
+/// Plays the next statement, but for a CREATE that meets no refusal, and tells its reply.
+fn play_next<E: Engine, T: Teller>(
     alloc: Global,
     player: &mut Player<E>,
     script: &[u8],
     at: usize,
-    sink: &mut K,
+    teller: &mut T,
 ) -> Progress
     requires sound { IsSound E.sights E.tables player.old }
     requires within { at ≤ length script.now }
     requires offered { OffersScript E.sights.offers script.now }
     ensures sound { IsSound E.sights E.tables player.new }
-    ensures progress { IsProgress script.now at (view_of E.sights E.tables player.old)
+    ensures progress { IsProgress T.outlet script.now at (view_of E.sights E.tables player.old)
         (view_of E.sights E.tables player.new)
-        (K.written sink.old) (K.written sink.new) result }
-    ensures cause { result ≡ progress.WriteFault → Rose (K.faults sink.old) (K.faults sink.new) }
-    ensures quiet { result ≢ progress.WriteFault → K.faults sink.new ≡ K.faults sink.old }
-    ensures later { K.faults sink.old ≤ K.faults sink.new }
+        (T.told teller.old) (T.told teller.new) result }
+    ensures cause { result ≡ progress.WriteFault → Rose (T.faults teller.old) (T.faults teller.new) }
+    ensures quiet { result ≢ progress.WriteFault → T.faults teller.new ≡ T.faults teller.old }
+    ensures later { T.faults teller.old ≤ T.faults teller.new }
 {
     match next_answer(alloc, player, script, at) {
         Ok(Some((answer, end))) => match answer {
-            Answer::Reply(line) => reply_with(alloc, player, from_ref(&line), end, sink),
-            Answer::Lanes(reply) => reply_with(alloc, player, reply.as_slice(), end, sink),
+            Answer::Reply(line) => pass_point(player, tell_line(alloc, line, end, teller)),
+            Answer::Lanes(reply) => pass_point(player, tell_reply(alloc, reply, end, teller)),
             Answer::Creates { table, schema } => Progress::Creates { table, schema, end },
         },
         Ok(None) => Progress::AtEnd,
@@ -156,32 +165,32 @@ fn play_next<E: Engine, K: Sink>(
     }
 }
 
-/// Plays statements from a place on, each reply written before the next one begins, up to the first CREATE that meets no refusal.
+/// Plays statements from a place on, each reply told before the next one begins, up to the first CREATE that meets no refusal.
 /// So many were refused before.
-pub(crate) fn play_round<E: Engine, K: Sink>(
+pub(crate) fn play_round<E: Engine, T: Teller>(
     alloc: Global,
     player: &mut Player<E>,
     script: &[u8],
     from: usize,
     count: u64,
-    sink: &mut K,
+    teller: &mut T,
 ) -> Round
     requires sound { IsSound E.sights E.tables player.old }
     requires within { from ≤ length script.now }
     requires few { count ≤ from }
     requires offered { OffersScript E.sights.offers script.now }
     ensures sound { IsSound E.sights E.tables player.new }
-    ensures round { IsRound script.now from count (view_of E.sights E.tables player.old)
+    ensures round { IsRound T.outlet script.now from count (view_of E.sights E.tables player.old)
         (view_of E.sights E.tables player.new)
-        (K.written sink.old) (K.written sink.new) result }
-    ensures cause { result ≡ rounds.WriteFault → Rose (K.faults sink.old) (K.faults sink.new) }
-    ensures quiet { result ≢ rounds.WriteFault → K.faults sink.new ≡ K.faults sink.old }
-    ensures later { K.faults sink.old ≤ K.faults sink.new }
+        (T.told teller.old) (T.told teller.new) result }
+    ensures cause { result ≡ rounds.WriteFault → Rose (T.faults teller.old) (T.faults teller.new) }
+    ensures quiet { result ≢ rounds.WriteFault → T.faults teller.new ≡ T.faults teller.old }
+    ensures later { T.faults teller.old ≤ T.faults teller.new }
 {
     let mut at = from;
     let mut refused = count;
     'statements: loop {
-        match play_next(alloc, player, script, at, sink) {
+        match play_next(alloc, player, script, at, teller) {
             Progress::AtEnd => return Round::AtEnd { refused },
             Progress::On { end, refused: more } => {
                 at = end;
@@ -201,25 +210,25 @@ pub(crate) fn play_round<E: Engine, K: Sink>(
     }
 }
 
-/// Makes the table of a CREATE, and writes the reply, after which the script goes on at a place.
-fn make_table<K: Sink>(
+/// Makes the table of a CREATE, and tells the reply, after which the script goes on at a place.
+fn make_table<T: Teller>(
     alloc: Global,
     player: &mut Player<Clusters>,
     table: Name,
     schema: Schema,
     end: usize,
-    sink: &mut K,
+    teller: &mut T,
 ) -> Progress
     requires sound { IsSoundIn player.old }
     ensures sound { IsSoundIn player.new }
-    ensures made { IsMade table schema end (clusters_in player.old) (clusters_in player.new)
-        (K.written sink.old) (K.written sink.new) result }
-    ensures cause { result ≡ progress.WriteFault → Rose (K.faults sink.old) (K.faults sink.new) }
-    ensures quiet { result ≢ progress.WriteFault → K.faults sink.new ≡ K.faults sink.old }
-    ensures later { K.faults sink.old ≤ K.faults sink.new }
+    ensures made { IsMade T.outlet table schema end (clusters_in player.old) (clusters_in player.new)
+        (T.told teller.old) (T.told teller.new) result }
+    ensures cause { result ≡ progress.WriteFault → Rose (T.faults teller.old) (T.faults teller.new) }
+    ensures quiet { result ≢ progress.WriteFault → T.faults teller.new ≡ T.faults teller.old }
+    ensures later { T.faults teller.old ≤ T.faults teller.new }
 {
     match player.add(alloc, table, schema) {
-        Ok(line) => write_reply(alloc, from_ref(&line), end, sink),
+        Ok(line) => tell_line(alloc, line, end, teller),
         Err(AllocError) => Progress::Memory,
     }
 }
@@ -235,25 +244,25 @@ fn end_of(alloc: Global, player: Player<Clusters>, refused: u64) -> ScriptEnd
     }
 }
 
-/// Plays a script to its end, each reply written before the next statement begins. Tables are made between the rounds.
-pub(crate) fn play<K: Sink>(alloc: Global, script: &[u8], sink: &mut K) -> ScriptEnd
-    ensures end { IsScriptEnd script.now (K.written sink.old) (K.written sink.new) result }
-    ensures cause { result ≡ ends.WriteFault → Rose (K.faults sink.old) (K.faults sink.new) }
-    ensures quiet { result ≢ ends.WriteFault → K.faults sink.new ≡ K.faults sink.old }
-    ensures later { K.faults sink.old ≤ K.faults sink.new }
+/// Plays a script to its end, each reply told before the next statement begins. Tables are made between the rounds.
+pub(crate) fn play<T: Teller>(alloc: Global, script: &[u8], teller: &mut T) -> ScriptEnd
+    ensures end { IsScriptEnd T.outlet script.now (T.told teller.old) (T.told teller.new) result }
+    ensures cause { result ≡ ends.WriteFault → Rose (T.faults teller.old) (T.faults teller.new) }
+    ensures quiet { result ≢ ends.WriteFault → T.faults teller.new ≡ T.faults teller.old }
+    ensures later { T.faults teller.old ≤ T.faults teller.new }
 {
     let mut player = Player::new(alloc);
     let mut at = 0;
     let mut refused = 0;
     'rounds: loop {
-        match play_round(alloc, &mut player, script, at, refused, sink) {
+        match play_round(alloc, &mut player, script, at, refused, teller) {
             Round::AtEnd { refused } => return end_of(alloc, player, refused),
             Round::Creates {
                 table,
                 schema,
                 end,
                 refused: count,
-            } => match make_table(alloc, &mut player, table, schema, end, sink) {
+            } => match make_table(alloc, &mut player, table, schema, end, teller) {
                 Progress::On { end, refused: more } => {
                     at = end;
                     refused = count + more;

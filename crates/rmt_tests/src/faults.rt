@@ -1,5 +1,5 @@
 //! A read and each write of a script that fail.
-use crate::played::played;
+use crate::played::{played, summed};
 use rmt_play::Status;
 use std::test::Fail;
 
@@ -14,6 +14,10 @@ const WRITES: &[(u64, u8, &str)] = &[
     (2, 5, "ok\npart all_0_0_0\n"),
     (3, 0, "ok\npart all_0_0_0\nrows 1\n2,15\n"),
 ];
+
+/// What a workload of two turns from the seed 1 comes to.
+const SUMMARY: &str =
+    "statements 2\naccepted 1\nduplicate 1\nrefused 0\nr1 4,29899\nr2 4,29899\nr3 4,29899\n";
 
 /// The second read fails, which would have told the script's end.
 #[test]
@@ -33,5 +37,19 @@ fn a_write_that_fails_leaves_the_replies_before_it(rt: HostRuntime) -> Result<()
         assert_eq!(rt; status, Status { code, refused });
         assert_eq!(rt; page.written(), written.as_bytes());
     }
+    Ok(())
+}
+
+/// Nothing is read for a workload, and its summary is one write.
+#[test]
+fn a_workload_is_summed_up_or_not_at_all(rt: HostRuntime) -> Result<(), Fail> {
+    let (status, page) = summed(&rt, rt.alloc(), &[])?;
+    let (code, refused) = (0, 0);
+    assert_eq!(rt; status, Status { code, refused });
+    assert_eq!(rt; page.written(), SUMMARY.as_bytes());
+    let (status, page) = summed(&rt, rt.alloc(), &[0])?;
+    let (code, refused) = (5, 0);
+    assert_eq!(rt; status, Status { code, refused });
+    assert_eq!(rt; page.written().len(), 0);
     Ok(())
 }

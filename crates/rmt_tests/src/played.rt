@@ -34,6 +34,20 @@ pub(crate) fn played_among_two<R: Threads + Wait + Sync, G: Gate + Sync>(
     Ok((status, page))
 }
 
+/// The status of a workload of two turns from the seed 1, of whose writes these fail, counted from 0; and the page that it wrote. The
+/// first read of its source would fail.
+pub(crate) fn summed<R: Threads + Wait + Sync>(
+    rt: &R,
+    alloc: Global,
+    writes: &[u64],
+) -> Result<(Status, Page), AllocError> {
+    let words = words_of(alloc, &["storm", "1", "2"])?;
+    let mut source = source_of(alloc, "KILL r1", &[0])?;
+    let mut page = Page::new(alloc, Vec::from_slice(alloc, writes)?);
+    let (status, _) = run(rt, alloc, &words, &mut source, &mut page, &Open);
+    Ok((status, page))
+}
+
 /// The words of a call.
 fn words_of(alloc: Global, words: &[&str]) -> Result<Vec<String>, AllocError> {
     let mut all = Vec::with_capacity(alloc, words.len())?;

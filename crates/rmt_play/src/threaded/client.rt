@@ -5,29 +5,29 @@ use crate::engine::Engine;
 use crate::player::Player;
 use crate::round::Round;
 use crate::script::play_round;
+use crate::teller::Teller;
 use crate::threaded::beside::ClientWork;
-use rmt_outside::Sink;
 use std::alloc::Global;
 
 /// A client that plays a script from a place on, up to the first CREATE that meets no refusal, where so many statements were
 /// refused before; and how that ended.
 #[derive(Drop)]
-pub(crate) struct Client<'s, 'k, E: Engine, K: Sink> {
+pub(crate) struct Client<'s, 'k, E: Engine, T: Teller> {
     pub alloc: Global,
     pub player: Player<E>,
     pub script: &'s [u8],
     pub from: usize,
     pub count: u64,
-    pub sink: &'k mut K,
+    pub teller: &'k mut T,
     pub round: Round,
 }
 
-impl<'s, 'k, E: Engine, K: Sink> ClientWork for Client<'s, 'k, E, K> {
+impl<'s, 'k, E: Engine, T: Teller> ClientWork for Client<'s, 'k, E, T> {
     ghost use Rattle.rmt_play.specs.ThreadedRounds.{IsReadyClient, PlaysRound};
 
     ghost ready = { λ c. IsReadyClient E.sights E.tables c };
 
-    ghost becomes = { λ c d. PlaysRound E.sights E.tables K.written K.faults c d };
+    ghost becomes = { λ c d. PlaysRound T.outlet E.sights E.tables T.told T.faults c d };
 
     fn run(self) -> Self {
         let Client {
@@ -36,17 +36,17 @@ impl<'s, 'k, E: Engine, K: Sink> ClientWork for Client<'s, 'k, E, K> {
             script,
             from,
             count,
-            sink,
+            teller,
             round: _,
         } = self;
-        let round = play_round(alloc, &mut player, script, from, count, &mut *sink);
+        let round = play_round(alloc, &mut player, script, from, count, &mut *teller);
         Client {
             alloc,
             player,
             script,
             from,
             count,
-            sink,
+            teller,
             round,
         }
     }

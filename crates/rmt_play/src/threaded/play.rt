@@ -10,7 +10,8 @@ ghost use Rattle.rmt_play.specs.declared.threaded.made.Made.TheVariants as mades
 ghost use Rattle.rmt_play.specs.declared.threaded.threaded_end.ThreadedEnd.TheVariants as ends;
 
 use crate::progress::Progress;
-use crate::script::write_reply;
+use crate::script::tell_line;
+use crate::teller::Teller;
 use crate::threaded::cast::Cast;
 use crate::threaded::ground::Ground;
 use crate::threaded::made::Made;
@@ -19,7 +20,7 @@ use crate::threaded::round::{play_span, ups_of};
 use crate::threaded::span::Span;
 use crate::threaded::threaded_end::ThreadedEnd;
 use rmt_list::List;
-use rmt_outside::{Gate, Point, Sink};
+use rmt_outside::{Gate, Point};
 use rmt_reply::Line;
 use rmt_values::{Name, Schema};
 use rmt_workers::Carried;
@@ -70,27 +71,27 @@ fn answer<G: Gate>(gate: &G, ground: Ground) -> Ground
     Ground { cast, carried }
 }
 
-/// Makes the table of a CREATE, and writes the reply, after which the script goes on at a place.
-fn make_table<K: Sink, G: Gate>(
+/// Makes the table of a CREATE, and tells the reply, after which the script goes on at a place.
+fn make_table<T: Teller, G: Gate>(
     alloc: Global,
     ground: Ground,
     table: Name,
     schema: Schema,
     end: usize,
-    sink: &mut K,
+    teller: &mut T,
     gate: &G,
 ) -> Made
     requires some { 1 ≤ length ground.carried.up.items }
     requires few { length ground.carried.up.items ≤ 8 }
-    ensures made { MakesAmong table schema ground (K.written sink.old) (K.written sink.new) result }
-    ensures cause { result ≡ mades.WriteFault → Rose (K.faults sink.old) (K.faults sink.new) }
-    ensures quiet { result ≢ mades.WriteFault → K.faults sink.new ≡ K.faults sink.old }
-    ensures later { K.faults sink.old ≤ K.faults sink.new }
+    ensures made { MakesAmong T.outlet table schema ground (T.told teller.old) (T.told teller.new) result }
+    ensures cause { result ≡ mades.WriteFault → Rose (T.faults teller.old) (T.faults teller.new) }
+    ensures quiet { result ≢ mades.WriteFault → T.faults teller.new ≡ T.faults teller.old }
+    ensures later { T.faults teller.old ≤ T.faults teller.new }
 {
     let Ok(ground) = add_table(alloc, ground, table, schema) else {
         return Made::Memory;
     };
-    match write_reply(alloc, &[Line::Okay], end, sink) {
+    match tell_line(alloc, Line::Okay, end, teller) {
         Progress::On { .. } => Made::On(answer(gate, ground)),
         Progress::WriteFault => Made::WriteFault,
         Progress::Memory => Made::Memory,
@@ -98,22 +99,22 @@ fn make_table<K: Sink, G: Gate>(
     }
 }
 
-/// Plays a script to its end among so many workers, each reply written before the next statement begins. Tables are made between the
+/// Plays a script to its end among so many workers, each reply told before the next statement begins. Tables are made between the
 /// rounds.
-pub(crate) fn play<R: Threads + Wait + Sync, G: Gate + Sync, K: Sink>(
+pub(crate) fn play<R: Threads + Wait + Sync, G: Gate + Sync, T: Teller>(
     rt: &R,
     alloc: Global,
     script: &[u8],
     workers: u8,
-    sink: &mut K,
+    teller: &mut T,
     gate: &G,
 ) -> ThreadedEnd
     requires some { 0 < workers }
     requires most { workers ≤ 8 }
-    ensures end { EndsAmong script.now (K.written sink.old) (K.written sink.new) result }
-    ensures cause { result ≡ ends.WriteFault → Rose (K.faults sink.old) (K.faults sink.new) }
-    ensures quiet { result ≢ ends.WriteFault → K.faults sink.new ≡ K.faults sink.old }
-    ensures later { K.faults sink.old ≤ K.faults sink.new }
+    ensures end { EndsAmong T.outlet script.now (T.told teller.old) (T.told teller.new) result }
+    ensures cause { result ≡ ends.WriteFault → Rose (T.faults teller.old) (T.faults teller.new) }
+    ensures quiet { result ≢ ends.WriteFault → T.faults teller.new ≡ T.faults teller.old }
+    ensures later { T.faults teller.old ≤ T.faults teller.new }
 {
     let Ok(first) = first_ground(alloc) else {
         return ThreadedEnd::Memory;
@@ -122,7 +123,9 @@ pub(crate) fn play<R: Threads + Wait + Sync, G: Gate + Sync, K: Sink>(
     let mut at = 0;
     let mut refused = 0;
     'rounds: loop {
-        match play_span(rt, alloc, script, workers, ground, at, refused, sink, gate) {
+        match play_span(
+            rt, alloc, script, workers, ground, at, refused, teller, gate,
+        ) {
             Span::AtEnd { refused, ground } => {
                 let Ground { carried, .. } = ground;
                 let Carried { states, .. } = carried;
@@ -135,7 +138,7 @@ pub(crate) fn play<R: Threads + Wait + Sync, G: Gate + Sync, K: Sink>(
                 end,
                 refused: count,
                 ground: left,
-            } => match make_table(alloc, left, table, schema, end, sink, gate) {
+            } => match make_table(alloc, left, table, schema, end, teller, gate) {
                 Made::On(next) => {
                     ground = next;
                     at = end;

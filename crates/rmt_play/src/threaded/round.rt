@@ -15,6 +15,7 @@ ghost use Rattle.rmt_play.specs.declared.threaded.span.Span.TheVariants as spans
 
 use crate::player::Player;
 use crate::round::Round;
+use crate::teller::Teller;
 use crate::threaded::among::Among;
 use crate::threaded::beside::beside;
 use crate::threaded::cast::Cast;
@@ -23,7 +24,7 @@ use crate::threaded::ground::Ground;
 use crate::threaded::paused::Paused;
 use crate::threaded::span::Span;
 use crate::threaded::workshop::Workshop;
-use rmt_outside::{Gate, Sink};
+use rmt_outside::Gate;
 use rmt_pass::Pass;
 use rmt_shared::Naming;
 use rmt_state::State;
@@ -50,7 +51,7 @@ fn play_beside<
     Q: NamesQueue + Send + Sync,
     R: Threads + Wait + Sync,
     G: Gate + Sync,
-    K: Sink,
+    T: Teller,
 >(
     rt: &'a R,
     crew: &'a Crew<N>,
@@ -64,7 +65,7 @@ fn play_beside<
     pass: Pass<N>,
     from: usize,
     count: u64,
-    sink: &mut K,
+    teller: &mut T,
 ) -> Paused<N>
     requires within { from ≤ length script.now }
     requires few { count ≤ from }
@@ -72,13 +73,13 @@ fn play_beside<
     requires same { SameOffers O.blocks N.tables N.offered }
     requires schemas { map arc_value schemas.items ≡ schemas_named N.tables }
     requires cast { IsCast O.blocks cast (seats_of pass.up pass.tables) }
-    ensures round { IsRound script.now from count (cast_view O.blocks cast (seats_of pass.up pass.tables))
-        (cast_view O.blocks result.cast (seats_in result.pass)) (K.written sink.old) (K.written sink.new) result.round }
+    ensures round { IsRound T.outlet script.now from count (cast_view O.blocks cast (seats_of pass.up pass.tables))
+        (cast_view O.blocks result.cast (seats_in result.pass)) (T.told teller.old) (T.told teller.new) result.round }
     ensures cast { IsCast O.blocks result.cast (seats_in result.pass) }
     ensures known { IfSome result.pass (IsKnownAmong N.replicas N.tables) }
-    ensures cause { result.round ≡ rounds.WriteFault → Rose (K.faults sink.old) (K.faults sink.new) }
-    ensures quiet { result.round ≢ rounds.WriteFault → K.faults sink.new ≡ K.faults sink.old }
-    ensures later { K.faults sink.old ≤ K.faults sink.new }
+    ensures cause { result.round ≡ rounds.WriteFault → Rose (T.faults teller.old) (T.faults teller.new) }
+    ensures quiet { result.round ≢ rounds.WriteFault → T.faults teller.new ≡ T.faults teller.old }
+    ensures later { T.faults teller.old ≤ T.faults teller.new }
 {
     let Cast {
         replicas,
@@ -95,7 +96,7 @@ fn play_beside<
         script,
         from,
         count,
-        sink,
+        teller,
         round,
     };
     let shop = Workshop {
@@ -111,7 +112,7 @@ fn play_beside<
         script: _,
         from: _,
         count: _,
-        sink: lent,
+        teller: lent,
         round,
     } = done;
     take_back(lent);
@@ -232,7 +233,7 @@ fn play_among<
     Q: NamesQueue + Send + Sync,
     R: Threads + Wait + Sync,
     G: Gate + Sync,
-    K: Sink,
+    T: Teller,
 >(
     rt: &R,
     alloc: Global,
@@ -241,7 +242,7 @@ fn play_among<
     ground: Ground,
     from: usize,
     count: u64,
-    sink: &mut K,
+    teller: &mut T,
     gate: &G,
     entries: Blank,
     blank: BlankQueue,
@@ -260,10 +261,10 @@ fn play_among<
     requires parts { entries.parts ≡ N.parts }
     requires whole { 0 < N.parts }
     requires queue { name_of blank ≡ Q.queue }
-    ensures span { IsSpan O.blocks script.now from count (ground_view O.blocks ground) (K.written sink.old) (K.written sink.new) result }
-    ensures cause { result ≡ spans.WriteFault → Rose (K.faults sink.old) (K.faults sink.new) }
-    ensures quiet { result ≢ spans.WriteFault → K.faults sink.new ≡ K.faults sink.old }
-    ensures later { K.faults sink.old ≤ K.faults sink.new }
+    ensures span { IsSpan T.outlet O.blocks script.now from count (ground_view O.blocks ground) (T.told teller.old) (T.told teller.new) result }
+    ensures cause { result ≡ spans.WriteFault → Rose (T.faults teller.old) (T.faults teller.new) }
+    ensures quiet { result ≢ spans.WriteFault → T.faults teller.new ≡ T.faults teller.old }
+    ensures later { T.faults teller.old ≤ T.faults teller.new }
 {
     let Ground { cast, carried } = ground;
     let (tables, replicas) = (cast.names.len() as u8, cast.replicas);
@@ -277,14 +278,14 @@ fn play_among<
     let Ok(places) = queue.deal(rt, alloc, counted, tables, replicas, workers) else {
         return Span::Memory;
     };
-    let paused = play_beside::<N, O, Q, R, G, K>(
-        rt, &crew, &queue, places, gate, alloc, script, cast, schemas, pass, from, count, sink,
+    let paused = play_beside::<N, O, Q, R, G, T>(
+        rt, &crew, &queue, places, gate, alloc, script, cast, schemas, pass, from, count, teller,
     );
     span_of::<N, O, R>(rt, alloc, crew, paused)
 }
 
 /// The same, where the locks and the queue get names of their own, and all may come that the script offers.
-pub(crate) fn play_span<R: Threads + Wait + Sync, G: Gate + Sync, K: Sink>(
+pub(crate) fn play_span<R: Threads + Wait + Sync, G: Gate + Sync, T: Teller>(
     rt: &R,
     alloc: Global,
     script: &[u8],
@@ -292,7 +293,7 @@ pub(crate) fn play_span<R: Threads + Wait + Sync, G: Gate + Sync, K: Sink>(
     ground: Ground,
     from: usize,
     count: u64,
-    sink: &mut K,
+    teller: &mut T,
     gate: &G,
 ) -> Span
     requires some { 0 < workers }
@@ -300,16 +301,16 @@ pub(crate) fn play_span<R: Threads + Wait + Sync, G: Gate + Sync, K: Sink>(
     requires within { from ≤ length script.now }
     requires few { count ≤ from }
     requires ground { IsGround (IsOfferedBy script.now) ground }
-    ensures span { IsSpan (IsOfferedBy script.now) script.now from count (ground_view (IsOfferedBy script.now) ground)
-        (K.written sink.old) (K.written sink.new) result }
-    ensures cause { result ≡ spans.WriteFault → Rose (K.faults sink.old) (K.faults sink.new) }
-    ensures quiet { result ≢ spans.WriteFault → K.faults sink.new ≡ K.faults sink.old }
-    ensures later { K.faults sink.old ≤ K.faults sink.new }
+    ensures span { IsSpan T.outlet (IsOfferedBy script.now) script.now from count (ground_view (IsOfferedBy script.now) ground)
+        (T.told teller.old) (T.told teller.new) result }
+    ensures cause { result ≡ spans.WriteFault → Rose (T.faults teller.old) (T.faults teller.new) }
+    ensures quiet { result ≢ spans.WriteFault → T.faults teller.new ≡ T.faults teller.old }
+    ensures later { T.faults teller.old ≤ T.faults teller.new }
 {
     let Ok(blank) = BlankQueue::new(alloc) else {
         return Span::Memory;
     };
-    play_among::<Brand, Brand, Brand, R, G, K>(
+    play_among::<Brand, Brand, Brand, R, G, T>(
         rt,
         alloc,
         script,
@@ -317,7 +318,7 @@ pub(crate) fn play_span<R: Threads + Wait + Sync, G: Gate + Sync, K: Sink>(
         ground,
         from,
         count,
-        sink,
+        teller,
         gate,
         Blank::new(1),
         blank,

@@ -9,7 +9,7 @@ rounds-init g c = record {
   few = omega arith;
   quiet = refl;
   sound = c.new-player.ensures.sound;
-  so_far = so_far_start c.args.script.now (clusters_in c.new-player.result) (g.K.Sink.written c.args.sink.now) c.new-player.ensures.empty;
+  so_far = so_far_start c.args.script.now (clusters_in c.new-player.result) (g.T.Teller.told c.args.teller.now) c.new-player.ensures.empty;
 }
 
 pub rounds-preserved : goal.rounds-preserved

@@ -7,7 +7,7 @@ pub statements-init : goal.statements-init
 statements-init g c = record {
   quiet = refl;
   sound = c.requires.sound;
-  plays = plays-start c.args.script.now c.args.from c.args.count (view_of g.E.Engine.sights g.E.Engine.tables c.args.player.now) (g.K.Sink.written c.args.sink.now) c.requires.few c.requires.within;
+  plays = plays-start c.args.script.now c.args.from c.args.count (view_of g.E.Engine.sights g.E.Engine.tables c.args.player.now) (g.T.Teller.told c.args.teller.now) c.requires.few c.requires.within;
 }
 
 pub statements-preserved : goal.statements-preserved
@@ -21,16 +21,16 @@ statements-preserved g c = record {
 pub returns-in-AtEnd-clause-round : goal.returns-in-AtEnd-clause-round
 returns-in-AtEnd-clause-round g c =
     let (ended, keeps, same) = c.in-AtEnd.ensures.progress in
-    record { at = c.statements.at; refused = c.statements.refused; player = (view_of g.E.Engine.sights g.E.Engine.tables c.statements.player); now = g.K.Sink.written c.statements.sink; plays = c.statements.invariant.plays; ends = (refl, ended, keeps, same) }
+    record { at = c.statements.at; refused = c.statements.refused; player = (view_of g.E.Engine.sights g.E.Engine.tables c.statements.player); now = g.T.Teller.told c.statements.teller; plays = c.statements.invariant.plays; ends = (refl, ended, keeps, same) }
 
 pub returns-in-Creates-clause-round : goal.returns-in-Creates-clause-round
 returns-in-Creates-clause-round g c =
-    record { at = c.statements.at; refused = c.statements.refused; player = (view_of g.E.Engine.sights g.E.Engine.tables c.statements.player); now = g.K.Sink.written c.statements.sink; plays = c.statements.invariant.plays; ends = (refl, c.in-Creates.ensures.progress) }
+    record { at = c.statements.at; refused = c.statements.refused; player = (view_of g.E.Engine.sights g.E.Engine.tables c.statements.player); now = g.T.Teller.told c.statements.teller; plays = c.statements.invariant.plays; ends = (refl, c.in-Creates.ensures.progress) }
 
 pub returns-in-WriteFault-clause-round : goal.returns-in-WriteFault-clause-round
 returns-in-WriteFault-clause-round g c =
-    record { at = c.statements.at; refused = c.statements.refused; player = (view_of g.E.Engine.sights g.E.Engine.tables c.statements.player); now = g.K.Sink.written c.statements.sink; plays = c.statements.invariant.plays; ends = c.in-WriteFault.ensures.progress }
+    record { at = c.statements.at; refused = c.statements.refused; player = (view_of g.E.Engine.sights g.E.Engine.tables c.statements.player); now = g.T.Teller.told c.statements.teller; plays = c.statements.invariant.plays; ends = c.in-WriteFault.ensures.progress }
 
 pub returns-in-Memory-clause-round : goal.returns-in-Memory-clause-round
 returns-in-Memory-clause-round g c =
-    record { at = c.statements.at; refused = c.statements.refused; player = (view_of g.E.Engine.sights g.E.Engine.tables c.statements.player); now = g.K.Sink.written c.statements.sink; plays = c.statements.invariant.plays; ends = c.in-Memory.ensures.progress }
+    record { at = c.statements.at; refused = c.statements.refused; player = (view_of g.E.Engine.sights g.E.Engine.tables c.statements.player); now = g.T.Teller.told c.statements.teller; plays = c.statements.invariant.plays; ends = c.in-Memory.ensures.progress }

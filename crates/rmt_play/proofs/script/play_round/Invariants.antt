@@ -5,9 +5,9 @@ use Rattle.rmt_play.proofs.script.play_round.Given as goal
 
 abbrev pub invariant-statements : goal.invariant-statements
 invariant-statements g l = record {
-  quiet : g.K.Sink.faults l.sink ≡ g.K.Sink.faults l.fn.sink;
+  quiet : g.T.Teller.faults l.teller ≡ g.T.Teller.faults l.fn.teller;
   sound : IsSound g.E.Engine.sights g.E.Engine.tables l.player;
-  plays : PlaysOn l.script l.from l.count (view_of g.E.Engine.sights g.E.Engine.tables l.fn.player) (g.K.Sink.written l.fn.sink) l.at l.refused (view_of g.E.Engine.sights g.E.Engine.tables l.player) (g.K.Sink.written l.sink);
+  plays : PlaysOn g.T.Teller.outlet l.script l.from l.count (view_of g.E.Engine.sights g.E.Engine.tables l.fn.player) (g.T.Teller.told l.fn.teller) l.at l.refused (view_of g.E.Engine.sights g.E.Engine.tables l.player) (g.T.Teller.told l.teller);
 }
 
 abbrev pub decreases-statements : goal.decreases-statements

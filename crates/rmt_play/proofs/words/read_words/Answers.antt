@@ -6,8 +6,8 @@ use Rattle.rmt_play.specs.CommandWords.{program}
 use Rattle.rmt_play.proofs.WordLemmas.{form-taken, name-in_rows}
 use Rattle.rmt_play.proofs.words.read_words.Goals as goal
 
-pub returns-clause-plays : goal.returns-clause-plays
-returns-clause-plays c =
+pub returns-clause-reads : goal.returns-clause-reads
+returns-clause-reads c =
     let is_program : app_of c.in_ok-command.field-0 ≡ program = c.in_ok-command.ensures.program in
     let taken = form-taken (map string_bytes c.args.words.now) c.requires.form in
     let parse = c.try_get_matches_from in

@@ -9,9 +9,9 @@ abbrev pub invariant-rounds : goal.invariant-rounds
 invariant-rounds g l = record {
   within : l.at ≤ length l.script;
   few : l.refused ≤ l.at;
-  quiet : g.K.Sink.faults l.sink ≡ g.K.Sink.faults l.fn.sink;
+  quiet : g.T.Teller.faults l.teller ≡ g.T.Teller.faults l.fn.teller;
   ground : IsGround (IsOfferedBy l.script) l.ground;
-  so_far : AreClearIn l.script → SoFar l.script l.at (ground_view (IsOfferedBy l.script) l.ground) (g.K.Sink.written l.fn.sink) (g.K.Sink.written l.sink) l.refused;
+  so_far : AreClearIn l.script → SoFar g.T.Teller.outlet l.script l.at (ground_view (IsOfferedBy l.script) l.ground) (g.T.Teller.told l.fn.teller) (g.T.Teller.told l.teller) l.refused;
 }
 
 abbrev pub decreases-rounds : goal.decreases-rounds

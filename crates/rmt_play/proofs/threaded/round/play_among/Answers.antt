@@ -1,5 +1,5 @@
 use Rattle.std.proofs.Common.{◌∙◌, length, map, ap, sym, arith}
-use Rattle.std.proofs.KnownBytes.{Keeps-refl}
+use Rattle.rmt_play.proofs.OutletLemmas.{keeps-same}
 use Rattle.rmt_state.specs.States.{StateView}
 use Rattle.rmt_shared.specs.SharedTables.{named}
 use Rattle.rmt_play.specs.Seats.{ground_view, schemas_named}
@@ -10,7 +10,7 @@ use Rattle.rmt_play.proofs.ThreadLemmas.{no-round}
 use Rattle.rmt_play.proofs.threaded.round.play_among.Goals as goal
 
 pub returns-in_default-clause-span : goal.returns-in_default-clause-span
-returns-in_default-clause-span g c = no-round g.O.Offers.blocks c.args.script.now c.args.from c.args.count (ground_view g.O.Offers.blocks c.args.ground) _ _ c.requires.few c.requires.within (Keeps-refl _)
+returns-in_default-clause-span g c = no-round g.O.Offers.blocks c.args.script.now c.args.from c.args.count (ground_view g.O.Offers.blocks c.args.ground) _ _ c.requires.few c.requires.within (keeps-same _)
 
 pub new-requires-clause-few : goal.new-requires-clause-few
 new-requires-clause-few g c =
@@ -21,10 +21,10 @@ new-requires-clause-few g c =
     omega (arith, a, b, d, e)
 
 pub returns-in_default-new-clause-span : goal.returns-in_default-new-clause-span
-returns-in_default-new-clause-span g c = no-round g.O.Offers.blocks c.args.script.now c.args.from c.args.count (ground_view g.O.Offers.blocks c.args.ground) _ _ c.requires.few c.requires.within (Keeps-refl _)
+returns-in_default-new-clause-span g c = no-round g.O.Offers.blocks c.args.script.now c.args.from c.args.count (ground_view g.O.Offers.blocks c.args.ground) _ _ c.requires.few c.requires.within (keeps-same _)
 
 pub returns-in_default-deal-clause-span : goal.returns-in_default-deal-clause-span
-returns-in_default-deal-clause-span g c = no-round g.O.Offers.blocks c.args.script.now c.args.from c.args.count (ground_view g.O.Offers.blocks c.args.ground) _ _ c.requires.few c.requires.within (Keeps-refl _)
+returns-in_default-deal-clause-span g c = no-round g.O.Offers.blocks c.args.script.now c.args.from c.args.count (ground_view g.O.Offers.blocks c.args.ground) _ _ c.requires.few c.requires.within (keeps-same _)
 
 pub play_beside-paused-requires-clause-schemas : goal.play_beside-paused-requires-clause-schemas
 play_beside-paused-requires-clause-schemas g c κs within = c.in-Ok.ensures ∙ (ap (map (λ (s : StateView). s.tree.schema)) c.deref.ensures.value ∙ (sym (schemas-named c.args.ground.carried.states.items) ∙ ap schemas_named c.requires.named))
