@@ -1,5 +1,5 @@
-//! The command: `rmt play` plays a script from standard input, and writes its replies to standard output; `rmt storm SEED N` plays a workload, and
-//! writes a summary of its replies. With `--workers K` both do so among workers.
+//! The command: `rmt play` plays a script from standard input, and writes its replies to standard output; `rmt storm SEED N` plays a
+//! workload, and writes a summary of its replies. With `--workers K` both do so among workers.
 #![tactic(auto)]
 
 use rmt_outside::{Open, StdSink, StdSource};

@@ -118,8 +118,9 @@ fn threaded_status(alloc: Global, end: ThreadedEnd) -> (Status, List<State>)
 }
 
 /// Plays a script among so many workers, 1 to 8, that merge, mutate and fetch while its statements go on, and writes the replies to
-/// `sink`, as `play_stepped` does. What is said of the replies asks that no two blocks of one id that the script brings differ. At code 0 and 2 the tables are handed back, each with its replicas, in the order in which they were created; at code 5
-/// and 6 there are none. It returns once no thread is left. A thread that can't be started is left out.
+/// `sink`, as `play_stepped` does. What is said of the replies asks that no two blocks of one id that the script brings differ. At code
+/// 0 and 2 the tables are handed back, each with its replicas, in the order in which they were created; at code 5 and 6 there are none.
+/// It returns once no thread is left. A thread that can't be started is left out.
 pub fn play_threaded<R: Threads + Wait + Sync, K: Sink, G: Gate + Sync>(
     rt: &R,
     alloc: Global,
